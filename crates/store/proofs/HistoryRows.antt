@@ -12,7 +12,7 @@ use Rattle.addr.specs.Address.{Address}
 use Rattle.addr.specs.Spans.{spans_have}
 use Rattle.addr.proofs.RunLemmas.{maximal_apart}
 use Rattle.charters.specs.declared.charter.Charter.{Charter}
-use Rattle.registry.specs.Answer.{SharesWithNone}
+use Rattle.registry.specs.Answer.{IsMadeIfAny, SharesWithNone}
 use Rattle.registry.specs.declared.authorization.Auth.{Auth}
 use Rattle.registry.specs.declared.command.Command.{Command}
 use Rattle.registry.specs.declared.command.Command.TheVariants.{Grant, Revoke}
@@ -32,8 +32,8 @@ use Rattle.registry.proofs.Names.{held_by_itself, is_held_by-true}
 use Rattle.registry.proofs.Numbers.{Numbered}
 use Rattle.histories.proofs.SharedVrps.{share_vrp-flips}
 use Rattle.tables.specs.TablesHold.{items_if_any}
-use Rattle.loads.specs.Loads.{AreInOrder, auths_held, created_if_any, some_gives}
-use Rattle.store.specs.Laws.{LoadsAmendOfHistories, LoadsCreateOfHistories, LoadsNumberOfHistories, LoadsRowsOfHistories}
+use Rattle.loads.specs.Loads.{AreInOrder, auths_held, created_if_any, made_if_any, some_gives}
+use Rattle.store.specs.Laws.{LoadsAmendOfHistories, LoadsCreateOfHistories, LoadsGrantOfHistories, LoadsNumberOfHistories, LoadsRowsOfHistories}
 
 module _ {X : Type 0} (number : X → ℕ) where
   -- the numbers rise, from above one number up to another
@@ -153,6 +153,16 @@ loads_number have_nothing charter history h n rows loaded legal of are =
       grants = grants_in_order history h (items_if_any (λ r. r.grants) rows) loaded.grants.items held.grants are.grants;
       auth = (auths_held rows, held.auths, are.auth);
     }
+
+made_loaded : (history : History) (h : List ℕ) (rows : Option Rows) (made : Option ℕ) → RowsIfAny history h rows → made ≡ made_if_any rows → IsMadeIfAny history h made
+made_loaded history h None made unregistered is = subst (IsMadeIfAny history h) (sym is) unregistered
+made_loaded history h (Some r) made registered is = subst (IsMadeIfAny history h) (sym is) (registered.0, registered.1.granted)
+
+pub loads_grant : UnregisteredHaveNothing → LoadsGrantOfHistories
+loads_grant have_nothing charter history h rows loaded legal of are = record {
+  grants = grants_in_order history h (items_if_any (λ r. r.grants) rows) loaded.grants.items (is_held have_nothing charter history h rows legal of).grants are.grants;
+  counter = made_loaded history h rows loaded.made of are.made;
+}
 
 -- no more are active than were made
 no_more : (low : ℕ) (xs : List Auth) (high : ℕ) → Numbered low xs high → low + length xs ≤ high

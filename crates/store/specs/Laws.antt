@@ -11,7 +11,7 @@ use Rattle.sqlite.specs.Steps.{over_memory}
 use Rattle.charters.specs.declared.charter.Charter.{Charter}
 use Rattle.registry.specs.declared.authorization.AuthTerms.{AuthTerms}
 use Rattle.registry.specs.declared.rows.HolderRows.{HolderRows}
-use Rattle.registry.specs.Answer.{AnswersAmend, AnswersCreate, AnswersNumber}
+use Rattle.registry.specs.Answer.{AnswersAmend, AnswersCreate, AnswersGrant, AnswersNumber}
 use Rattle.registry.specs.History.{History}
 use Rattle.registry.specs.Rows.{Rows, rows_if_any, RowsIfAny}
 use Rattle.registry.specs.RowsOfAll.{AllRows, HasRows}
@@ -26,8 +26,9 @@ use Rattle.database.specs.OldTablesRead.{OldTablesRead}
 use Rattle.database.specs.TablesRead.{TablesRead}
 use Rattle.loads.specs.declared.answers.ForAmend.{ForAmend}
 use Rattle.loads.specs.declared.answers.ForCreate.{ForCreate}
+use Rattle.loads.specs.declared.answers.ForGrant.{ForGrant}
 use Rattle.loads.specs.declared.load.Numbered.{Numbered}
-use Rattle.loads.specs.Loads.{AreLoaded, AreNumbered, IsForAmend, IsForCreate, AllGiveOn}
+use Rattle.loads.specs.Loads.{AreLoaded, AreNumbered, IsForAmend, IsForCreate, IsForGrant, AllGiveOn}
 use Rattle.store.specs.StoreRows.{AreInRange, StoreView, connection_state, Holds}
 
 -- The rows of a holder after a history, as they are loaded, are its rows after the history.
@@ -44,7 +45,14 @@ LoadsNumberOfHistories =
     → IsLegal charter history → RowsIfAny history h rows → AreNumbered n rows loaded
     → AnswersNumber history h n loaded.grants.items loaded.auth
 
--- So is what is loaded of a holder for a create of the terms, and for an amendment to the maxLengths.
+-- So is what is loaded of a holder for a grant or a revocation, for a create of the terms, and for an amendment to the
+-- maxLengths.
+abbrev pub LoadsGrantOfHistories : Type 0
+LoadsGrantOfHistories =
+    (charter : Charter) (history : History) (h : List ℕ) (rows : Option Rows) (loaded : ForGrant)
+    → IsLegal charter history → RowsIfAny history h rows → IsForGrant rows loaded
+    → AnswersGrant history h loaded.grants.items loaded.made
+
 abbrev pub LoadsCreateOfHistories : Type 0
 LoadsCreateOfHistories =
     (charter : Charter) (history : History) (h : List ℕ) (terms : AuthTerms) (rows : Option Rows) (loaded : ForCreate)

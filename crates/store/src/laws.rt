@@ -2,8 +2,8 @@
 //! laws of `histories` and `tables`.
 ghost use Rattle.store.specs.Laws.{AuthsOfHistoriesGive, FilesOfHistoriesFit, HistoriesRead};
 ghost use Rattle.store.specs.Laws.{LoadsAmendOfHistories, LoadsCreateOfHistories};
-ghost use Rattle.store.specs.Laws.{LoadsNumberOfHistories, LoadsRowsOfHistories};
-ghost use Rattle.store.specs.Laws.{MemoryHoldsRows, MemoryIsHonest};
+ghost use Rattle.store.specs.Laws.{LoadsGrantOfHistories, LoadsNumberOfHistories};
+ghost use Rattle.store.specs.Laws.{LoadsRowsOfHistories, MemoryHoldsRows, MemoryIsHonest};
 ghost use Rattle.store.specs.Laws.{MemoryStaysOpen, OldHistoriesRead, OldTablesThatReadAreOurs};
 ghost use Rattle.store.specs.Laws.{RowsInRangeGive, RowsOfHistoriesFit, RowsThatReadFit};
 ghost use Rattle.store.specs.Laws.{TablesThatReadAreOurs};
@@ -23,8 +23,15 @@ pub fn number_of_a_history()
     registry::laws::unregistered_have_nothing();
 }
 
-/// Where the tables hold the rows of a legal history, what is loaded of a holder for a create is
-/// what the rules ask of that history.
+/// Where the tables hold the rows of a legal history, what is loaded of a holder for a grant or a
+/// revocation is what the rules ask of that history.
+pub fn grant_of_a_history()
+    ensures { LoadsGrantOfHistories }
+{
+    registry::laws::unregistered_have_nothing();
+}
+
+/// So is what is loaded of a holder for a create.
 pub fn create_of_a_history()
     ensures { LoadsCreateOfHistories }
 {

@@ -5,5 +5,5 @@ pub mod laws;
 mod store;
 
 pub use database::StoreFault;
-pub use loads::{ForAmend, ForCreate, Numbered};
+pub use loads::{ForAmend, ForCreate, ForGrant, Numbered};
 pub use store::Store;

@@ -14,8 +14,8 @@ use addr::{Day, Name, Prefix, Vrp};
 use database::{StoreFault, make_tables, open_tables};
 use edits::make_change;
 use loads::{
-    ForAmend, ForCreate, Numbered, load_files, load_for_amend, load_for_create, load_numbered,
-    load_rows, load_vrps, some_overlap,
+    ForAmend, ForCreate, ForGrant, Numbered, load_files, load_for_amend, load_for_create,
+    load_for_grant, load_numbered, load_rows, load_vrps, some_overlap,
 };
 use registry::{AuthTerms, Change, Charter, HolderRows};
 use slurm::Slurm;
@@ -148,8 +148,8 @@ impl<S: Alter> Store<S> {
     ghost use Rattle.registry.specs.RowsOfAll.{IsTaken, IsGivenOn};
     ghost use Rattle.registry.specs.Values.{FitIfAny, FilesFit};
     ghost use Rattle.store.specs.Given.{GivenOnce};
-    ghost use Rattle.loads.specs.Loads.{AreLoaded, AreNumbered, IsForAmend, IsForCreate};
-    ghost use Rattle.loads.specs.Loads.{AllGiveOn, AreFilesOf};
+    ghost use Rattle.loads.specs.Loads.{AllGiveOn, AreFilesOf, AreLoaded, AreNumbered};
+    ghost use Rattle.loads.specs.Loads.{IsForAmend, IsForCreate, IsForGrant};
     ghost use Rattle.store.specs.StoreRows.{connection_state, Holds, IsRead, OfHeldRows};
     ghost use Rattle.making.specs.Databases.{IsDeskWhileOpen};
     ghost use Rattle.store.specs.StoreRows.{IfClean, HoldsAfter, MayLeave, LeavesOnly};
@@ -193,6 +193,17 @@ impl<S: Alter> Store<S> {
             → OfHeldRows S.Store self.old (λ rows. ¬ FitIfAny (rows.of_holder holder.now))) }
     {
         load_numbered(&mut self.conn, alloc, holder, number)
+    }
+
+    /// What a grant or a revocation at the holder is judged on.
+    pub fn load_for_grant(&mut self, alloc: Global, holder: &Name) -> Result<ForGrant, StoreFault>
+        ensures read { IsRead S.Store self.old self.new }
+        ensures found { IfClean S.Store self.new (IfOk result (λ loaded.
+            OfHeldRows S.Store self.old (λ rows. IsForGrant (rows.of_holder holder.now) loaded))) }
+        ensures schema { IfClean S.Store self.new (result ≡ Err StoreFault.Schema
+            → OfHeldRows S.Store self.old (λ rows. ¬ FitIfAny (rows.of_holder holder.now))) }
+    {
+        load_for_grant(&mut self.conn, alloc, holder)
     }
 
     /// What a create of the terms at the holder is judged on.
