@@ -1,14 +1,12 @@
 //! Commands that are judged on what their rules ask of the holder, which is read by key.
-ghost use Rattle.std.specs.Prelude.{◌≡◌, ℕ, false, option_to_list, IfOk, IfErr, MatchResult};
+ghost use Rattle.std.specs.Prelude.{◌≡◌, ℕ, option_to_list, IfOk};
 ghost use Rattle.std.specs.Global.{Vec};
-ghost use Rattle.registry.specs.Answer.{AnswersAmend, AnswersCreate, IsAccepted};
-ghost use Rattle.registry.specs.Edits.{HasEditsOf};
+ghost use Rattle.registry.specs.Answer.{AnswersAmend, AnswersCreate};
 ghost use Rattle.registry.specs.declared.command.Command.{Command};
 ghost use Rattle.loads.specs.Loads.{IsForAmend, IsForCreate};
 ghost use Rattle.store.specs.StoreRows.{IfClean, IsRead, OfHeldRows};
-ghost use Rattle.desk.specs.Answer.{is_accepted, AnswersCommand};
-ghost use Rattle.desk.specs.Desk.{charter_of, OfRows};
-ghost use Rattle.desk.specs.steps.Following.{AreEnoughFor};
+ghost use Rattle.desk.specs.Desk.{OfRows};
+ghost use Rattle.desk.specs.steps.Deciding.{Decides};
 
 use super::Desk;
 use super::following::Decided;
@@ -41,17 +39,8 @@ impl<S: Alter> Desk<S> {
     ) -> Result<Decided, Reply>
         ensures read { IsRead S.Store self.old.store self.new.store }
         ensures same { self.new.kept ≡ self.old.kept }
-        ensures shape { IfOk result (λ decided.
-            HasEditsOf (Command.Withdraw holder.now number) decided.change) }
-        ensures enough { IfClean S.Store self.new.store (IfOk result (λ decided.
-            OfHeldRows S.Store self.old.store
-            (AreEnoughFor decided.change decided.first decided.second))) }
-        ensures answer { OfRows S.Store self.old self.new (λ history. MatchResult result
-            (λ decided. IsAccepted (charter_of self.old) history day caller.now
-            (Command.Withdraw holder.now number) decided.change)
-            (λ reply. AnswersCommand (charter_of self.old) history day caller.now
-            (Command.Withdraw holder.now number) reply history)) }
-        ensures never_done { IfErr result (λ reply. is_accepted reply ≡ false) }
+        ensures decides { Decides S.Store day caller.now (Command.Withdraw holder.now number)
+            self.old self.new result }
     {
         let loaded = self.load_numbered(holder, number)?;
         let auth = loaded.auth.as_ref();
@@ -74,17 +63,8 @@ impl<S: Alter> Desk<S> {
     ) -> Result<Decided, Reply>
         ensures read { IsRead S.Store self.old.store self.new.store }
         ensures same { self.new.kept ≡ self.old.kept }
-        ensures shape { IfOk result (λ decided.
-            HasEditsOf (Command.Create holder.now terms.now) decided.change) }
-        ensures enough { IfClean S.Store self.new.store (IfOk result (λ decided.
-            OfHeldRows S.Store self.old.store
-            (AreEnoughFor decided.change decided.first decided.second))) }
-        ensures answer { OfRows S.Store self.old self.new (λ history. MatchResult result
-            (λ decided. IsAccepted (charter_of self.old) history day caller.now
-            (Command.Create holder.now terms.now) decided.change)
-            (λ reply. AnswersCommand (charter_of self.old) history day caller.now
-            (Command.Create holder.now terms.now) reply history)) }
-        ensures never_done { IfErr result (λ reply. is_accepted reply ≡ false) }
+        ensures decides { Decides S.Store day caller.now (Command.Create holder.now terms.now)
+            self.old self.new result }
     {
         // For the proof alone: there is an entry, so where the terms are held there are rows.
         let _entries = terms.entries.as_slice();
@@ -111,18 +91,9 @@ impl<S: Alter> Desk<S> {
     ) -> Result<Decided, Reply>
         ensures read { IsRead S.Store self.old.store self.new.store }
         ensures same { self.new.kept ≡ self.old.kept }
-        ensures shape { (asked : Vec ℕ) → IfOk result (λ decided. HasEditsOf
-            (Command.Amend holder.now number asked until) decided.change) }
-        ensures enough { IfClean S.Store self.new.store (IfOk result (λ decided.
-            OfHeldRows S.Store self.old.store
-            (AreEnoughFor decided.change decided.first decided.second))) }
-        ensures answer { (asked : Vec ℕ) → asked.items ≡ maxes.now
-            → OfRows S.Store self.old self.new (λ history. MatchResult result
-            (λ decided. IsAccepted (charter_of self.old) history day caller.now
-            (Command.Amend holder.now number asked until) decided.change)
-            (λ reply. AnswersCommand (charter_of self.old) history day caller.now
-            (Command.Amend holder.now number asked until) reply history)) }
-        ensures never_done { IfErr result (λ reply. is_accepted reply ≡ false) }
+        ensures decides { (asked : Vec ℕ) → asked.items ≡ maxes.now
+            → Decides S.Store day caller.now (Command.Amend holder.now number asked until)
+            self.old self.new result }
     {
         let loaded = self.load_for_amend(holder, number, maxes)?;
         let is_shared = loaded.is_shared;

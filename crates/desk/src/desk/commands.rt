@@ -1,18 +1,17 @@
 //! Commands: judged on the rows, then made.
-ghost use Rattle.std.specs.Prelude.{◌≡◌, true, false, option_copied, option_map, IfOk, IfErr, IfSome, MatchResult};
-ghost use Rattle.registry.specs.Answer.{holder_of, IsAccepted, IsViewOf, RowsOfNamed, ReportsTaken};
-ghost use Rattle.registry.specs.Edits.{HasEditsOf};
+ghost use Rattle.std.specs.Prelude.{◌≡◌, true, false, option_copied, option_map, IfOk, IfSome};
+ghost use Rattle.registry.specs.Answer.{holder_of, IsViewOf, RowsOfNamed, ReportsTaken};
 ghost use Rattle.registry.specs.Rows.{rows_if_any, RowsIfAny};
 ghost use Rattle.loads.specs.Loads.{AreLoaded};
 ghost use Rattle.store.specs.StoreRows.{IfClean, IsRead, OfHeldRows};
-ghost use Rattle.desk.specs.Answer.{is_accepted, only_reads, AnswersCommand};
+ghost use Rattle.desk.specs.Answer.{is_accepted, only_reads};
 ghost use Rattle.desk.specs.CrashOutcomes.{asked_on, IsKept, StaysOpen};
 ghost use Rattle.desk.specs.DayAfter.{DayAfter};
 ghost use Rattle.desk.specs.Prepared.{day_of};
 ghost use Rattle.desk.specs.Desk.{charter_of, IsOnCleanDisk, KeepsRows, OfHistories, OfRows};
 ghost use Rattle.desk.specs.HolderAnswers.{may_change, may_except, KeepsOthers};
 ghost use Rattle.desk.specs.steps.Accepting.{AnswersAccepted};
-ghost use Rattle.desk.specs.steps.Following.{AreEnoughFor};
+ghost use Rattle.desk.specs.steps.Deciding.{Decides};
 
 use super::Desk;
 use super::following::{Decided, follow};
@@ -93,16 +92,7 @@ impl<S: Alter> Desk<S> {
     fn decide(&mut self, day: Day, caller: &Name, command: &Command) -> Result<Decided, Reply>
         ensures read { IsRead S.Store self.old.store self.new.store }
         ensures same { self.new.kept ≡ self.old.kept }
-        ensures shape { IfOk result (λ decided. HasEditsOf command.now decided.change) }
-        ensures enough { IfClean S.Store self.new.store (IfOk result (λ decided.
-            OfHeldRows S.Store self.old.store
-            (AreEnoughFor decided.change decided.first decided.second))) }
-        ensures answer { OfRows S.Store self.old self.new (λ history. MatchResult result
-            (λ decided. IsAccepted (charter_of self.old) history day caller.now command.now
-            decided.change)
-            (λ reply. AnswersCommand (charter_of self.old) history day caller.now command.now
-            reply history)) }
-        ensures never_done { IfErr result (λ reply. is_accepted reply ≡ false) }
+        ensures decides { Decides S.Store day caller.now command.now self.old self.new result }
     {
         match command {
             Command::Transfer { giver, taker, .. } => {

@@ -14,7 +14,7 @@ use Rattle.desk.proofs.desk.Desk.carry_out.Goals as goal
 pub returns-in-Err-clause-left : goal.returns-in-Err-clause-left
 returns-in-Err-clause-left g c clean history legal held =
     read_kept g.S.Store history (asked_on c.args.day c.args.caller.now (CommandRequest c.args.command.now)) c.in-Err.refused c.args.self.now c.decide.new.self
-    c.in-Err.ensures.never_done c.in-Err.ensures.read clean legal (c.in-Err.ensures.answer clean history legal (held.0, held.1, held.2))
+    c.in-Err.ensures.decides.never_done c.in-Err.ensures.read clean legal (c.in-Err.ensures.decides.answer clean history legal (held.0, held.1, held.2))
     (held_read g.S.Store c.args.self.now c.decide.new.self c.keeps_its_rows.ensures c.in-Err.ensures.read c.in-Err.ensures.same clean history legal held)
 
 pub returns-in-Err-clause-others : goal.returns-in-Err-clause-others
@@ -27,8 +27,8 @@ invariant_of-self g c =
     let same : c.self.inside.kept ≡ c.args.self.now.kept = ap (λ (d : Desk _). d.kept) c.self.view_is ∙ c.in-Ok.ensures.same in
     kept_followed g.S.Store c.args.self.now.store c.self.inside.store c.apply.new.self c.args.self.now.kept c.follow.new.kept decided.change decided.first decided.second
     c.keeps_its_rows.ensures (rw (← c.self.view_is) at c.in-Ok.ensures.read) c.in-Ok-apply.ensures.clean c.in-Ok-apply.ensures.ok
-    (rw (← c.self.view_is) at c.in-Ok.ensures.enough) c.in-Ok-apply.ensures.once
-    (rw same at (c.follow.ensures.follows (apart_by c.args.command.now decided.change c.in-Ok.ensures.shape)))
+    (rw (← c.self.view_is) at c.in-Ok.ensures.decides.enough) c.in-Ok-apply.ensures.once
+    (rw same at (c.follow.ensures.follows (apart_by c.args.command.now decided.change c.in-Ok.ensures.decides.shape)))
 
 pub returns-in-Ok-apply-clause-left : goal.returns-in-Ok-apply-clause-left
 returns-in-Ok-apply-clause-left g c clean history legal held =
@@ -38,7 +38,7 @@ returns-in-Ok-apply-clause-left g c clean history legal held =
     let read = rw (← c.self.view_is) at c.in-Ok.ensures.read in
     accepted_kept g.S.Store c.growth_is_legal.ensures c.growth_fits.ensures history c.args.day c.args.caller.now c.args.command.now c.in-Ok.decided.change c.accepted-reply.result
     old mid (record { store = c.apply.new.self; kept = c.follow.new.kept }) c.entry_fits.ensures read legal
-    (still_held g.S.Store old mid history read.rows before (held.0, held.1, held.2)) ((rw (← c.self.view_is) at c.in-Ok.ensures.answer) before history legal (held.0, held.1, held.2))
+    (still_held g.S.Store old mid history read.rows before (held.0, held.1, held.2)) ((rw (← c.self.view_is) at c.in-Ok.ensures.decides.answer) before history legal (held.0, held.1, held.2))
     c.accepted-reply.ensures.answers (c.in-Ok-apply.ensures.ok clean) (c.in-Ok-apply.ensures.left clean) clean c.in-Ok-apply.ensures.is_open
 
 pub returns-in-Ok-apply-clause-read : goal.returns-in-Ok-apply-clause-read
@@ -48,7 +48,7 @@ returns-in-Ok-apply-clause-read g c reads =
 pub returns-in-Ok-apply-clause-kept_day : goal.returns-in-Ok-apply-clause-kept_day
 returns-in-Ok-apply-clause-kept_day g c =
     let same : c.self.inside.kept ≡ c.args.self.now.kept = ap (λ (d : Desk _). d.kept) c.self.view_is ∙ c.in-Ok.ensures.same in (
-      λ _. day_by c.args.command.now c.in-Ok.decided.change (day_of c.args.self.now.kept) (day_of c.follow.new.kept) c.in-Ok.ensures.shape (rw same at c.follow.ensures.day),
+      λ _. day_by c.args.command.now c.in-Ok.decided.change (day_of c.args.self.now.kept) (day_of c.follow.new.kept) c.in-Ok.ensures.decides.shape (rw same at c.follow.ensures.day),
       λ not. absurd (true≢false (sym c.accepted-reply.ensures.accepted ∙ not)),
     )
 
@@ -58,7 +58,7 @@ returns-in-Ok-apply-clause-others g c clean history legal held =
     let before = c.in-Ok-apply.ensures.clean clean in
     let read = rw (← c.self.view_is) at c.in-Ok.ensures.read in
     changed_kept g.S.Store c.args.command.now c.in-Ok.decided.change c.args.self.now mid (record { store = c.apply.new.self; kept = c.follow.new.kept })
-    ((rw (← c.self.view_is) at c.in-Ok.ensures.answer) before history legal (held.0, held.1, held.2)).of_command read.rows before (c.in-Ok-apply.ensures.ok clean)
+    ((rw (← c.self.view_is) at c.in-Ok.ensures.decides.answer) before history legal (held.0, held.1, held.2)).of_command read.rows before (c.in-Ok-apply.ensures.ok clean)
 
 pub invariant_of-self-in-Err-apply : goal.invariant_of-self-in-Err-apply
 invariant_of-self-in-Err-apply g c = kept_where g.S.Store c.self.inside.store c.apply.new.self c.self.inside.kept c.self.invariant c.in-Err-apply.ensures.clean c.in-Err-apply.ensures.err
@@ -79,7 +79,7 @@ returns-clause-left g c clean history legal held =
     failed_kept g.S.Store history c.args.day c.args.caller.now c.args.command.now c.in-Ok.decided.change c.accepted-reply.result old mid new
     read before legal (still_held g.S.Store old mid history read.rows before (held.0, held.1, held.2))
     (held_where g.S.Store old new c.keeps_its_rows.ensures (λ is. read.clean (c.in-Err-apply.ensures.clean is)) (returns-clause-kept g c refl) same clean history legal held)
-    ((rw (← c.self.view_is) at c.in-Ok.ensures.answer) before history legal (held.0, held.1, held.2)) c.accepted-reply.ensures.answers c.accepted-reply.ensures.accepted
+    ((rw (← c.self.view_is) at c.in-Ok.ensures.decides.answer) before history legal (held.0, held.1, held.2)) c.accepted-reply.ensures.answers c.accepted-reply.ensures.accepted
     (c.in-Err-apply.ensures.crash clean)
 
 pub returns-clause-others : goal.returns-clause-others
