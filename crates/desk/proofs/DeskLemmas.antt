@@ -1,5 +1,5 @@
 -- What the rows of a legal history say of it.
-use Rattle.std.proofs.Common.{◌≡◌, ℕ, Bool, true, false, ◌↔◌, IsTrue, List, Option, Some, None, refl, sym, ap, ◌∙◌, subst, arith, length, ◌-◌, MatchBool, Result, Ok, Err, IfOk}
+use Rattle.std.proofs.Common.{◌≡◌, ℕ, Bool, true, false, ◌↔◌, IsTrue, List, Option, Some, None, refl, sym, ap, ◌∙◌, subst, arith, length, ◌-◌, MatchBool, Result, Ok, Err, IfOk, IsErrAnd}
 use Rattle.std.specs.Global.{Vec}
 use Rattle.std.proofs.lemmas.Bool.{false≢true, true≢false}
 use Rattle.addr.specs.Address.{Address}
@@ -16,9 +16,10 @@ use Rattle.registry.specs.declared.asked.Request.TheVariants.{Command as Command
 use Rattle.desk.specs.declared.reply.Reply.{Reply}
 use Rattle.desk.specs.declared.reply.Reply.TheVariants.{Denied as DeniedReply, Done, Imported, Unavailable}
 use Rattle.desk.specs.declared.desk.Desk.{Desk}
+use Rattle.desk.specs.declared.desk.following.Decided.{Decided}
 use Rattle.desk.specs.Desk.{charter_of, HoldsRowsOf, IsOnCleanDisk, KeepsRows, OfHistories, OfRows}
 use Rattle.desk.specs.HolderAnswers.{may_change, may_except, KeepsOthers}
-use Rattle.desk.specs.steps.Accepting.{AnswersAccepted}
+use Rattle.desk.specs.steps.Accepting.{AnswersAccepted, Decides}
 use Rattle.sqlite.specs.Store.{Ghosts}
 use Rattle.store.specs.StoreRows.{StoreView, IsRead, IfClean, HoldsAfter, OfHeldRows}
 use Rattle.registry.specs.declared.authorization.ImportRow.{ImportRow}
@@ -118,9 +119,24 @@ module _ {S : Type 0} (g : Ghosts S) where
 
 -- ---- refusals
 
-pub refused_answers : (charter : Charter) (history : History) (day : ℕ) (caller : List ℕ) (command : Command) (refusal : Refusal) → IsAnswer charter history day caller command (Err refusal) → AnswersCommand charter history day caller command (refused_with refusal) history
+refused_answers : (charter : Charter) (history : History) (day : ℕ) (caller : List ℕ) (command : Command) (refusal : Refusal) → IsAnswer charter history day caller command (Err refusal) → AnswersCommand charter history day caller command (refused_with refusal) history
 refused_answers charter history day caller command (Denied rule row) answer = (answer, refl)
 refused_answers charter history day caller command Memory answer = refl
+
+never_accepted : (refusal : Refusal) → is_accepted (refused_with refusal) ≡ false
+never_accepted (Denied rule row) = refl
+never_accepted Memory = refl
+
+module _ {S : Type 0} (g : Ghosts S) (day : ℕ) (caller : List ℕ) (command : Command) (old new : Desk S) where
+  pub refuses : (refusal : Refusal) (r : Result Decided Reply) → IsErrAnd r (λ reply. reply ≡ refused_with refusal)
+      → OfRows g old new (λ history. IsAnswer (charter_of old) history day caller command (Err refusal)) → Decides g day caller command old new r
+  refuses refusal (Ok decided) none answer = absurd none
+  refuses refusal (Err reply) is answer = rw is (record {
+    shape = tt;
+    enough = λ clean. tt;
+    answer = λ clean history legal held. refused_answers (charter_of old) history day caller command refusal (answer clean history legal held);
+    never_done = never_accepted refusal;
+  })
 
 pub list_refused : (history : History) (h : List ℕ) (day : ℕ) (caller : List ℕ) (refusal : Refusal) → IsListRefusal history h day caller refusal → AnswersList history h day caller (refused_with refusal)
 list_refused history h day caller (Denied rule row) refused = refused

@@ -10,14 +10,14 @@ use Rattle.kept.proofs.DayLemmas.{has_same}
 use Rattle.kept.proofs.Edits.{rows_stay}
 use Rattle.kept.proofs.ExceptionLemmas.{after_alike}
 use Rattle.kept.proofs.Follows.{follow_keeps, none_given, none_joined}
-use Rattle.kept.proofs.Members.{at_head, in_filter}
+use Rattle.kept.proofs.Members.{at_head, in_filter, none_in_nil}
 use Rattle.kept.specs.Changes.{AreJoined, IsSpared, IsWithSame}
 use Rattle.kept.specs.Days.{IsDayOfRows}
 use Rattle.kept.specs.KeptDay.{exceptions_of, KeptDay}
 use Rattle.addr.specs.declared.prefix.Prefix.{Prefix}
 use Rattle.registry.specs.Answer.{holder_of, is_transfer}
 use Rattle.payload.specs.VrpSet as set
-use Rattle.registry.specs.Edits.{begun, ended, HasEditsOf, IsEditOf, IsHold, IsHoldEndingNone}
+use Rattle.registry.specs.Edits.{begun, ended, ends, HasEditsOf, IsEditOf, IsHold, IsHoldEndingNone}
 use Rattle.registry.specs.Rows.{Rows}
 use Rattle.registry.specs.RowsOfAll.{AllRows, IsGivenOn, changed_rows}
 use Rattle.registry.specs.declared.authorization.Auth.{Auth}
@@ -29,10 +29,12 @@ use Rattle.tables.specs.TablesHold.{items_if_any}
 use Rattle.registry.specs.declared.change.Change.{Change}
 use Rattle.registry.specs.declared.change.Change.TheVariants.{Holders, Exceptions}
 use Rattle.registry.specs.declared.change.Edit.{Edit}
-use Rattle.registry.specs.declared.change.Edit.TheVariants.{Hold, Grant as GrantEdit, Create as CreateEdit, Amend as AmendEdit, Withdraw as WithdrawEdit}
+use Rattle.registry.specs.declared.change.Edit.TheVariants.{Hold, Grant as GrantEdit, Create as CreateEdit, Amend as AmendEdit, Revoke as RevokeEdit, Withdraw as WithdrawEdit}
 use Rattle.registry.specs.declared.command.Command.{Command}
 use Rattle.registry.specs.declared.command.Command.TheVariants.{Register, Delegate, Transfer, Reclaim, Grant, Revoke, Create, Amend, Withdraw, Import, Slurm as SlurmCommand}
 use Rattle.registry.specs.declared.change.HolderChange.{HolderChange}
+use Rattle.registry.specs.declared.grant.Role.{Role}
+use Rattle.registry.specs.declared.grant.Scope.{Scope}
 use Rattle.registry.specs.declared.rows.HolderRows.{HolderRows}
 use Rattle.slurm.specs.SlurmSets.{union}
 use Rattle.store.specs.Given.{GivenOnce}
@@ -180,6 +182,31 @@ enough_to_create h terms (Holders first None) none rows edits empty number held 
     (created_enough h terms first.edit (rows.of_holder h) terms.entries edits.1 number held))
 enough_to_create h terms (Holders first (Some second)) none rows edits empty number held = absurd edits
 enough_to_create h terms (Exceptions files) none rows edits empty number held = absurd edits
+
+-- an edit that neither ends nor begins an authorization is followed by none
+kept_by_none : (edit : Edit) (was : Option (List Auth)) → ((n : ℕ) → ends edit n ≡ false) → ((xs : List Auth) → begun edit xs ≡ []) → AreEnough edit was (Some [])
+kept_by_none edit None ends_none begins_none = (λ x. (λ is. is, λ is. is), λ x. rw (begins_none []) (λ is. is, λ is. is))
+kept_by_none edit (Some xs) ends_none begins_none = (
+  λ x. (λ there. absurd (true≢false (sym ((in_filter (λ (y : Auth). ends edit y.number) xs x).0 there).1 ∙ ends_none x.number)), λ none. absurd (none_in_nil x none)),
+  λ x. rw (begins_none xs, begins_none []) (λ is. is, λ is. is),
+)
+
+pub enough_to_grant : (h name : List ℕ) (role : Role) (scope : Scope) (until : ℕ) (change : Change) (none : Vec Auth) (rows : AllRows)
+    → HasEditsOf (Grant h name role scope until) change → none.items ≡ [] → AreEnoughFor change (Some none) None rows
+enough_to_grant h name role scope until (Holders first None) none rows edits empty = rw empty (of first.edit edits.1)
+  where
+    of : (edit : Edit) → IsEditOf (Grant h name role scope until) edit → AreEnough edit (auths_of rows first.holder) (Some [])
+    of (GrantEdit g) is = kept_by_none (GrantEdit g) (auths_of rows first.holder) (λ n. refl) (λ xs. refl)
+    of other is = absurd is
+enough_to_grant h name role scope until (Holders first (Some second)) none rows edits empty = absurd edits
+enough_to_grant h name role scope until (Exceptions files) none rows edits empty = absurd edits
+
+pub enough_to_revoke : (h : List ℕ) (n : ℕ) (change : Change) (none : Vec Auth) (rows : AllRows) → HasEditsOf (Revoke h n) change → none.items ≡ []
+    → AreEnoughFor change (Some none) None rows
+enough_to_revoke h n (Holders first None) none rows edits empty =
+    rw (empty, edits.1) (kept_by_none (RevokeEdit n) (auths_of rows first.holder) (λ m. refl) (λ xs. refl))
+enough_to_revoke h n (Holders first (Some second)) none rows edits empty = absurd edits
+enough_to_revoke h n (Exceptions files) none rows edits empty = absurd edits
 
 -- an edit of a command that makes no authorization begins none
 begins_no : (command : Command) (edit : Edit) → IsEditOf command edit → makes_auths command ≡ false → begins_some edit ≡ false

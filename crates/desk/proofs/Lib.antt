@@ -12,5 +12,4 @@ pub mod ExportLemmas
 pub mod GivenEdits
 pub mod FollowLemmas
 pub mod ExchangeLemmas
-pub mod DecidingLemmas
 pub mod DayLemmas

@@ -1,6 +1,5 @@
 -- Steps of the code, which no public contract cites.
 pub mod Accepting
-pub mod Deciding
 pub mod EditsGiven
 pub mod Following
 pub mod WhatIf

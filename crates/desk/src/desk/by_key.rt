@@ -1,22 +1,19 @@
 //! Commands that are judged on what their rules ask of the holder, which is read by key.
 ghost use Rattle.std.specs.Prelude.{◌≡◌, ℕ, option_to_list, IfOk};
 ghost use Rattle.std.specs.Global.{Vec};
-ghost use Rattle.registry.specs.Answer.{AnswersAmend, AnswersCreate};
 ghost use Rattle.registry.specs.declared.command.Command.{Command};
-ghost use Rattle.loads.specs.Loads.{IsForAmend, IsForCreate};
-ghost use Rattle.store.specs.StoreRows.{IfClean, IsRead, OfHeldRows};
-ghost use Rattle.desk.specs.Desk.{OfRows};
-ghost use Rattle.desk.specs.steps.Deciding.{Decides};
+ghost use Rattle.store.specs.StoreRows.{IsRead};
+ghost use Rattle.desk.specs.steps.Accepting.{Decides};
 
 use super::Desk;
 use super::following::Decided;
 use crate::Reply;
 use addr::{Day, Name};
-use policy::Amendment;
+use policy::{Amendment, GrantTerms};
 use registry::{Auth, AuthTerms};
 use sqlite::Alter;
 use std::alloc::{AllocError, Global};
-use store::{ForAmend, ForCreate, StoreFault};
+use store::{ForCreate, ForGrant};
 
 /// The authorization alone, where there is one.
 fn listed(alloc: Global, auth: Option<Auth>) -> Result<Vec<Auth>, AllocError>
@@ -29,6 +26,58 @@ fn listed(alloc: Global, auth: Option<Auth>) -> Result<Vec<Auth>, AllocError>
 }
 
 impl<S: Alter> Desk<S> {
+    /// What a grant does, judged on the grants and on how many were made. It ends nothing.
+    pub(super) fn grant(
+        &mut self,
+        day: Day,
+        caller: &Name,
+        holder: &Name,
+        terms: &GrantTerms,
+    ) -> Result<Decided, Reply>
+        ensures read { IsRead S.Store self.old.store self.new.store }
+        ensures same { self.new.kept ≡ self.old.kept }
+        ensures decides { Decides S.Store day caller.now (Command.Grant holder.now
+            terms.now.caller terms.now.role terms.now.scope terms.now.until)
+            self.old self.new result }
+    {
+        store::laws::grant_of_a_history();
+        let alloc = self.alloc;
+        let loaded = self.store.load_for_grant(alloc, holder)?;
+        let ForGrant { grants, made } = &loaded;
+        let charter = self.store.charter();
+        let change = policy::grant_counted(charter, holder, grants, *made, day, caller, terms)?;
+        Ok(Decided {
+            change,
+            first: Some(Vec::new(alloc)),
+            second: None,
+        })
+    }
+
+    /// What a revocation does, judged on the grants. It ends no authorization.
+    pub(super) fn revoke(
+        &mut self,
+        day: Day,
+        caller: &Name,
+        holder: &Name,
+        number: u32,
+    ) -> Result<Decided, Reply>
+        ensures read { IsRead S.Store self.old.store self.new.store }
+        ensures same { self.new.kept ≡ self.old.kept }
+        ensures decides { Decides S.Store day caller.now (Command.Revoke holder.now number)
+            self.old self.new result }
+    {
+        store::laws::grant_of_a_history();
+        let alloc = self.alloc;
+        let grants = self.store.load_for_grant(alloc, holder)?.grants;
+        let charter = self.store.charter();
+        let change = policy::revoke_among(charter, holder, &grants, day, caller, number)?;
+        Ok(Decided {
+            change,
+            first: Some(Vec::new(alloc)),
+            second: None,
+        })
+    }
+
     /// What a withdrawal does, judged on the grants and on the authorization of the number.
     pub(super) fn withdraw(
         &mut self,
@@ -68,7 +117,8 @@ impl<S: Alter> Desk<S> {
     {
         // For the proof alone: there is an entry, so where the terms are held there are rows.
         let _entries = terms.entries.as_slice();
-        let loaded = self.load_for_create(holder, terms)?;
+        store::laws::create_of_a_history();
+        let loaded = self.store.load_for_create(self.alloc, holder, terms)?;
         let ForCreate { grants, answers } = &loaded;
         let change = policy::create_answered(holder, grants, *answers, day, caller, terms)?;
         Ok(Decided {
@@ -95,7 +145,10 @@ impl<S: Alter> Desk<S> {
             → Decides S.Store day caller.now (Command.Amend holder.now number asked until)
             self.old self.new result }
     {
-        let loaded = self.load_for_amend(holder, number, maxes)?;
+        store::laws::amend_of_a_history();
+        let loaded = self
+            .store
+            .load_for_amend(self.alloc, holder, number, maxes)?;
         let is_shared = loaded.is_shared;
         let numbered = loaded.numbered;
         let auth = numbered.auth.as_ref();
@@ -114,39 +167,5 @@ impl<S: Alter> Desk<S> {
             first: Some(auths),
             second: None,
         })
-    }
-
-    /// What a create of the terms at the holder is judged on.
-    fn load_for_create(&mut self, holder: &Name, terms: &AuthTerms) -> Result<ForCreate, StoreFault>
-        ensures read { IsRead S.Store self.old.store self.new.store }
-        ensures same { self.new.kept ≡ self.old.kept }
-        ensures rows { IfOk result (λ loaded. OfRows S.Store self.old self.new (λ history.
-            AnswersCreate history holder.now terms.now loaded.grants.items loaded.answers)) }
-        ensures loaded { IfClean S.Store self.new.store (IfOk result (λ loaded.
-            OfHeldRows S.Store self.old.store
-            (λ rows. IsForCreate terms.now (rows.of_holder holder.now) loaded))) }
-    {
-        store::laws::create_of_a_history();
-        self.store.load_for_create(self.alloc, holder, terms)
-    }
-
-    /// What an amendment of the authorization that has the number is judged on.
-    fn load_for_amend(
-        &mut self,
-        holder: &Name,
-        number: u32,
-        maxes: &[u8],
-    ) -> Result<ForAmend, StoreFault>
-        ensures read { IsRead S.Store self.old.store self.new.store }
-        ensures same { self.new.kept ≡ self.old.kept }
-        ensures rows { IfOk result (λ loaded. OfRows S.Store self.old self.new (λ history.
-            AnswersAmend history holder.now number maxes.now loaded.numbered.grants.items
-            loaded.numbered.auth loaded.is_shared)) }
-        ensures loaded { IfClean S.Store self.new.store (IfOk result (λ loaded.
-            OfHeldRows S.Store self.old.store
-            (λ rows. IsForAmend number maxes.now (rows.of_holder holder.now) loaded))) }
-    {
-        store::laws::amend_of_a_history();
-        self.store.load_for_amend(self.alloc, holder, number, maxes)
     }
 }

@@ -10,13 +10,13 @@ ghost use Rattle.desk.specs.DayAfter.{DayAfter};
 ghost use Rattle.desk.specs.Prepared.{day_of};
 ghost use Rattle.desk.specs.Desk.{charter_of, IsOnCleanDisk, KeepsRows, OfHistories, OfRows};
 ghost use Rattle.desk.specs.HolderAnswers.{may_change, may_except, KeepsOthers};
-ghost use Rattle.desk.specs.steps.Accepting.{AnswersAccepted};
-ghost use Rattle.desk.specs.steps.Deciding.{Decides};
+ghost use Rattle.desk.specs.steps.Accepting.{AnswersAccepted, Decides};
 
 use super::Desk;
 use super::following::{Decided, follow};
 use crate::{Reply, Request};
 use addr::{Day, Name};
+use policy::GrantTerms;
 use registry::{Auth, Change, Command, HolderRows, View};
 use sqlite::Alter;
 use store::StoreFault;
@@ -112,6 +112,22 @@ impl<S: Alter> Desk<S> {
                     second: auths_of(second),
                 })
             }
+            Command::Grant {
+                holder,
+                name,
+                role,
+                scope,
+                until,
+            } => {
+                let terms = GrantTerms {
+                    caller: *name,
+                    role: *role,
+                    scope: *scope,
+                    until: *until,
+                };
+                self.grant(day, caller, holder, &terms)
+            }
+            Command::Revoke { holder, number } => self.revoke(day, caller, holder, *number),
             Command::Withdraw { holder, number } => self.withdraw(day, caller, holder, *number),
             Command::Create { holder, terms } => self.create(day, caller, holder, terms),
             Command::Amend {

@@ -2,7 +2,7 @@ use Rattle.std.proofs.Common.{◌≡◌, rules, ap, ◌∙◌, Err, sym, subst}
 use Rattle.registry.specs.Answer.{IsAnswer}
 use Rattle.charters.specs.declared.charter.Charter.{Charter}
 use Rattle.desk.specs.Desk.{charter_of}
-use Rattle.desk.proofs.DecidingLemmas.{refuses}
+use Rattle.desk.proofs.DeskLemmas.{refuses}
 use Rattle.desk.proofs.FollowLemmas.{enough_for_one, enough_for_two, no_transfer}
 use Rattle.desk.proofs.desk.Desk.decide.Goals as goal
 

@@ -2,7 +2,7 @@ use Rattle.std.proofs.Common.{None, sym, ◌∙◌, refl}
 use Rattle.desk.specs.Desk.{charter_of}
 use Rattle.registry.specs.declared.command.Command.TheVariants.{Withdraw}
 use Rattle.registry.specs.declared.rule.Refusal.TheVariants.{Denied}
-use Rattle.desk.proofs.DecidingLemmas.{refuses}
+use Rattle.desk.proofs.DeskLemmas.{refuses}
 use Rattle.desk.proofs.FollowLemmas.{enough_to_withdraw}
 use Rattle.desk.proofs.desk.Desk.withdraw.Goals as goal
 
