@@ -3,15 +3,15 @@ use crate::example_database::{TABLES, made};
 use addr::{Asn, Day, Holdings, Name, Prefix};
 use library_conformance::slurm_sample::SAMPLE;
 use policy::{
-    Auth, Change, Charter, Command, Edit, Granted, HolderChange, HolderRows, RoaPrefixes, Role,
-    Scope, View, decide,
+    Auth, AuthTerms, Change, Charter, Command, Edit, Granted, HolderChange, HolderRows,
+    RoaPrefixes, Role, Scope, View, decide,
 };
 use slurm::{Filter, NamedSlurm, Slurm, SlurmSet};
 use sqlite::{Connection, MemStore};
 use std::alloc::Global;
 use std::process::Abort;
 use std::test::Fail;
-use store::{Store, StoreFault};
+use store::{ForAmend, ForCreate, Store, StoreFault};
 
 fn name(text: &str) -> Result<Name, Fail> {
     Ok(Name::read(text.as_bytes()).ok_or("a name")?)
@@ -387,5 +387,166 @@ fn exceptions_are_loaded_by_their_positions(rt: HostRuntime) -> Result<(), Fail>
     ];
     assert!(rt; file.filters() == filters.as_slice());
     assert_eq!(rt; file.assertions().len(), 1);
+    Ok(())
+}
+
+/// `alpha` gives AS 64496 with 192.0.2.0/24 to length 24 by number 1, and to length 25 by number 2.
+fn two_authorizations(alloc: Global) -> Result<Store<MemStore>, Fail> {
+    let mut store = registered_holder(alloc)?;
+    rows_of_each_kind(alloc, &mut store)?;
+    let mut second = authorization(alloc, 2)?;
+    second.entries.set_maxes(&[25]);
+    apply(&mut store, Edit::Create(second))?;
+    Ok(store)
+}
+
+fn terms(alloc: Global, asn: u32, prefix: &str, max: u8) -> Result<AuthTerms, Fail> {
+    Ok(AuthTerms {
+        asn: Asn(asn),
+        entries: RoaPrefixes::one(alloc, Prefix::read(prefix.as_bytes())?, max)?,
+        from: first_of_march()?,
+        until: first_of_march()?,
+    })
+}
+
+/// What is loaded for a create at a holder.
+fn for_create(
+    alloc: Global,
+    store: &mut Store<MemStore>,
+    holder: &str,
+    terms: &AuthTerms,
+) -> Result<ForCreate, Fail> {
+    match store.load_for_create(alloc, &name(holder)?, terms) {
+        Ok(loaded) => Ok(loaded),
+        Err(_) => Err("not loaded".into()),
+    }
+}
+
+/// Whether the terms are held and whether they are given. Only held ones are looked for.
+const CREATES: &[(u32, &str, u8, bool, bool)] = &[
+    (64_496, "192.0.2.0/24", 24, true, true),
+    (64_496, "192.0.2.0/24", 25, true, true),
+    (64_496, "192.0.2.0/24", 26, true, false),
+    (64_497, "192.0.2.0/24", 24, true, false),
+    (64_496, "192.0.2.0/25", 25, true, false),
+    (64_496, "192.0.2.255/32", 32, true, false),
+    (64_496, "192.0.3.0/24", 24, false, false),
+    (64_496, "192.0.2.0/23", 24, false, false),
+    (64_496, "::/0", 24, false, false),
+];
+
+fn assert_create(
+    rt: &impl Abort,
+    alloc: Global,
+    store: &mut Store<MemStore>,
+    row: &(u32, &str, u8, bool, bool),
+) -> Result<(), Fail> {
+    let (asn, prefix, max, holds, gives) = *row;
+    let terms = terms(alloc, asn, prefix, max)?;
+    let loaded = for_create(alloc, store, "alpha", &terms)?;
+    assert!(rt;
+        loaded.grants.as_slice() == [grant()?].as_slice(),
+        "{prefix}"
+    );
+    assert_eq!(rt; loaded.answers.created, 2, "{prefix}");
+    assert_eq!(rt; loaded.answers.holds, holds, "AS{asn} {prefix} to {max}");
+    assert_eq!(rt; loaded.answers.gives, gives, "AS{asn} {prefix} to {max}");
+    assert!(rt; !loaded.answers.is_full, "{prefix}");
+    Ok(())
+}
+
+#[test]
+fn what_a_create_asks_is_loaded(rt: HostRuntime) -> Result<(), Fail> {
+    let mut store = two_authorizations(rt.alloc())?;
+    for row in CREATES {
+        assert_create(&rt, rt.alloc(), &mut store, row)?;
+    }
+    Ok(())
+}
+
+#[test]
+fn create_at_nobody_is_loaded(rt: HostRuntime) -> Result<(), Fail> {
+    let mut store = two_authorizations(rt.alloc())?;
+    let terms = terms(rt.alloc(), 64_496, "192.0.2.0/24", 24)?;
+    let loaded = for_create(rt.alloc(), &mut store, "beta", &terms)?;
+    assert!(rt; loaded.grants.is_empty());
+    assert_eq!(rt; loaded.answers.created, 0);
+    assert!(rt; !loaded.answers.holds);
+    Ok(())
+}
+
+/// Whether no more authorizations may be made where so many are active, and four were withdrawn.
+fn is_full(alloc: Global, count: u32) -> Result<bool, Fail> {
+    let mut store = registered_holder(alloc)?;
+    apply(&mut store, hold(alloc, None)?)?;
+    let auths = next_authorizations(alloc, count)?;
+    let created = count.saturating_add(4);
+    apply(&mut store, Edit::Import { auths, created })?;
+    let terms = terms(alloc, 64_496, "192.0.2.0/24", 24)?;
+    let loaded = for_create(alloc, &mut store, "alpha", &terms)?;
+    Ok(loaded.answers.is_full)
+}
+
+#[test]
+fn a_thousand_authorizations_are_full(rt: HostRuntime) -> Result<(), Fail> {
+    for (count, expected) in [(1, false), (999, false), (1000, true)] {
+        assert_eq!(rt; is_full(rt.alloc(), count)?, expected, "{count}");
+    }
+    Ok(())
+}
+
+/// What is loaded for an amendment at `alpha`.
+fn for_amend(
+    alloc: Global,
+    store: &mut Store<MemStore>,
+    number: u32,
+    maxes: &[u8],
+) -> Result<ForAmend, Fail> {
+    match store.load_for_amend(alloc, &name("alpha")?, number, maxes) {
+        Ok(loaded) => Ok(loaded),
+        Err(_) => Err("not loaded".into()),
+    }
+}
+
+/// Whether the number is there, and whether another one gives the AS with the amended entry.
+const AMENDMENTS: &[(u32, &[u8], bool, bool)] = &[
+    (1, &[24], true, false),
+    (1, &[25], true, true),
+    (1, &[26], true, false),
+    (1, &[23], true, false),
+    (1, &[25, 25], true, false),
+    (2, &[24], true, true),
+    (2, &[25], true, false),
+    (3, &[24], false, false),
+];
+
+fn assert_amendment(
+    rt: &impl Abort,
+    alloc: Global,
+    store: &mut Store<MemStore>,
+    row: &(u32, &[u8], bool, bool),
+) -> Result<(), Fail> {
+    let (number, maxes, is_there, is_shared) = *row;
+    let loaded = for_amend(alloc, store, number, maxes)?;
+    let numbered = &loaded.numbered;
+    assert!(rt;
+        numbered.grants.as_slice() == [grant()?].as_slice(),
+        "{number}"
+    );
+    let found = numbered
+        .auth
+        .as_ref()
+        .is_some_and(|auth| auth.number == number);
+    assert_eq!(rt; found, is_there, "{number}");
+    assert_eq!(rt; loaded.is_shared, is_shared, "{number} to {maxes:?}");
+    Ok(())
+}
+
+#[test]
+fn what_an_amendment_asks_is_loaded(rt: HostRuntime) -> Result<(), Fail> {
+    let mut store = two_authorizations(rt.alloc())?;
+    for row in AMENDMENTS {
+        assert_amendment(&rt, rt.alloc(), &mut store, row)?;
+    }
     Ok(())
 }
