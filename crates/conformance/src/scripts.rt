@@ -379,6 +379,22 @@ fn import_of_1001_rows_has_no_room(rt: HostRuntime) -> Result<(), Fail> {
 }
 
 #[test]
+fn thousandth_authorization_is_created(rt: HostRuntime) -> Result<(), Fail> {
+    let made = imports::import_of_many(rt.alloc(), 999, r#"{"made":999,"present":0}"#)?;
+    let texts = [ALPHA, made.as_str()];
+    let name = "thousandth_authorization_is_created";
+    let lines = imports::ALMOST_FULL;
+    assert_replies(&rt, rt.alloc(), EXAMPLE_POOL, name, &texts, lines)
+}
+
+#[test]
+fn families_are_asked_apart(rt: HostRuntime) -> Result<(), Fail> {
+    let name = "families_are_asked_apart";
+    let lines = resources::FAMILIES_OF_ZEROS;
+    assert_replies(&rt, rt.alloc(), resources::ZEROS, name, &[], lines)
+}
+
+#[test]
 fn what_if_takes_a_thousand_changes(rt: HostRuntime) -> Result<(), Fail> {
     let alloc = rt.alloc();
     let most = imports::what_if_of_many(alloc, 1000, r#"{"report":[["NotFound","Valid"]]}"#)?;

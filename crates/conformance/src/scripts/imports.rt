@@ -85,6 +85,24 @@ ann {"do":"whatif","holder":"alpha","changes":[{"do":"withdraw","number":1},{"do
 ann {"do":"create","holder":"alpha","asn":64496,"prefix":"192.0.2.0/25","max":25,"from":"2026-01-01","until":"2026-12-31"} => {"denied":"room"}
 "#;
 
+/// What is answered where 999 authorizations are active, one for each AS from 1 on.
+pub(crate) const ALMOST_FULL: &str = r#"
+ann {"do":"create","holder":"alpha","asn":64496,"prefix":"192.0.2.0/25","max":25,"from":"2026-01-01","until":"2026-12-31"} => {"done":1000}
+ann {"do":"create","holder":"alpha","asn":64497,"prefix":"192.0.2.0/25","max":25,"from":"2026-01-01","until":"2026-12-31"} => {"denied":"room"}
+ann {"do":"create","holder":"alpha","asn":64496,"prefix":"192.0.2.0/25","max":25,"from":"2026-01-01","until":"2026-12-31"} => {"denied":"same"}
+ann {"do":"create","holder":"alpha","asn":7,"prefix":"192.0.2.0/24","max":24,"from":"2026-01-01","until":"2026-12-31"} => {"denied":"same"}
+ann {"do":"create","holder":"alpha","asn":64496,"prefix":"198.51.100.0/24","max":24,"from":"2026-01-01","until":"2026-12-31"} => {"denied":"held"}
+ann {"do":"create","holder":"alpha","asn":64497,"entries":[{"prefix":"192.0.2.128/25","max":25},{"prefix":"198.51.100.0/24","max":24}],"from":"2026-01-01","until":"2026-12-31"} => {"denied":"held"}
+ann {"do":"create","holder":"alpha","asn":64496,"entries":[{"prefix":"192.0.2.128/25","max":25},{"prefix":"192.0.2.0/25","max":25}],"from":"2026-01-01","until":"2026-12-31"} => {"denied":"same"}
+ann {"do":"amend","holder":"alpha","number":1000,"max":26,"until":"2026-12-31"} => {"done":null}
+ann {"do":"withdraw","holder":"alpha","number":7} => {"done":null}
+ann {"do":"create","holder":"alpha","asn":64497,"prefix":"192.0.2.0/25","max":25,"from":"2026-01-01","until":"2026-12-31"} => {"done":1001}
+ann {"do":"create","holder":"alpha","asn":7,"prefix":"192.0.2.0/24","max":24,"from":"2026-01-01","until":"2026-12-31"} => {"denied":"room"}
+ann {"do":"withdraw","holder":"alpha","number":1001} => {"done":null}
+ann {"do":"create","holder":"alpha","asn":7,"prefix":"192.0.2.0/24","max":24,"from":"2026-01-01","until":"2026-12-31"} => {"done":1002}
+ann {"do":"create","holder":"alpha","asn":64497,"prefix":"192.0.2.0/25","max":25,"from":"2026-01-01","until":"2026-12-31"} => {"denied":"room"}
+"#;
+
 /// So many objects that begin with these members, one for each AS from 1 on.
 fn terms_of_many(alloc: Global, members: &str, count: u32) -> Result<String, Fail> {
     let mut objects = String::new(alloc);

@@ -53,3 +53,26 @@ reg {"do":"reclaim","holder":"alpha","prefix":"192.0.2.0/26"} => {"done":null}
 ann {"do":"list","holder":"alpha"} => {"listed":[]}
 ann {"do":"create","holder":"alpha","asn":64496,"prefix":"192.0.2.64/26","max":26,"from":"2026-01-01","until":"2026-12-31"} => {"done":2}
 "#;
+
+/// Prefixes of the two families that begin at 0.
+pub(crate) const ZEROS: &[&str] = &["0.0.0.0/8", "::/8"];
+
+/// Neither family answers for the other, though all numbers of addresses of one are in the other.
+pub(crate) const FAMILIES_OF_ZEROS: &str = r#"
+reg {"do":"register","holder":"alpha"} => {"done":null}
+reg {"do":"grant","holder":"alpha","name":"ann","role":"manager","scope":"all","until":"2026-12-31"} => {"done":1}
+reg {"do":"delegate","holder":"alpha","prefix":"::/8"} => {"done":null}
+ann {"do":"create","holder":"alpha","asn":64496,"prefix":"0.0.0.0/8","max":24,"from":"2026-01-01","until":"2026-12-31"} => {"denied":"held"}
+ann {"do":"create","holder":"alpha","asn":64496,"prefix":"::/8","max":24,"from":"2026-01-01","until":"2026-12-31"} => {"done":1}
+reg {"do":"delegate","holder":"alpha","prefix":"0.0.0.0/8"} => {"done":null}
+ann {"do":"create","holder":"alpha","asn":64496,"prefix":"0.0.0.0/8","max":24,"from":"2026-01-01","until":"2026-12-31"} => {"done":2}
+ann {"do":"create","holder":"alpha","asn":64496,"prefix":"0.0.0.0/8","max":24,"from":"2026-01-01","until":"2026-12-31"} => {"denied":"same"}
+ann {"do":"amend","holder":"alpha","number":1,"max":25,"until":"2026-12-31"} => {"done":null}
+ann {"do":"amend","holder":"alpha","number":2,"max":25,"until":"2026-12-31"} => {"done":null}
+ann {"do":"create","holder":"alpha","asn":64496,"prefix":"::/8","max":25,"from":"2026-01-01","until":"2026-12-31"} => {"denied":"same"}
+ann {"do":"withdraw","holder":"alpha","number":1} => {"done":null}
+bob {"do":"payloads"} => {"payloads":[{"asn":64496,"prefix":"0.0.0.0/8","max":25}]}
+reg {"do":"reclaim","holder":"alpha","prefix":"0.0.0.0/8"} => {"done":null}
+ann {"do":"create","holder":"alpha","asn":64496,"prefix":"0.0.0.0/8","max":25,"from":"2026-01-01","until":"2026-12-31"} => {"denied":"held"}
+ann {"do":"create","holder":"alpha","asn":64496,"prefix":"::/8","max":25,"from":"2026-01-01","until":"2026-12-31"} => {"done":3}
+"#;

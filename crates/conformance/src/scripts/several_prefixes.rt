@@ -60,4 +60,14 @@ ann {"do":"show","holder":"alpha","number":1} => {"shown":{"number":1,"asn":6449
 ann {"do":"import","holder":"alpha","rows":[{"asn":64496,"prefix":"192.0.2.0/24","max":24,"from":"2026-01-01","until":"2026-12-31"}]} => {"denied":"same","row":1}
 # what_if_of_several_prefixes after holder, two families
 ann {"do":"whatif","holder":"alpha","changes":[{"do":"withdraw","number":1},{"do":"create","asn":64497,"entries":[{"prefix":"2001:db8::/32","max":32},{"prefix":"192.0.2.0/24","max":24}],"from":"2026-01-01","until":"2026-12-31"}],"routes":[{"prefix":"192.0.2.0/24","origin":64496},{"prefix":"2001:db8::/32","origin":64497}]} => {"report":[["Valid","Invalid"],["Invalid","Valid"]]}
+# second_of_two_entries_in_one_family after holder
+ann {"do":"create","holder":"alpha","asn":64496,"entries":[{"prefix":"192.0.2.0/25","max":25},{"prefix":"192.0.2.128/25","max":25}],"from":"2026-01-01","until":"2026-12-31"} => {"done":1}
+ann {"do":"create","holder":"alpha","asn":64496,"prefix":"192.0.2.128/25","max":26,"from":"2026-01-01","until":"2026-12-31"} => {"done":2}
+ann {"do":"create","holder":"alpha","asn":64496,"entries":[{"prefix":"192.0.2.0/26","max":26},{"prefix":"192.0.2.128/25","max":26}],"from":"2026-01-01","until":"2026-12-31"} => {"denied":"same"}
+ann {"do":"amend","holder":"alpha","number":1,"maxes":[25,26],"until":"2026-12-31"} => {"denied":"same"}
+ann {"do":"amend","holder":"alpha","number":1,"maxes":[26,25],"until":"2026-12-31"} => {"done":null}
+ann {"do":"amend","holder":"alpha","number":1,"maxes":[26,27],"until":"2026-12-31"} => {"done":null}
+ann {"do":"amend","holder":"alpha","number":2,"maxes":[27],"until":"2026-12-31"} => {"denied":"same"}
+ann {"do":"amend","holder":"alpha","number":2,"maxes":[25],"until":"2026-12-31"} => {"done":null}
+bob {"do":"payloads"} => {"payloads":[{"asn":64496,"prefix":"192.0.2.0/25","max":26},{"asn":64496,"prefix":"192.0.2.128/25","max":25},{"asn":64496,"prefix":"192.0.2.128/25","max":27}]}
 "#;
