@@ -1,13 +1,15 @@
 //! A desk that keeps a day beside one that builds it anew before each question, over the same
 //! commands, which a fixed seed chooses.
 use crate::desks::example_desk;
-use crate::scripts::reply_to;
+use crate::scripts::{ALPHA, AUTHORIZATION, Dialogue, reply_to};
 use addr::Day;
 use desk::Desk;
-use sqlite::MemStore;
+use library_conformance::rows::split_row;
+use sqlite::{Connection, MemStore};
 use std::alloc::Global;
 use std::process::Abort;
 use std::test::Fail;
+use store_conformance::example_database::{TABLES, made, made_old};
 
 const COMMANDS: u64 = 400;
 
@@ -173,10 +175,29 @@ struct Pair {
     building: Desk<MemStore>,
 }
 
+/// The desk of a database.
+fn opened(alloc: Global, conn: Connection<MemStore>) -> Result<Desk<MemStore>, Fail> {
+    match Desk::open_from(alloc, conn) {
+        Ok(desk) => Ok(desk),
+        Err(_) => Err("not opened".into()),
+    }
+}
+
 impl Pair {
     fn new(alloc: Global) -> Result<Pair, Fail> {
         let keeping = example_desk(alloc)?;
         let building = example_desk(alloc)?;
+        Ok(Pair { keeping, building })
+    }
+
+    /// The desks of two databases.
+    fn opened(
+        alloc: Global,
+        first: Connection<MemStore>,
+        second: Connection<MemStore>,
+    ) -> Result<Pair, Fail> {
+        let keeping = opened(alloc, first)?;
+        let building = opened(alloc, second)?;
         Ok(Pair { keeping, building })
     }
 
@@ -247,4 +268,73 @@ fn kept_day_is_as_one_that_is_built_anew(rt: HostRuntime) -> Result<(), Fail> {
     let accepted = count_accepted(&rt, alloc, &mut pair)?;
     assert!(rt; accepted > COMMANDS / 5, "{accepted} accepted");
     Ok(())
+}
+
+/// Commands at `alpha`, of which AS 64496 is authorized for 192.0.2.0/24 by number 1.
+const AFTER_OPENING: &str = r#"
+ann {"do":"create","holder":"alpha","asn":64496,"prefix":"192.0.2.0/24","max":24,"from":"2026-06-15","until":"2026-06-15"} => {"denied":"same"}
+ann {"do":"create","holder":"alpha","asn":64497,"prefix":"192.0.2.0/25","max":25,"from":"2026-06-15","until":"2026-06-15"} => {"done":2}
+ann {"do":"create","holder":"alpha","asn":64496,"prefix":"192.0.2.0/24","max":25,"from":"2026-06-16","until":"2026-12-31"} => {"done":3}
+ann {"do":"create","holder":"alpha","asn":64496,"prefix":"198.51.100.0/24","max":24,"from":"2026-06-15","until":"2026-06-15"} => {"denied":"held"}
+ann {"do":"amend","holder":"alpha","number":1,"max":25,"until":"2026-12-31"} => {"denied":"same"}
+ann {"do":"amend","holder":"alpha","number":1,"max":26,"until":"2026-12-31"} => {"done":null}
+ann {"do":"amend","holder":"alpha","number":2,"max":26,"until":"2026-06-14"} => {"denied":"dates"}
+ann {"do":"amend","holder":"alpha","number":2,"max":26,"until":"2026-06-15"} => {"done":null}
+ann {"do":"amend","holder":"alpha","number":3,"max":25,"until":"2026-06-30"} => {"done":null}
+ann {"do":"amend","holder":"alpha","number":4,"max":25,"until":"2026-06-30"} => {"denied":"number"}
+ann {"do":"withdraw","holder":"alpha","number":4} => {"denied":"number"}
+ann {"do":"withdraw","holder":"alpha","number":2} => {"done":null}
+ann {"do":"create","holder":"alpha","asn":64497,"prefix":"192.0.2.0/25","max":26,"from":"2026-01-01","until":"2026-06-15"} => {"done":4}
+ann {"do":"withdraw","holder":"alpha","number":1} => {"done":null}
+ann {"do":"create","holder":"alpha","asn":64496,"prefix":"192.0.2.0/24","max":26,"from":"2026-01-01","until":"2026-06-14"} => {"done":5}
+ann {"do":"amend","holder":"alpha","number":5,"max":24,"until":"2026-06-15"} => {"done":null}
+"#;
+
+/// Both desks have the reply of a row, and then the same day, which one of them kept.
+fn assert_row(rt: &impl Abort, alloc: Global, pair: &mut Pair, row: &str) -> Result<(), Fail> {
+    let (request, expected) = split_row(row)?;
+    let reply = pair.ask(rt, alloc, DAY_OF_COMMANDS, request, "after opening")?;
+    assert_eq!(rt; reply.trim(), expected, "{request}");
+    assert!(rt;
+        pair.keeping.kept() == Day::read(DAY.as_bytes()),
+        "{request}"
+    );
+    pair.assert_same_day(rt, alloc, request)
+}
+
+fn assert_rows(rt: &impl Abort, alloc: Global, pair: &mut Pair) -> Result<(), Fail> {
+    pair.assert_same_day(rt, alloc, "opened")?;
+    for row in AFTER_OPENING.trim().lines() {
+        assert_row(rt, alloc, pair, row)?;
+    }
+    Ok(())
+}
+
+#[test]
+fn rows_of_another_program_keep_the_day(rt: HostRuntime) -> Result<(), Fail> {
+    let alloc = rt.alloc();
+    let mut pair = Pair::opened(alloc, made(alloc, TABLES)?, made(alloc, TABLES)?)?;
+    assert_rows(&rt, alloc, &mut pair)
+}
+
+#[test]
+fn moved_tables_keep_the_day(rt: HostRuntime) -> Result<(), Fail> {
+    let alloc = rt.alloc();
+    let mut pair = Pair::opened(alloc, made_old(alloc)?, made_old(alloc)?)?;
+    assert_rows(&rt, alloc, &mut pair)
+}
+
+/// The database of a desk that was closed.
+fn closed(rt: &impl Abort, alloc: Global) -> Result<Connection<MemStore>, Fail> {
+    let mut desk = example_desk(alloc)?;
+    let setup = Dialogue::of(alloc, &[ALPHA, AUTHORIZATION])?;
+    setup.assert_replies_of_lines(rt, "closed", &mut desk)?;
+    Ok(desk.close())
+}
+
+#[test]
+fn closed_desks_keep_the_day(rt: HostRuntime) -> Result<(), Fail> {
+    let alloc = rt.alloc();
+    let mut pair = Pair::opened(alloc, closed(&rt, alloc)?, closed(&rt, alloc)?)?;
+    assert_rows(&rt, alloc, &mut pair)
 }
