@@ -119,7 +119,7 @@ fill() {
     curl -sf -H 'Desk-Caller: noc' -o /dev/null "http://127.0.0.1:$port/payloads" || fail "no VRPs"
     for number in $(seq 100); do
         curl -sf -H 'Desk-Caller: ann' -o /dev/null \
-            -d '{"asn":'$((4200000000 + number))',"prefix":"10.0.0.0/24","max":24,"from":"2026-01-01","until":"2026-12-31"}' \
+            -d '{"asn":'$((4200000000 + number))',"prefix":"240.0.0.0/24","max":24,"from":"2026-01-01","until":"2026-12-31"}' \
             "http://127.0.0.1:$port/holders/h0/auths" || fail "a create was not answered"
     done
 }
