@@ -53,7 +53,7 @@ use Rattle.tables.proofs.ClaimTexts.{of_number_tests, given_tests, claims_is, en
 use Rattle.tables.proofs.Texts.{Means, equals, upwards, counters_is, spans_is, grants_is}
 
 -- what is shown of the rows that pass, where both read the columns alone
-pub of_contents : (shows : Row → Row) (cells : Row → Row) (passes goes : Row → Bool) → ((r : Row) → shows r ≡ cells (drop 1 r)) → ((r : Row) → passes r ≡ goes (drop 1 r)) → (rows : List Row)
+pub of_contents : {X : Type 0} (shows cells : Row → X) (passes goes : Row → Bool) → ((r : Row) → shows r ≡ cells (drop 1 r)) → ((r : Row) → passes r ≡ goes (drop 1 r)) → (rows : List Row)
     → map shows (filter passes rows) ≡ map cells (filter goes (contents rows))
 of_contents shows cells passes goes same tests rows =
     (λ i. map (λ r. same r i) (filter (λ r. tests r i) rows)) ∙ sym (ap (map cells) (filter-map goes (drop 1) rows) ∙ map-map cells (drop 1) _)

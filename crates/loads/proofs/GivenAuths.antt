@@ -1,14 +1,14 @@
 -- What a grant, a create and an amendment ask: whether an authorization of a holder gives a VRP, out of the entries that
--- give it, how many authorizations there are, and how many grants and authorizations were made.
-use Rattle.std.proofs.Common.{◌≡◌, ℕ, ◌+◌, ◌<◌, ◌≤◌, nat_le, arith, ◌&&◌, ◌||◌, ◌==◌, Bool, true, false, cond, List, [], ◌∷◌, map, flat_map, filter, drop, length, get_or, Option, Some, None, refl, sym, ap, ap₂, ◌∙◌, IsPermutation}
+-- give it, and how many grants and authorizations were made.
+use Rattle.std.proofs.Common.{◌≡◌, ℕ, ◌+◌, ◌<◌, ◌≤◌, nat_le, arith, ◌&&◌, ◌||◌, ◌==◌, Bool, true, false, cond, List, [], ◌∷◌, flat_map, filter, drop, length, get_or, Option, Some, None, refl, sym, ap, ap₂, ◌∙◌, IsPermutation}
 use Rattle.std.specs.Prelude.{All}
 use Rattle.std.specs.List.{list_any}
 use Rattle.std.proofs.Math.Bool.{and-false, and-true, or-false}
 use Rattle.std.proofs.lemmas.Bool.Decides.{nat_tests}
-use Rattle.std.proofs.lemmas.List.{drop_more, length-map}
+use Rattle.std.proofs.lemmas.List.{drop_more}
 use Rattle.std.proofs.lemmas.List.Elements.{All-nil, All-from_recursion, recursion_from_All}
 use Rattle.std.proofs.lemmas.List.Folds.{list_any-append}
-use Rattle.std.proofs.lemmas.List.Sorted.{length_permutation, list_any-IsPermutation}
+use Rattle.std.proofs.lemmas.List.Sorted.{list_any-IsPermutation}
 use Rattle.sqlite_trees.proofs.ListLemmas.{all-filter}
 use Rattle.addr.specs.declared.asn.Asn.{Asn}
 use Rattle.registry.specs.declared.authorization.Auth.{Auth}
@@ -21,7 +21,6 @@ use Rattle.tables.specs.Authorizations.{claim_of, entry_rows_of}
 use Rattle.tables.specs.Decode.{EntryRowFits}
 use Rattle.tables.specs.Groups.{claim_entry}
 use Rattle.tables.specs.TablesHold.{items_if_any}
-use Rattle.tables.specs.declared.claim.Claim.{Claim}
 use Rattle.tables.specs.declared.entry.EntryRow.{EntryRow}
 use Rattle.tables.specs.declared.holder.Counters.{Counters}
 use Rattle.tables.proofs.TreeRows.{list_any-map}
@@ -111,11 +110,7 @@ gives_from but asn es i e ys low is =
     ap (λ l. some_gives but asn l ys) (drop_more es i e low ∙ ap (λ d. d ∷ drop (i + 1) es) (sym is))
     ∙ gives_more but asn e (drop (i + 1) es) ys
 
--- ---- how many there are, and were made
-
-pub claims_counted : (o : Option Rows) (claims : List Claim) → IsPermutation (items_if_any (λ r. map claim_of r.auths) o) claims → length claims ≡ length (auths_held o)
-claims_counted None claims same = length_permutation [] claims same
-claims_counted (Some r) claims same = length_permutation (map claim_of r.auths) claims same ∙ length-map r.auths claim_of
+-- ---- how many were made
 
 pub made_shown : (o : Option Rows) (c : Counters) → Some c ≡ counters_if_any o → Some c.granted ≡ made_if_any o
 made_shown None c some = cc

@@ -2,6 +2,8 @@ mod Finding
 pub mod Loading
 mod NumberFound
 mod GivenAuths
+mod HeldEntries
+mod LastClaim
 mod Overlapping
 mod Claimed
 mod InForce
@@ -11,3 +13,5 @@ pub mod NamesFound
 mod EntriesFound
 mod Asking
 pub mod HeldAlike
+mod RunsApart
+mod RunsBelow

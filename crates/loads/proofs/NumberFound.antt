@@ -61,7 +61,7 @@ none_alike [] same = refl
 none_alike (y ∷ ys) same = absurd (let e = length_permutation _ _ same in cc)
 
 -- what is taken from the end of at most one
-last_of_one : {X : Type 0} (ys rest : List X) (popped : Option X) → length ys < 2 → ys ≡ rest ++ option_to_list popped → (IsSome popped ↔ (0 < length ys)) → ys ≡ option_to_list popped
+pub last_of_one : {X : Type 0} (ys rest : List X) (popped : Option X) → length ys < 2 → ys ≡ rest ++ option_to_list popped → (IsSome popped ↔ (0 < length ys)) → ys ≡ option_to_list popped
 last_of_one [] rest None few is some = refl
 last_of_one [] rest (Some x) few is some = absurd (let e = some.0 refl in omega (arith, e))
 last_of_one (y ∷ []) rest None few is some = absurd (let e = some.1 (omega arith) in cc)

@@ -33,7 +33,7 @@ use Rattle.tables.proofs.Selecting.{picks, first_shown}
 use Rattle.database.proofs.QueryLemmas.{reads_desk}
 use Rattle.tables.proofs.Texts.{overlap_tests, overlap_is}
 
-family_tested : (f g : Family) → int_eq (pos (family_number f)) (pos (family_number g)) ≡ family_eq f g
+pub family_tested : (f g : Family) → int_eq (pos (family_number f)) (pos (family_number g)) ≡ family_eq f g
 family_tested V4 V4 = refl
 family_tested V4 V6 = refl
 family_tested V6 V4 = refl
@@ -42,7 +42,7 @@ family_tested V6 V6 = refl
 le_is : (a b : ℕ) → is_le (nat_cmp a b) ≡ nat_le a b
 le_is a b = grind (arith, nat_tests)
 
-address_le : (a b : ℕ) → a < 2 ^ 128 → b < 2 ^ 128 → is_true (binary (Compare Le Binary) (Blob (address_bytes a)) (Blob (address_bytes b))) ≡ nat_le a b
+pub address_le : (a b : ℕ) → a < 2 ^ 128 → b < 2 ^ 128 → is_true (binary (Compare Le Binary) (Blob (address_bytes a)) (Blob (address_bytes b))) ≡ nat_le a b
 address_le a b low high = at_blobs false Le (address_bytes a) (address_bytes b) ∙ ap is_le (addresses_in_order a b low high) ∙ le_is a b
 
 address_ge : (a b : ℕ) → a < 2 ^ 128 → b < 2 ^ 128 → is_true (binary (Compare Ge Binary) (Blob (address_bytes a)) (Blob (address_bytes b))) ≡ nat_le b a

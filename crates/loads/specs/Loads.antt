@@ -1,10 +1,10 @@
 -- What is loaded of the rows that the tables hold.
-use Rattle.std.specs.Prelude.{◌≡◌, ◌≤◌, ◌==◌, ◌&&◌, ◌↔◌, ℕ, Bool, true, false, not, nat_le, List, map, filter, length, Option, Some, None, option_to_list, Contains, IfSome, IsPermutation, IsSortedByKey, IsTrue, ⊤}
+use Rattle.std.specs.Prelude.{◌≡◌, ◌≤◌, ◌==◌, ◌&&◌, ℕ, Bool, true, false, not, nat_le, List, map, filter, length, Option, Some, None, option_to_list, Contains, IfSome, IsPermutation, IsSortedByKey, IsTrue, ⊤}
 use Rattle.std.specs.List.{list_any}
 use Rattle.std.specs.Ordering.{nat_cmp}
 use Rattle.sqlite.specs.State.{State}
 use Rattle.addr.specs.Address.{Address}
-use Rattle.addr.specs.Spans.{span_meets, spans_have, AreMaximal}
+use Rattle.addr.specs.Spans.{span_has, span_meets, spans_have, AreApart, AreMaximal}
 use Rattle.addr.specs.declared.asn.Asn.{Asn}
 use Rattle.addr.specs.declared.prefix.Prefix.{Prefix}
 use Rattle.addr.specs.declared.span.Span.{Span}
@@ -83,6 +83,23 @@ pub record AreNumbered (n : ℕ) (rows : Option Rows) (loaded : Numbered) : Type
   pub auth : auth_of_number n (auths_held rows) ≡ loaded.auth
   pub only : filter (λ x. x.number == n) (auths_held rows) ≡ option_to_list loaded.auth
 
+-- ---- the runs of all holders
+
+-- a run of the holder
+abbrev pub HasRun : AllRows → List ℕ → Span → Type 0
+HasRun rows h s = (r : Rows) × (rows.of_holder h ≡ Some r) × Contains r.holdings s
+
+-- the runs of each holder are apart, and no address is in runs of two holders
+pub record AreRunsApart (rows : AllRows) : Type 0 where
+  pub each : (h : List ℕ) (r : Rows) → rows.of_holder h ≡ Some r → AreApart r.holdings
+  pub once :
+      (h k : List ℕ) (s t : Span) (a : Address) → HasRun rows h s → HasRun rows k t
+      → span_has s a ≡ true → span_has t a ≡ true → h ≡ k
+
+-- Whether it is so is told: never where it is not, and always where it is and runs are apart.
+abbrev pub IsToldWhereApart : AllRows → Bool → Type 0 → Type 0
+IsToldWhereApart rows told so = (IsTrue told → so) × (AreRunsApart rows → so → IsTrue told)
+
 -- ---- what a grant, a create and an amendment are judged on
 
 -- how many grants were made at a holder; none where it is not registered
@@ -115,18 +132,19 @@ created_if_any (Some r) = r.created
 
 -- What is answered of a holder for a create of the terms. Whether they are given is said only where they are held, and
 -- whether the holder has as many authorizations as it may only where they are not given.
-pub record AreAnswers (terms : AuthTerms) (rows : Option Rows) (answers : CreateAnswers) : Type 0 where
-  pub created : answers.created ≡ created_if_any rows
-  pub holds : IsTrue answers.holds ↔ AreHeld (items_if_any (λ r. r.holdings) rows) terms.entries
-  pub gives : IsTrue answers.holds → answers.gives ≡ some_gives None terms.asn terms.entries (auths_held rows)
+pub record AreAnswers (terms : AuthTerms) (rows : AllRows) (h : List ℕ) (answers : CreateAnswers) : Type 0 where
+  pub created : answers.created ≡ created_if_any (rows.of_holder h)
+  pub holds : IsToldWhereApart rows answers.holds (AreHeld (items_if_any (λ r. r.holdings) (rows.of_holder h)) terms.entries)
+  pub gives : IsTrue answers.holds → answers.gives ≡ some_gives None terms.asn terms.entries (auths_held (rows.of_holder h))
   pub is_full :
       IsTrue answers.holds → answers.gives ≡ false
-      → answers.is_full ≡ (nat_le MOST_AUTHORIZATIONS (created_if_any rows) && nat_le MOST_AUTHORIZATIONS (length (auths_held rows)))
+      → answers.is_full
+      ≡ (nat_le MOST_AUTHORIZATIONS (created_if_any (rows.of_holder h)) && nat_le MOST_AUTHORIZATIONS (length (auths_held (rows.of_holder h))))
 
 -- what is loaded of a holder for a create of the terms: the grants, by rising number, and those answers
-pub record IsForCreate (terms : AuthTerms) (rows : Option Rows) (loaded : ForCreate) : Type 0 where
-  pub grants : AreGrants rows loaded.grants.items
-  pub answers : AreAnswers terms rows loaded.answers
+pub record IsForCreate (terms : AuthTerms) (rows : AllRows) (h : List ℕ) (loaded : ForCreate) : Type 0 where
+  pub grants : AreGrants (rows.of_holder h) loaded.grants.items
+  pub answers : AreAnswers terms rows h loaded.answers
 
 -- What is loaded of a holder for an amendment to these maxLengths: what is loaded of the number, and where they fit its
 -- authorization, whether another one gives the AS with an entry of it that has its new maxLength.

@@ -78,7 +78,7 @@ fn all_payloads<S: Alter>(conn: &mut Connection<S>) -> Result<Vec<Row>, Error>
 }
 
 /// The value in a column, and NULL past the end.
-fn cell(row: &Row, at: usize) -> ValueRef<'_>
+pub(crate) fn cell(row: &Row, at: usize) -> ValueRef<'_>
     ensures { owned result ≡ column row.now at }
 {
     row.get_ref(at).unwrap_or(ValueRef::Null)

@@ -8,18 +8,20 @@ ghost use Rattle.registry.specs.Values.{FitIfAny};
 ghost use Rattle.registry.specs.Verdict.{maxes_fit};
 ghost use Rattle.tables.specs.TablesHold.{items_if_any};
 ghost use Rattle.database.specs.Queries.{IsAsked, IsClean, IsReadyToAsk};
-ghost use Rattle.loads.specs.Loads.{AreAnswers, AreHeld, IsForAmend, IsForCreate, IsForGrant, IsOf, IsOpenWith, auths_held, created_if_any, is_other, made_if_any, some_gives};
+ghost use Rattle.loads.specs.Loads.{AreAnswers, AreHeld, IsForAmend, IsForCreate, IsForGrant, IsOf, IsOfAll, IsOpenWith, IsToldWhereApart, auths_held, created_if_any, is_other, made_if_any, some_gives};
 ghost use Rattle.loads.specs.steps.Queries.{entries_given};
 
-use crate::load::{
-    Numbered, holdings_of, load_counters, load_grants, load_numbered, load_selected, load_values,
-};
-use addr::{Asn, Holdings, Name, Span};
-use database::StoreFault;
+use crate::below::is_held;
+use crate::load::{Numbered, load_counters, load_grants, load_numbered, load_selected};
+use addr::{Asn, Name};
+use database::{StoreFault, ask};
 use registry::{Auth, AuthTerms, CreateAnswers, Granted, MOST_AUTHORIZATIONS, RoaPrefix};
-use sqlite::{Alter, Connection};
+use sqlite::{Alter, Connection, Error};
 use std::alloc::Global;
-use tables::{Claim, EntryRow, SELECT_GIVEN_ENTRIES, address_bytes, given_values};
+use tables::{
+    EntryRow, SELECT_GIVEN_ENTRIES, SELECT_THOUSANDTH_CLAIM, address_bytes, given_values,
+    name_values,
+};
 
 // ---- what a grant asks
 
@@ -178,42 +180,31 @@ fn load_created<S: Alter>(
     }
 }
 
-/// Whether every address of the entries is in the set.
-fn are_held(holdings: &Holdings, entries: &[RoaPrefix]) -> bool
-    ensures { IsTrue result ↔ AreHeld holdings.now entries.now }
-{
-    match entries {
-        [] => true,
-        [entry, entries @ ..] => holdings.holds(&entry.prefix) && are_held(holdings, entries),
-    }
-}
-
-/// Whether the holder holds every address of the entries.
-fn load_held<S: Alter>(
+/// Whether the holder holds every address of the entries, where runs are apart; the first entry that
+/// it does not hold ends the search.
+fn are_held<S: Alter>(
     conn: &mut Connection<S>,
-    alloc: Global,
     holder: &Name,
     entries: &[RoaPrefix],
-) -> Result<bool, StoreFault>
-    requires { IsReadyToAsk S.Store conn.old }
+) -> Result<bool, Error>
+    requires ready { IsReadyToAsk S.Store conn.old }
+    requires is_open { IsClean S.Store conn.old → IsTrue (state S.Store conn.old).is_open }
     ensures asked { IsAsked S.Store conn.old conn.new result }
     ensures found { IsClean S.Store conn.new → IfOk result (λ held.
-        IsOf (λ rows. IsTrue held ↔ AreHeld (items_if_any (λ r. r.holdings) rows) entries.now)
-        holder.now (state S.Store conn.old)) }
-    ensures schema { IsClean S.Store conn.new → result ≡ Err StoreFault.Schema
-        → IsOpenWith (λ all. ¬ FitIfAny (all.of_holder holder.now)) (state S.Store conn.old) }
+        IsOfAll (λ rows. IsToldWhereApart rows held
+        (AreHeld (items_if_any (λ r. r.holdings) (rows.of_holder holder.now)) entries.now))
+        (state S.Store conn.old)) }
 {
-    let spans: Vec<Span> = load_values(conn, alloc, holder)?;
-    let holdings = holdings_of(alloc, &spans)?;
-    Ok(are_held(&holdings, entries))
+    for entry in entries {
+        if !is_held(conn, holder, &entry.prefix)? {
+            return Ok(false);
+        }
+    }
+    Ok(true)
 }
 
 /// Whether the holder has as many authorizations as it may.
-fn load_full<S: Alter>(
-    conn: &mut Connection<S>,
-    alloc: Global,
-    holder: &Name,
-) -> Result<bool, StoreFault>
+fn load_full<S: Alter>(conn: &mut Connection<S>, holder: &Name) -> Result<bool, StoreFault>
     requires { IsReadyToAsk S.Store conn.old }
     ensures asked { IsAsked S.Store conn.old conn.new result }
     ensures found { IsClean S.Store conn.new → IfOk result (λ is_full.
@@ -222,8 +213,8 @@ fn load_full<S: Alter>(
     ensures schema { IsClean S.Store conn.new → result ≡ Err StoreFault.Schema
         → IsOpenWith (λ all. ¬ FitIfAny (all.of_holder holder.now)) (state S.Store conn.old) }
 {
-    let claims: Vec<Claim> = load_values(conn, alloc, holder)?;
-    Ok(claims.len() >= MOST_AUTHORIZATIONS)
+    let found = ask(conn, SELECT_THOUSANDTH_CLAIM, &name_values(holder))?;
+    Ok(!found.is_empty())
 }
 
 /// What the rules of a create ask beside the grants. Nothing more is asked once an answer denies
@@ -237,13 +228,14 @@ fn load_answers<S: Alter>(
     requires { IsReadyToAsk S.Store conn.old }
     ensures asked { IsAsked S.Store conn.old conn.new result }
     ensures found { IsClean S.Store conn.new → IfOk result (λ answers.
-        IsOf (λ rows. AreAnswers terms.now rows answers) holder.now (state S.Store conn.old)) }
+        IsOfAll (λ rows. AreAnswers terms.now rows holder.now answers)
+        (state S.Store conn.old)) }
     ensures schema { IsClean S.Store conn.new → result ≡ Err StoreFault.Schema
         → IsOpenWith (λ all. ¬ FitIfAny (all.of_holder holder.now)) (state S.Store conn.old) }
 {
     let entries = terms.entries.as_slice();
     let created = load_created(conn, alloc, holder)?;
-    let holds = load_held(conn, alloc, holder, entries)?;
+    let holds = are_held(conn, holder, entries)?;
     let mut answers = CreateAnswers {
         created,
         holds,
@@ -257,7 +249,7 @@ fn load_answers<S: Alter>(
     if answers.gives || (created as usize) < MOST_AUTHORIZATIONS {
         return Ok(answers);
     }
-    answers.is_full = load_full(conn, alloc, holder)?;
+    answers.is_full = load_full(conn, holder)?;
     Ok(answers)
 }
 
@@ -279,7 +271,8 @@ pub fn load_for_create<S: Alter>(
     requires { IsReadyToAsk S.Store conn.old }
     ensures asked { IsAsked S.Store conn.old conn.new result }
     ensures found { IsClean S.Store conn.new → IfOk result (λ loaded.
-        IsOf (λ rows. IsForCreate terms.now rows loaded) holder.now (state S.Store conn.old)) }
+        IsOfAll (λ rows. IsForCreate terms.now rows holder.now loaded)
+        (state S.Store conn.old)) }
     ensures schema { IsClean S.Store conn.new → result ≡ Err StoreFault.Schema
         → IsOpenWith (λ all. ¬ FitIfAny (all.of_holder holder.now)) (state S.Store conn.old) }
 {

@@ -3,11 +3,13 @@
 
 mod across;
 mod answers;
+mod below;
 mod exceptions;
 mod load;
 mod select;
 
 pub use across::some_overlap;
 pub use answers::{ForAmend, ForCreate, ForGrant, load_for_amend, load_for_create, load_for_grant};
+pub use below::is_taken;
 pub use exceptions::load_files;
 pub use load::{Numbered, load_numbered, load_rows, load_vrps};

@@ -33,7 +33,7 @@ use tables::{
 };
 
 /// The addresses of the runs, as maximal runs.
-pub(crate) fn holdings_of(alloc: Global, spans: &[Span]) -> Result<Holdings, AllocError>
+fn holdings_of(alloc: Global, spans: &[Span]) -> Result<Holdings, AllocError>
     ensures same { IfOk result (λ holdings. HaveSame spans.now holdings) }
     ensures maximal { IfOk result AreMaximal }
 {

@@ -5,11 +5,13 @@ use Rattle.std.specs.List.{AllByRecursion, list_any}
 use Rattle.std.specs.Ordering.{on}
 use Rattle.std.proofs.lemmas.Bool.Decides.{nat_tests}
 use Rattle.std.proofs.lemmas.Cmp.{on_total}
+use Rattle.sqlite_rules.proofs.ListLemmas.{has_contained, some_from}
 use Rattle.sqlite_trees.specs.Tree.{IsAscending}
 use Rattle.sqlite_trees.proofs.ListLemmas.{ascending_weaker}
 use Rattle.sqlite_keyed.proofs.SortLemmas.{sorted_unique}
 use Rattle.addr.specs.Address.{Address}
-use Rattle.addr.specs.Spans.{spans_have}
+use Rattle.addr.specs.Spans.{span_has, spans_have}
+use Rattle.addr.specs.declared.span.Span.{Span}
 use Rattle.addr.proofs.RunLemmas.{maximal_apart}
 use Rattle.charters.specs.declared.charter.Charter.{Charter}
 use Rattle.registry.specs.Answer.{IsMadeIfAny, SharesWithNone}
@@ -22,6 +24,7 @@ use Rattle.registry.specs.History.{History, same_name}
 use Rattle.registry.specs.Resources.{resource_holder, is_held_by}
 use Rattle.registry.specs.RoaPrefixes.{with_maxes}
 use Rattle.registry.specs.Rows.{Rows, RowsIfAny}
+use Rattle.registry.specs.RowsOfAll.{AllRows, HasRows}
 use Rattle.registry.specs.Terms.{granted_after, grants_made, grants_after, grant_terms, authorizations_made, authorization_terms, gives_some, AreActive, HeldSinceMade, Keeps, OfActive}
 use Rattle.registry.specs.Unregistered.{UnregisteredHaveNothing}
 use Rattle.registry.specs.Verdict.{IsLegal, maxes_fit}
@@ -32,8 +35,8 @@ use Rattle.registry.proofs.Names.{held_by_itself, is_held_by-true}
 use Rattle.registry.proofs.Numbers.{Numbered}
 use Rattle.histories.proofs.SharedVrps.{share_vrp-flips}
 use Rattle.tables.specs.TablesHold.{items_if_any}
-use Rattle.loads.specs.Loads.{AreInOrder, auths_held, created_if_any, made_if_any, some_gives}
-use Rattle.store.specs.Laws.{LoadsAmendOfHistories, LoadsCreateOfHistories, LoadsGrantOfHistories, LoadsNumberOfHistories, LoadsRowsOfHistories}
+use Rattle.loads.specs.Loads.{AreInOrder, HasRun, auths_held, created_if_any, made_if_any, some_gives}
+use Rattle.store.specs.Laws.{LoadsAmendOfHistories, LoadsCreateOfHistories, LoadsGrantOfHistories, LoadsNumberOfHistories, LoadsRowsOfHistories, RunsOfHistoriesAreApart}
 
 module _ {X : Type 0} (number : X → ℕ) where
   -- the numbers rise, from above one number up to another
@@ -119,6 +122,25 @@ loads_rows history h (Some r) (Some s) are loaded =
       },
     )
 
+-- ---- the runs of all holders
+
+-- an address of a run is held by its holder
+run_holder : (history : History) (rows : AllRows) (h : List ℕ) (s : Span) (a : Address) → HasRows rows history → HasRun rows h s → span_has s a ≡ true → resource_holder history a ≡ Some h
+run_holder history rows h s a has run there =
+    let of = subst (RowsIfAny history h) run.1 (has.holders h) in
+    let in_runs = some_from (λ t. span_has t a) run.0.holdings s (has_contained run.0.holdings s run.2) there in
+    is_held_by-true h (resource_holder history a) (sym (of.1.holdings a) ∙ in_runs)
+
+-- an address has one holder
+pub runs_apart : RunsOfHistoriesAreApart
+runs_apart history rows has = record {
+  each = λ h r is. (subst (RowsIfAny history h) is (has.holders h)).1.apart;
+  once = λ h k s t a own other in_s in_t.
+      let one = run_holder history rows h s a has own in_s in
+      let also = run_holder history rows k t a has other in_t in
+      cc;
+}
+
 -- ---- what is judged on answers
 
 -- the rows of a holder after a legal history, those of nobody too
@@ -179,8 +201,9 @@ room_from : (many : ℕ) → many < MOST_AUTHORIZATIONS → nat_le MOST_AUTHORIZ
 room_from many few = grind (arith, nat_tests, few)
 
 pub loads_create : UnregisteredHaveNothing → LoadsCreateOfHistories
-loads_create have_nothing charter history h terms rows loaded legal of are =
-    let held = is_held have_nothing charter history h rows legal of in
+loads_create have_nothing charter history h terms all loaded legal has are =
+    let rows = all.of_holder h in
+    let held = is_held have_nothing charter history h rows legal (has.holders h) in
     let answers = are.answers in
     let xs = auths_held rows in
     let most : length xs ≤ created_if_any rows = omega (arith, held.created, no_more 0 xs (authorizations_made history h) (active-numbered history h xs held.auths)) in
@@ -190,8 +213,8 @@ loads_create have_nothing charter history h terms rows loaded legal of are =
       grants = grants_in_order history h (items_if_any (λ r. r.grants) rows) loaded.grants.items held.grants are.grants;
       created = answers.created ∙ held.created;
       holds = (
-        λ is a has. is_held_by-true h (resource_holder history a) (sym (held.holdings a) ∙ answers.holds.0 is a has),
-        λ every. answers.holds.1 (λ a has. held.holdings a ∙ ap (is_held_by h) (every a has) ∙ held_by_itself h),
+        λ is a there. is_held_by-true h (resource_holder history a) (sym (held.holdings a) ∙ answers.holds.0 is a there),
+        λ every. answers.holds.1 (runs_apart history all has) (λ a there. held.holdings a ∙ ap (is_held_by h) (every a there) ∙ held_by_itself h),
       );
       gives = λ is. (
         λ none. (xs, held.auths, sym (answers.gives is) ∙ none),

@@ -28,7 +28,7 @@ use Rattle.loads.specs.declared.answers.ForAmend.{ForAmend}
 use Rattle.loads.specs.declared.answers.ForCreate.{ForCreate}
 use Rattle.loads.specs.declared.answers.ForGrant.{ForGrant}
 use Rattle.loads.specs.declared.load.Numbered.{Numbered}
-use Rattle.loads.specs.Loads.{AreLoaded, AreNumbered, IsForAmend, IsForCreate, IsForGrant, AllGiveOn}
+use Rattle.loads.specs.Loads.{AreLoaded, AreNumbered, IsForAmend, IsForCreate, IsForGrant, AllGiveOn, AreRunsApart}
 use Rattle.store.specs.StoreRows.{AreInRange, StoreView, connection_state, Holds}
 
 -- The rows of a holder after a history, as they are loaded, are its rows after the history.
@@ -37,6 +37,10 @@ LoadsRowsOfHistories =
     (history : History) (h : List ℕ) (rows : Option Rows) (loaded : Option HolderRows)
     → RowsIfAny history h rows → AreLoaded rows loaded
     → RowsIfAny history h (rows_if_any loaded)
+
+-- The runs of the rows of a history are apart.
+abbrev pub RunsOfHistoriesAreApart : Type 0
+RunsOfHistoriesAreApart = (history : History) (rows : AllRows) → HasRows rows history → AreRunsApart rows
 
 -- What is loaded of a holder and a number is what a request on that authorization is judged on, after a legal history.
 abbrev pub LoadsNumberOfHistories : Type 0
@@ -55,8 +59,8 @@ LoadsGrantOfHistories =
 
 abbrev pub LoadsCreateOfHistories : Type 0
 LoadsCreateOfHistories =
-    (charter : Charter) (history : History) (h : List ℕ) (terms : AuthTerms) (rows : Option Rows) (loaded : ForCreate)
-    → IsLegal charter history → RowsIfAny history h rows → IsForCreate terms rows loaded
+    (charter : Charter) (history : History) (h : List ℕ) (terms : AuthTerms) (rows : AllRows) (loaded : ForCreate)
+    → IsLegal charter history → HasRows rows history → IsForCreate terms rows h loaded
     → AnswersCreate history h terms loaded.grants.items loaded.answers
 
 abbrev pub LoadsAmendOfHistories : Type 0

@@ -6,13 +6,19 @@ ghost use Rattle.store.specs.Laws.{LoadsGrantOfHistories, LoadsNumberOfHistories
 ghost use Rattle.store.specs.Laws.{LoadsRowsOfHistories, MemoryHoldsRows, MemoryIsHonest};
 ghost use Rattle.store.specs.Laws.{MemoryStaysOpen, OldHistoriesRead, OldTablesThatReadAreOurs};
 ghost use Rattle.store.specs.Laws.{RowsInRangeGive, RowsOfHistoriesFit, RowsThatReadFit};
-ghost use Rattle.store.specs.Laws.{TablesThatReadAreOurs};
+ghost use Rattle.store.specs.Laws.{RunsOfHistoriesAreApart, TablesThatReadAreOurs};
 
 /// Where the tables hold the rows of a history, what is loaded of a holder are its rows after that
 /// history, as `registry` defines them.
 #[tactic(auto, using(crate::proofs::HistoryRows::loads_rows))]
 pub fn rows_of_a_history()
     ensures { LoadsRowsOfHistories }
+{}
+
+/// The runs of the rows of a history are apart, as `Store::is_taken` asks.
+#[tactic(auto, using(crate::proofs::HistoryRows::runs_apart))]
+pub fn runs_of_histories_are_apart()
+    ensures { RunsOfHistoriesAreApart }
 {}
 
 /// Where the tables hold the rows of a legal history, the grants and the authorization of a number

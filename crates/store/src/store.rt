@@ -14,7 +14,7 @@ use addr::{Day, Name, Prefix, Vrp};
 use database::{StoreFault, make_tables, open_tables};
 use edits::make_change;
 use loads::{
-    ForAmend, ForCreate, ForGrant, Numbered, load_files, load_for_amend, load_for_create,
+    ForAmend, ForCreate, ForGrant, Numbered, is_taken, load_files, load_for_amend, load_for_create,
     load_for_grant, load_numbered, load_rows, load_vrps, some_overlap,
 };
 use registry::{AuthTerms, Change, Charter, HolderRows};
@@ -149,7 +149,7 @@ impl<S: Alter> Store<S> {
     ghost use Rattle.registry.specs.Values.{FitIfAny, FilesFit};
     ghost use Rattle.store.specs.Given.{GivenOnce};
     ghost use Rattle.loads.specs.Loads.{AllGiveOn, AreFilesOf, AreLoaded, AreNumbered};
-    ghost use Rattle.loads.specs.Loads.{IsForAmend, IsForCreate, IsForGrant};
+    ghost use Rattle.loads.specs.Loads.{AreRunsApart, IsForAmend, IsForCreate, IsForGrant};
     ghost use Rattle.store.specs.StoreRows.{connection_state, Holds, IsRead, OfHeldRows};
     ghost use Rattle.making.specs.Databases.{IsDeskWhileOpen};
     ghost use Rattle.store.specs.StoreRows.{IfClean, HoldsAfter, MayLeave, LeavesOnly};
@@ -215,8 +215,7 @@ impl<S: Alter> Store<S> {
     ) -> Result<ForCreate, StoreFault>
         ensures read { IsRead S.Store self.old self.new }
         ensures found { IfClean S.Store self.new (IfOk result (λ loaded.
-            OfHeldRows S.Store self.old
-            (λ rows. IsForCreate terms.now (rows.of_holder holder.now) loaded))) }
+            OfHeldRows S.Store self.old (λ rows. IsForCreate terms.now rows holder.now loaded))) }
         ensures schema { IfClean S.Store self.new (result ≡ Err StoreFault.Schema
             → OfHeldRows S.Store self.old (λ rows. ¬ FitIfAny (rows.of_holder holder.now))) }
     {
@@ -272,6 +271,17 @@ impl<S: Alter> Store<S> {
         ensures no_schema { result ≢ Err StoreFault.Schema }
     {
         Ok(some_overlap(&mut self.conn, prefix)?)
+    }
+
+    /// What `overlapping` answers, by one row, where runs are apart, as those of a history are.
+    pub fn is_taken(&mut self, prefix: &Prefix) -> Result<bool, StoreFault>
+        ensures read { IsRead S.Store self.old self.new }
+        ensures found { IfClean S.Store self.new (IfOk result (λ taken.
+            OfHeldRows S.Store self.old (λ rows. AreRunsApart rows
+            → IsTrue taken ↔ IsTaken rows prefix.now))) }
+        ensures no_schema { result ≢ Err StoreFault.Schema }
+    {
+        Ok(is_taken(&mut self.conn, prefix)?)
     }
 
     /// The VRPs of the authorizations of all holders that are in force on the day, in no order.

@@ -194,8 +194,10 @@ fn overlapping_after_reclaim(rt: HostRuntime) -> Result<(), Fail> {
         ("192.0.2.0/24", true),
         ("::/0", false),
     ] {
-        let found = store.overlapping(&Prefix::read(text.as_bytes())?);
-        assert!(rt; matches!(found, Ok(found) if found == overlaps), "{text}");
+        let prefix = Prefix::read(text.as_bytes())?;
+        for found in [store.overlapping(&prefix), store.is_taken(&prefix)] {
+            assert!(rt; matches!(found, Ok(found) if found == overlaps), "{text}");
+        }
     }
     Ok(())
 }

@@ -1,14 +1,16 @@
 -- What the statements of claims and entries mean over the tables of a desk. Each fact is computed.
-use Rattle.std.proofs.Common.{List, [], ◌∷◌, codes, refl}
+use Rattle.std.proofs.Common.{List, [], ◌∷◌, ◌-◌, pos, codes, refl}
 use Rattle.sqlite_value.specs.declared.keys.Collation.TheVariants.{Binary}
+use Rattle.sqlite_value.specs.declared.value.Value.TheVariants.{Int}
 use Rattle.sqlite_schema.specs.declared.command.Source.TheVariants.{Values}
 use Rattle.sqlite_schema.specs.declared.command.Command.TheVariants.{Insert, Update, Delete, Select}
 use Rattle.sqlite_sql.specs.declared.ops.CompareOp.TheVariants.{Le, Ge}
 use Rattle.sqlite_sql.specs.declared.ops.BinaryOp.TheVariants.{Compare}
-use Rattle.sqlite_sql.specs.Term.{Term, col, op2}
+use Rattle.sqlite_sql.specs.Term.{Term, lit, col, op2}
 use Rattle.sqlite.specs.Listing.{understood}
 use Rattle.sqlite_tied.specs.Compute.{everything}
-use Rattle.tables.specs.declared.claim.TheConstants.{INSERT_CLAIM, UPDATE_CLAIM, DELETE_CLAIM, SELECT_HOLDER_CLAIMS, SELECT_NUMBERED_CLAIM, SELECT_ALL_CLAIMS, SELECT_CLAIMS_IN_FORCE}
+use Rattle.registry.specs.declared.limits.TheConstants.{MOST_AUTHORIZATIONS}
+use Rattle.tables.specs.declared.claim.TheConstants.{INSERT_CLAIM, UPDATE_CLAIM, DELETE_CLAIM, SELECT_HOLDER_CLAIMS, SELECT_NUMBERED_CLAIM, SELECT_THOUSANDTH_CLAIM, SELECT_ALL_CLAIMS, SELECT_CLAIMS_IN_FORCE}
 use Rattle.tables.specs.declared.entry.TheConstants.{INSERT_ENTRY, DELETE_ENTRIES, SELECT_HOLDER_ENTRIES, SELECT_NUMBERED_ENTRIES, SELECT_GIVEN_ENTRIES, SELECT_ALL_ENTRIES, SELECT_PAYLOADS}
 use Rattle.tables.proofs.Selecting.{from_table, no_limit}
 use Rattle.tables.proofs.Texts.{Means, equals, upwards, put_terms}
@@ -52,6 +54,11 @@ entries_is = record { is = λ s. refl; plain = λ s. (refl, refl); unlisted = λ
 pub numbered_claim_is : Means SELECT_NUMBERED_CLAIM.now (Select (record { lets = []; body = from_table 17 of_number_tests (col 1 2 ∷ col 1 3 ∷ col 1 4 ∷ col 1 5 ∷ []) (upwards 2 ∷ []) no_limit }) (codes "number" ∷ codes "asn" ∷ codes "opens" ∷ codes "ends" ∷ []))
 unfolding understood everything
 numbered_claim_is = record { is = λ s. refl; plain = λ s. (refl, refl); unlisted = λ s. refl }
+
+-- the row of the last claim that the holder ?1 may have
+pub thousandth_claim_is : Means SELECT_THOUSANDTH_CLAIM.now (Select (record { lets = []; body = record (from_table 17 (equals 1 0 ∷ []) (lit (Int (pos 1)) ∷ []) [] (lit (Int (pos 1)))) { offset = lit (Int (pos (MOST_AUTHORIZATIONS - 1))) } }) (codes "1" ∷ []))
+unfolding understood everything
+thousandth_claim_is = record { is = λ s. refl; plain = λ s. (refl, refl); unlisted = λ s. refl }
 
 pub numbered_entries_is : Means SELECT_NUMBERED_ENTRIES.now (Select (record { lets = []; body = from_table 19 of_number_tests (col 1 2 ∷ col 1 3 ∷ col 1 4 ∷ col 1 5 ∷ col 1 6 ∷ col 1 7 ∷ []) (upwards 2 ∷ upwards 4 ∷ upwards 5 ∷ upwards 6 ∷ []) no_limit }) (codes "number" ∷ codes "asn" ∷ codes "family" ∷ codes "lo" ∷ codes "len" ∷ codes "max" ∷ []))
 unfolding understood everything

@@ -52,7 +52,8 @@ module _ (tree : ℕ) (tests shown : List Term) (order : List (Term × Key)) (li
   abbrev query : Query
   query = from_table tree tests shown order limit
 
-  outputs : (a : IsAnswer query (overlay db []) params rows) → IsPermutation (map (λ r. output query (params ∷ r ∷ [])) (filter (picks params tests) (db tree))) a.ordered
+  -- what the rows are sorted by beside what they show, before LIMIT
+  pub outputs : (a : IsAnswer query (overlay db []) params rows) → IsPermutation (map (λ r. output query (params ∷ r ∷ [])) (filter (picks params tests) (db tree))) a.ordered
   outputs a =
       let matches = a.grouped ∙ matched (picks params tests) (λ r. params ∷ r ∷ []) (overlay db [] tree) in
       let kept = a.distinct ∙ ap (map (output query)) matches ∙ map-map (output query) (λ r. params ∷ r ∷ []) _ ∙ ap (λ t. map (λ r. output query (params ∷ r ∷ [])) (filter (picks params tests) t)) (plain_trees db tree) in

@@ -19,7 +19,7 @@ use Rattle.tables.specs.Tables.{desk_tables, desk_beside, OverDesk}
 use Rattle.tables.specs.declared.exception.TheConstants.{DELETE_EXCEPTIONS, INSERT_EXCEPTION, SELECT_ASSERTIONS, SELECT_FILES, SELECT_FILTERS}
 use Rattle.tables.specs.declared.granted.TheConstants.{DELETE_GRANT, INSERT_GRANT, SELECT_HOLDER_GRANTS}
 use Rattle.tables.specs.declared.holder.TheConstants.{INSERT_HOLDER, SELECT_COUNTERS, UPDATE_CREATED, UPDATE_GRANTED}
-use Rattle.tables.specs.declared.holding.TheConstants.{DELETE_HOLDING, INSERT_HOLDING, SELECT_HOLDER_SPANS, SELECT_OVERLAP}
+use Rattle.tables.specs.declared.holding.TheConstants.{DELETE_HOLDING, INSERT_HOLDING, SELECT_HOLDER_SPANS, SELECT_OVERLAP, SELECT_RUN_BELOW}
 use Rattle.tables.specs.declared.meta.TheConstants.{INSERT_SCHEMA, SCHEMA}
 use Rattle.tables.specs.declared.operator.TheConstants.{INSERT_OPERATOR}
 use Rattle.tables.specs.declared.pool.TheConstants.{INSERT_PREFIX}
@@ -117,6 +117,17 @@ overlap_tests = equals 1 0 ∷ op2 (Compare Le Binary) (col 1 2) (col 0 2) ∷ o
 pub overlap_is : Means SELECT_OVERLAP.now (Select (record { lets = []; body = from_table 8 overlap_tests (lit (Int (pos 1)) ∷ []) [] (lit (Int (pos 1))) }) (codes "1" ∷ []))
 unfolding understood everything
 overlap_is = record { is = λ s. refl; plain = λ s. (refl, refl); unlisted = λ s. refl }
+
+-- the rows of the runs of the family ?1 that begin at or before the address ?2, the last one first
+abbrev pub below_tests : List Term
+below_tests = equals 1 0 ∷ op2 (Compare Le Binary) (col 1 2) (col 0 1) ∷ []
+
+abbrev pub last_first : List (Term × Key)
+last_first = (col 1 2, record { collation = Binary; descending = true }) ∷ []
+
+pub run_below_is : Means SELECT_RUN_BELOW.now (Select (record { lets = []; body = from_table 8 below_tests (col 1 1 ∷ col 1 2 ∷ col 1 3 ∷ col 1 4 ∷ []) last_first (lit (Int (pos 1))) }) (codes "family" ∷ codes "lo" ∷ codes "hi" ∷ codes "holder" ∷ []))
+unfolding understood everything
+run_below_is = record { is = λ s. refl; plain = λ s. (refl, refl); unlisted = λ s. refl }
 
 pub take_exceptions_is : Means DELETE_EXCEPTIONS.now (Delete 7 (record { lets = []; body = from_table 15 [] (col 1 0 ∷ []) [] no_limit }))
 unfolding understood everything

@@ -37,6 +37,11 @@ pub const SELECT_ALL_SPANS: &str = "SELECT family, lo, hi, rowid FROM holding OR
 pub const SELECT_OVERLAP: &str = "\
     SELECT 1 FROM holding WHERE family = ?1 AND lo <= ?3 AND hi >= ?2 LIMIT 1";
 
+/// The last run of a family that begins at or before `?2`, and its holder.
+pub const SELECT_RUN_BELOW: &str = "\
+    SELECT family, lo, hi, holder FROM holding WHERE family = ?1 AND lo <= ?2 \
+    ORDER BY lo DESC LIMIT 1";
+
 /// A row of the table, with the bytes of the run's first and last address.
 pub fn holding_values<'a>(
     holder: &'a Name,

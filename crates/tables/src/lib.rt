@@ -25,7 +25,8 @@ pub use authorizations::auths_of;
 pub use cells::{address_bytes, family_number, name_values, number_values, prefix_values};
 pub use claim::{
     CREATE_CLAIM, Claim, DELETE_CLAIM, INSERT_CLAIM, SELECT_ALL_CLAIMS, SELECT_CLAIMS_IN_FORCE,
-    SELECT_HOLDER_CLAIMS, SELECT_NUMBERED_CLAIM, UPDATE_CLAIM, claim_of, claim_values,
+    SELECT_HOLDER_CLAIMS, SELECT_NUMBERED_CLAIM, SELECT_THOUSANDTH_CLAIM, UPDATE_CLAIM, claim_of,
+    claim_values,
 };
 pub use decode::cell;
 pub use entry::{
@@ -49,7 +50,7 @@ pub use holder::{
 };
 pub use holding::{
     CREATE_HOLDING, CREATE_HOLDING_INDEX, DELETE_HOLDING, INSERT_HOLDING, SELECT_ALL_SPANS,
-    SELECT_HOLDER_SPANS, SELECT_OVERLAP, holding_values,
+    SELECT_HOLDER_SPANS, SELECT_OVERLAP, SELECT_RUN_BELOW, holding_values,
 };
 pub use meta::{CREATE_META, INSERT_SCHEMA, SCHEMA, SELECT_SCHEMA, shows_schema};
 pub use names::has_names;

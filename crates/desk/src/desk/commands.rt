@@ -207,8 +207,9 @@ impl<S: Alter> Desk<S> {
         ensures taken { IfOk result (λ taken. OfRows S.Store self.old self.new (λ history.
             ReportsTaken history command.now taken)) }
     {
+        store::laws::runs_of_histories_are_apart();
         match command {
-            Command::Delegate { prefix, .. } => self.store.overlapping(prefix),
+            Command::Delegate { prefix, .. } => self.store.is_taken(prefix),
             _ => Ok(false),
         }
     }

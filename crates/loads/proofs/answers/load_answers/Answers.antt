@@ -17,7 +17,7 @@ pub returns-then-not-holds-clause-found : goal.returns-then-not-holds-clause-fou
 returns-then-not-holds-clause-found g c clean charter all holds =
     let old = state g.S.Store c.args.conn.now in
     let mid = state g.S.Store c.load_created.new.conn in
-    let before : HasCleanDisk mid = omega (arith, clean, c.load_held.ensures.asked.survives.clean) in
+    let before : HasCleanDisk mid = omega (arith, clean, c.are_held.ensures.asked.survives.clean) in
     let read = (c.in_ok-created.ensures.asked.same before).0.now_is in
     record {
       created = c.in_ok-created.ensures.found before charter all holds;
@@ -31,9 +31,9 @@ returns-then-answers-clause-found g c clean charter all holds =
     let o = all.of_holder c.args.holder.now in
     let old = state g.S.Store c.args.conn.now in
     let mid = state g.S.Store c.load_created.new.conn in
-    let mid_2 = state g.S.Store c.load_held.new.conn in
+    let mid_2 = state g.S.Store c.are_held.new.conn in
     let before_2 : HasCleanDisk mid_2 = omega (arith, clean, c.some_given.ensures.asked.survives.clean) in
-    let before : HasCleanDisk mid = omega (arith, before_2, c.load_held.ensures.asked.survives.clean) in
+    let before : HasCleanDisk mid = omega (arith, before_2, c.are_held.ensures.asked.survives.clean) in
     let read = (c.in_ok-created.ensures.asked.same before).0.now_is in
     let read_2 = (c.in_ok-holds.ensures.asked.same before_2).0.now_is in
     let made = c.in_ok-created.ensures.found before charter all holds in
@@ -51,11 +51,11 @@ pub returns-in_err-answers-2-clause-schema : goal.returns-in_err-answers-2-claus
 returns-in_err-answers-2-clause-schema g c clean is =
     let old = state g.S.Store c.args.conn.now in
     let mid = state g.S.Store c.load_created.new.conn in
-    let mid_2 = state g.S.Store c.load_held.new.conn in
+    let mid_2 = state g.S.Store c.are_held.new.conn in
     let mid_3 = state g.S.Store c.some_given.new.conn in
     let before_3 : HasCleanDisk mid_3 = omega (arith, clean, c.load_full.ensures.asked.survives.clean) in
     let before_2 : HasCleanDisk mid_2 = omega (arith, before_3, c.some_given.ensures.asked.survives.clean) in
-    let before : HasCleanDisk mid = omega (arith, before_2, c.load_held.ensures.asked.survives.clean) in
+    let before : HasCleanDisk mid = omega (arith, before_2, c.are_held.ensures.asked.survives.clean) in
     let read = c.in_ok-created.ensures.asked.same before in
     refused_before (λ all. ¬ FitIfAny (all.of_holder c.args.holder.now)) old mid_3 read.0.was_open
     ((c.in_ok-answers.ensures.asked.same before_3).0.now_is ∙ (c.in_ok-holds.ensures.asked.same before_2).0.now_is ∙ read.0.now_is)
@@ -66,11 +66,11 @@ returns-clause-found g c clean charter all holds =
     let o = all.of_holder c.args.holder.now in
     let old = state g.S.Store c.args.conn.now in
     let mid = state g.S.Store c.load_created.new.conn in
-    let mid_2 = state g.S.Store c.load_held.new.conn in
+    let mid_2 = state g.S.Store c.are_held.new.conn in
     let mid_3 = state g.S.Store c.some_given.new.conn in
     let before_3 : HasCleanDisk mid_3 = omega (arith, clean, c.load_full.ensures.asked.survives.clean) in
     let before_2 : HasCleanDisk mid_2 = omega (arith, before_3, c.some_given.ensures.asked.survives.clean) in
-    let before : HasCleanDisk mid = omega (arith, before_2, c.load_held.ensures.asked.survives.clean) in
+    let before : HasCleanDisk mid = omega (arith, before_2, c.are_held.ensures.asked.survives.clean) in
     let read = (c.in_ok-created.ensures.asked.same before).0.now_is in
     let read_2 = (c.in_ok-holds.ensures.asked.same before_2).0.now_is ∙ read in
     let read_3 = (c.in_ok-answers.ensures.asked.same before_3).0.now_is ∙ read_2 in

@@ -21,7 +21,7 @@ returns-in_err-change-clause-decides g c =
     rw (← c.self.view_is)
     (refuses g.S.Store a.day a.caller.now (Create a.holder.now a.terms.now) (record { store = old; kept = c.self.inside.kept }) _ c.in_err-change.field-0.0 c.from_residual-in_err-change.result c.from_residual-in_err-change.ensures.1
     (λ clean history legal held. c.in_err-change.ensures.answer old.charter history legal
-    (rw c.deref.ensures.value (law old.charter history a.holder.now a.terms.now (held.0.of_holder a.holder.now) c.in_ok-loaded.loaded legal (held.1.holders a.holder.now) (c.in_ok-loaded.ensures.found clean held.0 held.2)))))
+    (rw c.deref.ensures.value (law old.charter history a.holder.now a.terms.now held.0 c.in_ok-loaded.loaded legal held.1 (c.in_ok-loaded.ensures.found clean held.0 held.2)))))
 
 pub returns-clause-decides : goal.returns-clause-decides
 returns-clause-decides g c =
@@ -36,6 +36,6 @@ returns-clause-decides g c =
           ((c.in_ok-loaded.ensures.found clean rows holds).answers.holds.0 change.held);
       answer = λ clean history legal held.
           change.answer old.charter history legal
-          (rw c.deref.ensures.value (law old.charter history a.holder.now a.terms.now (held.0.of_holder a.holder.now) c.in_ok-loaded.loaded legal (held.1.holders a.holder.now) (c.in_ok-loaded.ensures.found clean held.0 held.2)));
+          (rw c.deref.ensures.value (law old.charter history a.holder.now a.terms.now held.0 c.in_ok-loaded.loaded legal held.1 (c.in_ok-loaded.ensures.found clean held.0 held.2)));
       never_done = tt;
     })
