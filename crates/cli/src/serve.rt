@@ -14,6 +14,7 @@ pub use connections::{AnswerConnections, Connections, Incoming, Network};
 use desk::Desk;
 use log::log_fault;
 pub use log::{Log, Printed};
+use requests::Routes;
 use sqlite::Alter;
 use std::alloc::Global;
 use web::Failed;
@@ -41,12 +42,15 @@ pub fn serve_on<C: Connections, S: Alter, L: Log>(
     ensures listens { C.cannot_listen connections.new ≡ C.cannot_listen connections.old }
     ensures later { IsLaterDesk S.Store desk.old desk.new }
 {
-    answer_each(alloc, connections, count, desk, day, log)
+    // Where there is no memory for them now, each connection tries to make its own.
+    let routes = Routes::new(alloc).ok();
+    answer_each(alloc, routes.as_ref(), connections, count, desk, day, log)
 }
 
 /// Has this many connections answered in turn. The log gets a line for each that failed.
 fn answer_each<C: Connections, E: AnswerConnections, L: Log>(
     alloc: Global,
+    routes: Option<&Routes>,
     connections: &mut C,
     count: u32,
     engine: &mut E,
@@ -64,7 +68,7 @@ fn answer_each<C: Connections, E: AnswerConnections, L: Log>(
 {
     let mut served = 0;
     while served < count {
-        let Ok(ended) = connections.answer_next(alloc, engine, day) else {
+        let Ok(ended) = connections.answer_next(alloc, routes, engine, day) else {
             return Err(Failed);
         };
         served += 1;

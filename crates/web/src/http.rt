@@ -17,6 +17,7 @@ mod response;
 use addr::Day;
 use desk::Desk;
 use reading::read_next;
+use requests::Routes;
 use response::respond;
 use sqlite::Alter;
 use std::alloc::Global;
@@ -86,16 +87,17 @@ pub fn serve_one<S: Source, D: Drain, A: Alter>(
 
     ensures desk { IsLaterDesk A.Store desk.old desk.new }
 {
-    match serve_request(alloc, source, drain, desk, day) {
+    match serve_request(alloc, None, source, drain, desk, day) {
         Ok(_) => Ok(()),
         Err(fault) => Err(fault),
     }
 }
 
 /// Answers the one request of a connection as [`serve_one`] does, and returns how much of it was
-/// read.
+/// read. The routes, which all connections share, are made for this one where there are none.
 pub fn serve_request<S: Source, D: Drain, A: Alter>(
     alloc: Global,
+    routes: Option<&Routes>,
     source: &mut S,
     drain: &mut D,
     desk: &mut Desk<A>,
@@ -124,7 +126,7 @@ pub fn serve_request<S: Source, D: Drain, A: Alter>(
         → KeepsRows A.Store desk.old desk.new }
     ensures desk { IsLaterDesk A.Store desk.old desk.new }
 {
-    let Some(next) = read_next(alloc, source, day) else {
+    let Some(next) = read_next(alloc, routes, source, day) else {
         return Err(WebFault::Read);
     };
     let Ok(()) = respond(alloc, drain, desk, &next) else {

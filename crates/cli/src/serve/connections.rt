@@ -11,6 +11,7 @@ use crate::serve::peer::{Peer, Socket};
 use crate::serve::timed::Timed;
 use addr::Day;
 use desk::Desk;
+use requests::Routes;
 use sqlite::Alter;
 use std::alloc::Global;
 use std::io::{self, BufReader, ErrorKind, Read, Write};
@@ -23,10 +24,12 @@ pub trait AnswerConnections {
     // What may pass on a connection on a day, and which state that leaves.
     ghost answers: { ℕ → Self → Transcript → Self → Type 0 };
 
-    /// Answers the request of a new connection, and returns how much of it was read.
+    /// Answers the request of a new connection, and returns how much of it was read. The routes
+    /// are those that all connections share, where there was memory for them.
     fn answer<S: Source, D: Drain>(
         &mut self,
         alloc: Global,
+        routes: Option<&Routes>,
         source: &mut S,
         drain: &mut D,
         day: Day,
@@ -48,11 +51,12 @@ impl<A: Alter> AnswerConnections for Desk<A> {
     fn answer<S: Source, D: Drain>(
         &mut self,
         alloc: Global,
+        routes: Option<&Routes>,
         source: &mut S,
         drain: &mut D,
         day: Day,
     ) -> Result<Extent, WebFault> {
-        serve_request(alloc, source, drain, self, day)
+        serve_request(alloc, routes, source, drain, self, day)
     }
 }
 
@@ -77,6 +81,7 @@ pub trait Connections {
     fn answer_next<E: AnswerConnections>(
         &mut self,
         alloc: Global,
+        routes: Option<&Routes>,
         engine: &mut E,
         day: Day,
     ) -> Result<Result<Extent, WebFault>, Failed>
@@ -140,6 +145,7 @@ impl<R: Clock, N: Network> Connections for Incoming<'_, R, N> {
     fn answer_next<E: AnswerConnections>(
         &mut self,
         alloc: Global,
+        routes: Option<&Routes>,
         engine: &mut E,
         day: Day,
     ) -> Result<Result<Extent, WebFault>, Failed> {
@@ -154,7 +160,7 @@ impl<R: Clock, N: Network> Connections for Incoming<'_, R, N> {
         let began = Instant::now(self.clock).ok();
         let from = Socket::new(self.clock, &stream, began);
         let to = Socket::new(self.clock, &stream, began);
-        let ended = answer_in_time(alloc, from, to, engine, day);
+        let ended = answer_in_time(alloc, routes, from, to, engine, day);
         if let Ok(Extent::Part) = ended {
             let_response_arrive(self.clock, &stream, began);
         }
@@ -196,6 +202,7 @@ fn discard<S: Source>(source: &mut S)
 /// the stream than the request may be taken into a buffer, which is never looked at.
 pub(crate) fn answer_in_time<P: Peer + Drop, Q: Peer + Drop, E: AnswerConnections>(
     alloc: Global,
+    routes: Option<&Routes>,
     from: P,
     to: Q,
     engine: &mut E,
@@ -208,14 +215,15 @@ pub(crate) fn answer_in_time<P: Peer + Drop, Q: Peer + Drop, E: AnswerConnection
     let to = Timed::new(to);
     // A head is read a few bytes at a time, which without a buffer are as many calls of the system.
     if let Ok(buffered) = BufReader::new(alloc, &mut from) {
-        return answer_between(alloc, buffered, to, engine, day);
+        return answer_between(alloc, routes, buffered, to, engine, day);
     }
-    answer_between(alloc, from, to, engine, day)
+    answer_between(alloc, routes, from, to, engine, day)
 }
 
 /// Has the connection answered that is read from one stream and written to the other.
 fn answer_between<R: Read + Drop, W: Write + Drop, E: AnswerConnections>(
     alloc: Global,
+    routes: Option<&Routes>,
     from: R,
     to: W,
     engine: &mut E,
@@ -226,5 +234,5 @@ fn answer_between<R: Read + Drop, W: Write + Drop, E: AnswerConnections>(
 {
     let mut source = Device::new(from);
     let mut drain = Device::new(to);
-    engine.answer(alloc, &mut source, &mut drain, day)
+    engine.answer(alloc, routes, &mut source, &mut drain, day)
 }

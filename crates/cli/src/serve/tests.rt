@@ -17,6 +17,7 @@ use addr::Day;
 use clocks::{Sending, Slow};
 use command_line::charter_from;
 use desk::Desk;
+use requests::Routes;
 use sqlite::MemStore;
 use std::alloc::Global;
 use std::cell::Cell;
@@ -359,7 +360,7 @@ fn answer_trickling(
     let mut sent = Vec::new(rt.alloc());
     let from = Trickle::new(&reading, most, TWO_REQUESTS, unread, &mut sent)?;
     let to = Trickle::new(&writing, most, b"", &none, taken)?;
-    Ok(answer_in_time(rt.alloc(), from, to, desk, day))
+    Ok(answer_in_time(rt.alloc(), None, from, to, desk, day))
 }
 
 #[test]
@@ -411,6 +412,7 @@ impl Connections for Clients<'_> {
     fn answer_next<E: AnswerConnections>(
         &mut self,
         alloc: Global,
+        routes: Option<&Routes>,
         engine: &mut E,
         day: Day,
     ) -> Result<Result<Extent, WebFault>, Failed> {
@@ -423,10 +425,10 @@ impl Connections for Clients<'_> {
         let room = (*room).min(taken.len());
         let mut drain = Device::new(&mut taken[..room]);
         let Some(text) = text else {
-            return Ok(engine.answer(alloc, &mut Device::new(Reset), &mut drain, day));
+            return Ok(engine.answer(alloc, routes, &mut Device::new(Reset), &mut drain, day));
         };
         let mut source = Device::new(text.as_bytes());
-        Ok(engine.answer(alloc, &mut source, &mut drain, day))
+        Ok(engine.answer(alloc, routes, &mut source, &mut drain, day))
     }
 }
 
@@ -489,6 +491,7 @@ fn a_line_for_each_fault_and_no_others(rt: HostRuntime) -> Result<(), Fail> {
         assert_eq!(rt;
             answer_each(
                 rt.alloc(),
+                None,
                 &mut connections,
                 count,
                 &mut desk,
@@ -539,7 +542,15 @@ fn a_line_that_cannot_be_written_is_lost(rt: HostRuntime) -> Result<(), Fail> {
     };
     let mut log = Printed::new(&mut errors);
     assert_eq!(rt;
-        answer_each(rt.alloc(), &mut connections, 2, &mut desk, day, &mut log),
+        answer_each(
+            rt.alloc(),
+            None,
+            &mut connections,
+            2,
+            &mut desk,
+            day,
+            &mut log
+        ),
         Ok(())
     );
     assert_eq!(rt;

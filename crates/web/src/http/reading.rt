@@ -38,8 +38,14 @@ impl Next {
     }
 }
 
-/// Reads what a connection asks for; `None` where the source ended or failed before its end.
-pub(super) fn read_next<S: Source>(alloc: Global, source: &mut S, day: Day) -> Option<Next>
+/// Reads what a connection asks for; `None` where the source ended or failed before its end. The
+/// routes are made for this call where there are none.
+pub(super) fn read_next<S: Source>(
+    alloc: Global,
+    routes: Option<&Routes>,
+    source: &mut S,
+    day: Day,
+) -> Option<Next>
     ensures some { IfSome result (λ next. (bytes : List ℕ)
         × Gives bytes (S.handed_out source.old) (S.handed_out source.new)
         × ReadsNext day bytes next) }
@@ -48,16 +54,32 @@ pub(super) fn read_next<S: Source>(alloc: Global, source: &mut S, day: Day) -> O
         × IsCutShort bytes
         × IsOver (S.has_ended source.new) (S.has_failed source.new) }
 {
+    if let Some(routes) = routes {
+        return read_by(alloc, routes, source, day);
+    }
     // Before the head is read, so that nothing that its bytes decide can be out of memory.
-    let Ok(routes) = Routes::new(alloc) else {
-        return Some(Next::NotRead);
-    };
+    match Routes::new(alloc) {
+        Ok(routes) => read_by(alloc, &routes, source, day),
+        Err(_) => Some(Next::NotRead),
+    }
+}
+
+/// Reads what a connection asks for by its head, and by its body where one is announced.
+fn read_by<S: Source>(alloc: Global, routes: &Routes, source: &mut S, day: Day) -> Option<Next>
+    ensures some { IfSome result (λ next. (bytes : List ℕ)
+        × Gives bytes (S.handed_out source.old) (S.handed_out source.new)
+        × ReadsNext day bytes next) }
+    ensures none { result ≡ None → (bytes : List ℕ)
+        × Gives bytes (S.handed_out source.old) (S.handed_out source.new)
+        × IsCutShort bytes
+        × IsOver (S.has_ended source.new) (S.has_failed source.new) }
+{
     let head = match read_head(source) {
         Ok(head) => head,
         Err(HeadFault::TooLong) => return Some(Next::Refused(HttpRefusal::BadRequest)),
         Err(HeadFault::CutShort) => return None,
     };
-    match read_request_head(&routes, head.as_slice()) {
+    match read_request_head(routes, head.as_slice()) {
         Ok(request) => read_rest(alloc, source, day, &request),
         Err(refusal) => Some(Next::Refused(refusal)),
     }

@@ -7,6 +7,7 @@ use crate::serve::connections::{AnswerConnections, Connections, Incoming};
 use crate::serve::peer::Socket;
 use crate::serve::timed::Timed;
 use addr::Day;
+use requests::Routes;
 use std::alloc::Global;
 use std::io::{self, Read, Write};
 use std::net::{TcpListener, TcpStream};
@@ -115,6 +116,7 @@ impl AnswerConnections for Late<'_> {
     fn answer<S: Source, D: Drain>(
         &mut self,
         _alloc: Global,
+        _routes: Option<&Routes>,
         source: &mut S,
         drain: &mut D,
         _day: Day,
@@ -165,7 +167,7 @@ fn answer_late(
     let mut connections = Incoming::new(late.clock, callers, "127.0.0.1:0");
     connections.listen()?;
     let start = Instant::now(rt)?;
-    let ended = connections.answer_next(rt.alloc(), late, day);
+    let ended = connections.answer_next(rt.alloc(), None, late, day);
     assert!(test; start.elapsed(rt)? < Duration::from_secs(10));
     Ok(ended)
 }
@@ -236,7 +238,7 @@ fn time_begins_once_a_connection_is_accepted(rt: HostRuntime) -> Result<(), Fail
     let mut network = Bound(Some(listener));
     let mut connections = Incoming::new(&clock, &mut network, "");
     connections.listen()?;
-    let ended = connections.answer_next(rt.alloc(), &mut late, day);
+    let ended = connections.answer_next(rt.alloc(), None, &mut late, day);
     assert_eq!(rt; ended, Err(Failed));
     assert_eq!(rt; clock.readings(), 0);
     Ok(())
