@@ -12,10 +12,11 @@ enum { ONE_THREAD = SQLITE_OPEN_READWRITE | SQLITE_OPEN_CREATE | SQLITE_OPEN_NOM
 static sqlite3 *db;
 
 static sqlite3_stmt *begin, *commit, *insert_holder, *insert_holding, *insert_grant, *insert_claim, *insert_entry;
-static sqlite3_stmt *set_grants, *set_auths, *delete_entries, *delete_claim;
+static sqlite3_stmt *set_grants, *set_auths, *delete_holding, *delete_entries, *delete_claim;
 static sqlite3_stmt *counters_of, *holdings_of, *grants_of, *claims_of, *entries_of;
-static sqlite3_stmt *scopes_of, *claim_of, *entries_of_claim, *run_at, *same_entry, *last_that_may_be;
-static sqlite3_stmt *some_overlap, *in_force, *exceptions;
+static sqlite3_stmt *scopes_of, *claim_of, *entries_of_claim, *near_entries, *run_at, *same_entry;
+static sqlite3_stmt *operator_of, *claims_past;
+static sqlite3_stmt *in_force, *exceptions;
 
 _Noreturn void fail(const char *what)
 {
@@ -43,6 +44,7 @@ static void prepare_all(void)
                             " VALUES (?1, ?2, ?3, ?4, ?5, ?6, ?7)");
     set_grants = prepared("UPDATE holder SET grants = ?2 WHERE name = ?1");
     set_auths = prepared("UPDATE holder SET auths = ?2 WHERE name = ?1");
+    delete_holding = prepared("DELETE FROM holding WHERE family = ?1 AND lo = ?2");
     delete_entries = prepared("DELETE FROM entry WHERE holder = ?1 AND number = ?2");
     delete_claim = prepared("DELETE FROM claim WHERE holder = ?1 AND number = ?2");
     counters_of = prepared("SELECT grants, auths FROM holder WHERE name = ?1");
@@ -57,11 +59,13 @@ static void prepare_all(void)
     claim_of = prepared("SELECT number, asn, opens, ends FROM claim WHERE holder = ?1 AND number = ?2");
     entries_of_claim = prepared("SELECT number, asn, family, lo, len, max FROM entry"
                                 " WHERE holder = ?1 AND number = ?2 ORDER BY family, lo, len");
-    run_at = prepared("SELECT hi, holder FROM holding WHERE family = ?1 AND lo <= ?2 ORDER BY lo DESC LIMIT 1");
+    near_entries = prepared("SELECT number, family, lo, len FROM entry WHERE holder = ?1 AND family = ?2"
+                            " AND (lo >= ?3 OR len < ?4) AND lo <= ?5 ORDER BY number");
+    operator_of = prepared("SELECT 1 FROM operator WHERE name = ?1");
+    run_at = prepared("SELECT lo, hi, holder FROM holding WHERE family = ?1 AND lo <= ?2 ORDER BY lo DESC LIMIT 1");
     same_entry = prepared("SELECT 1 FROM entry"
                           " WHERE asn = ?1 AND family = ?2 AND lo = ?3 AND len = ?4 AND max = ?5 AND holder = ?6");
-    last_that_may_be = prepared("SELECT 1 FROM claim WHERE holder = ?1 LIMIT 1 OFFSET ?2");
-    some_overlap = prepared("SELECT 1 FROM holding WHERE family = ?1 AND lo <= ?3 AND hi >= ?2 LIMIT 1");
+    claims_past = prepared("SELECT 1 FROM claim WHERE holder = ?1 LIMIT 1 OFFSET ?2");
     in_force = prepared("SELECT entry.asn, family, lo, len, max FROM claim JOIN entry USING (holder, number)"
                         " WHERE opens <= ?1 AND ends >= ?1");
     exceptions = prepared("SELECT 1 FROM slurm LIMIT 1");
@@ -339,15 +343,49 @@ unsigned find_auths(const char *holder, struct auth *entries)
     return count;
 }
 
+unsigned find_near(const char *holder, const struct prefix *prefix, address last, struct auth *entries)
+{
+    unsigned count = 0;
+    bind_text(near_entries, 1, holder);
+    bind_prefix(near_entries, 2, prefix);
+    bind_address(near_entries, 5, last);
+    while (has_row(near_entries)) {
+        if (count == MAX_AUTHS * MAX_ENTRIES)
+            fail("too many entries");
+        entries[count].number = sqlite3_column_int64(near_entries, 0);
+        entries[count++].prefix = prefix_in(near_entries, 1);
+    }
+    return count;
+}
+
+int is_operator(const char *name)
+{
+    bind_text(operator_of, 1, name);
+    return has_any(operator_of);
+}
+
+int is_registered(const char *holder)
+{
+    bind_text(counters_of, 1, holder);
+    return has_any(counters_of);
+}
+
 /* Runs do not overlap, so an address is in the last run that begins at or before it, if in any. */
-int is_held(const char *holder, int family, address first, address last)
+int find_run(const char *holder, int family, address within, struct run *run)
 {
     bind_number(run_at, 1, family);
-    bind_address(run_at, 2, first);
-    int found = has_row(run_at) && last <= address_in(run_at, 0) &&
-                !strcmp((const char *)sqlite3_column_text(run_at, 1), holder);
+    bind_address(run_at, 2, within);
+    int found = has_row(run_at) && !strcmp((const char *)sqlite3_column_text(run_at, 2), holder);
+    if (found)
+        *run = (struct run){family, address_in(run_at, 0), address_in(run_at, 1)};
     sqlite3_reset(run_at);
-    return found;
+    return found && within <= run->last;
+}
+
+int is_held(const char *holder, int family, address first, address last)
+{
+    struct run run;
+    return find_run(holder, family, first, &run) && last <= run.last;
 }
 
 int has_same(const char *holder, const struct auth *auth)
@@ -368,19 +406,20 @@ uint32_t made_at(const char *holder)
     return made;
 }
 
-int is_full(const char *holder)
+int has_as_many(const char *holder, int64_t count)
 {
-    bind_text(last_that_may_be, 1, holder);
-    bind_number(last_that_may_be, 2, MAX_AUTHS - 1);
-    return has_any(last_that_may_be);
+    bind_text(claims_past, 1, holder);
+    bind_number(claims_past, 2, count - 1);
+    return count <= 0 || has_any(claims_past);
 }
 
-int is_overlapped(int family, address first, address last)
+int is_taken(int family, address first, address last)
 {
-    bind_number(some_overlap, 1, family);
-    bind_address(some_overlap, 2, first);
-    bind_address(some_overlap, 3, last);
-    return has_any(some_overlap);
+    bind_number(run_at, 1, family);
+    bind_address(run_at, 2, last);
+    int taken = has_row(run_at) && first <= address_in(run_at, 1);
+    sqlite3_reset(run_at);
+    return taken;
 }
 
 void ask_vrps(int64_t day)
@@ -428,6 +467,13 @@ void put_run(const char *holder, const struct run *run)
     execute(insert_holding);
 }
 
+void take_run(const struct run *run)
+{
+    bind_number(delete_holding, 1, run->family);
+    bind_address(delete_holding, 2, run->first);
+    execute(delete_holding);
+}
+
 void put_grant(const char *holder, const struct grant *grant)
 {
     sqlite3_clear_bindings(insert_grant);
@@ -444,7 +490,7 @@ void put_grant(const char *holder, const struct grant *grant)
     execute(set_grants);
 }
 
-void put_auth(const char *holder, const struct auth *auth)
+static void insert_auth(const char *holder, const struct auth *auth)
 {
     bind_text(insert_claim, 1, holder);
     bind_number(insert_claim, 2, auth->number);
@@ -458,9 +504,20 @@ void put_auth(const char *holder, const struct auth *auth)
     bind_prefix(insert_entry, 4, &auth->prefix);
     bind_number(insert_entry, 7, auth->max);
     execute(insert_entry);
+}
+
+void put_auths(const char *holder, const struct auth *auths, unsigned count)
+{
+    for (unsigned i = 0; i < count; i++)
+        insert_auth(holder, &auths[i]);
     bind_text(set_auths, 1, holder);
-    bind_number(set_auths, 2, auth->number);
+    bind_number(set_auths, 2, auths[count - 1].number);
     execute(set_auths);
+}
+
+void put_auth(const char *holder, const struct auth *auth)
+{
+    put_auths(holder, auth, 1);
 }
 
 void take_auth(const char *holder, uint32_t number)

@@ -73,6 +73,16 @@ unsigned find_auth(const char *holder, uint32_t number, struct auth *entries);
 /* The same of all authorizations of a holder, by rising number. */
 unsigned find_auths(const char *holder, struct auth *entries);
 
+/* The entries of a holder that begin in the prefix, whose last address is given, or before it and are shorter: of each
+ * its number and prefix, by rising number; how many. All that share an address with the prefix are among them. */
+unsigned find_near(const char *holder, const struct prefix *prefix, address last, struct auth *entries);
+
+int is_operator(const char *name);
+int is_registered(const char *holder);
+
+/* Whether the holder has the address; then the run is the one that has it. */
+int find_run(const char *holder, int family, address within, struct run *run);
+
 /* Whether the holder has each address from the first to the last one. */
 int is_held(const char *holder, int family, address first, address last);
 
@@ -82,11 +92,11 @@ int has_same(const char *holder, const struct auth *auth);
 /* How many authorizations were made at the holder; 0 also where it is not registered. */
 uint32_t made_at(const char *holder);
 
-/* Whether the holder has as many authorizations as it may. */
-int is_full(const char *holder);
+/* Whether the holder has so many authorizations, or more. */
+int has_as_many(const char *holder, int64_t count);
 
 /* Whether an address from the first to the last one is held. */
-int is_overlapped(int family, address first, address last);
+int is_taken(int family, address first, address last);
 
 /* Asks for the VRPs of a day. Each call of next_vrp then gives one, in no order; 0 after the last one. */
 void ask_vrps(int64_t day);
@@ -100,10 +110,12 @@ void commit_change(void);
 
 void put_holder(const char *holder);
 void put_run(const char *holder, const struct run *run);
+void take_run(const struct run *run);
 
-/* Each sets the holder's counter to its number too. */
+/* Each sets the holder's counter to its number too, of several to the last one's. */
 void put_grant(const char *holder, const struct grant *grant);
 void put_auth(const char *holder, const struct auth *auth);
+void put_auths(const char *holder, const struct auth *auths, unsigned count);
 
 /* With its entries. */
 void take_auth(const char *holder, uint32_t number);

@@ -18,6 +18,7 @@
 # something could not be run.
 set -u
 . "$(dirname "${BASH_SOURCE[0]}")/../common/work.sh"
+. "$common/ports.sh"
 program=${PROGRAM:-$top/crates/cli/out/cli}
 runs=${1:-3}
 sizes=("${@:2}")
@@ -38,25 +39,6 @@ end() {
     [ -n "${BENCH_WORK:-}" ] || rm -rf "$work"
 }
 trap end EXIT
-
-# A port of 127.0.0.1 where nothing listens, and that none was given before.
-given=
-free_port() {
-    local port
-    for port in $(shuf -i 20000-30000 -n 20); do
-        [[ " $given " != *" $port "* ]] || continue
-        (: <"/dev/tcp/127.0.0.1/$port") 2>/dev/null || { given+=" $port" && free=$port && return; }
-    done
-    fail "no port is free"
-}
-
-# wait_for PORT PROCESS: until it listens there.
-wait_for() {
-    until grep -q "$(printf ':%04X 00000000:0000 0A' "$1")" /proc/net/tcp; do
-        kill -0 "$2" 2>/dev/null || fail "nothing listens on port $1"
-        sleep 0.01
-    done
-}
 
 # make_desk HOLDERS AUTHORIZATIONS: the database file desk.db, written by sqlite3.
 make_desk() {

@@ -14,6 +14,7 @@
 # where a response or a row is another, with 2 where something could not be run.
 set -u
 . "$(dirname "${BASH_SOURCE[0]}")/../common/work.sh"
+. "$common/ports.sh"
 program=${PROGRAM:-$top/crates/cli/out/cli}
 server=("$program" serve)
 if [ "${1:-}" = --only-c ]; then
@@ -39,25 +40,6 @@ end() {
     [ -n "${BENCH_WORK:-}" ] || rm -rf "$work"
 }
 trap end EXIT
-
-# A port of 127.0.0.1 where nothing listens, and that none was given before.
-free_port() {
-    local port
-    for port in $(shuf -i 20000-30000 -n 20); do
-        [[ " $given " != *" $port "* ]] || continue
-        (: <"/dev/tcp/127.0.0.1/$port") 2>/dev/null || { given+=" $port" && free=$port && return; }
-    done
-    fail "no port is free"
-}
-
-# wait_for PORT: until somebody listens there.
-wait_for() {
-    for _ in $(seq 6000); do
-        grep -q "$(printf ':%04X 00000000:0000 0A' "$1")" /proc/net/tcp && return
-        sleep 0.01
-    done
-    fail "nothing listens on port $1"
-}
 
 # The holder of this number, of the desks of this run; its name begins with that of its desk.
 holder_of() {
@@ -95,8 +77,8 @@ start_desks() {
         "${server[@]}" --db "$work/desk$desk.db" --listen "127.0.0.1:$free" --count 1000000 --day 2026-03-01 &
         started+=($!)
     done
-    for desk in "${ports[@]}"; do
-        wait_for "$desk"
+    for desk in $(seq 0 $((desks - 1))); do
+        wait_for "${ports[desk]}" "${started[desk]}"
     done
 }
 
@@ -116,7 +98,7 @@ start_front() {
         -e "s/listen .*/listen 127.0.0.1:$front;/" "$top/examples/three-desks/nginx.conf" >"$work/front/nginx.conf"
     nginx -p "$work/front" -c nginx.conf -g 'daemon off;' 2>"$work/front.err" &
     started+=($!)
-    wait_for "$front"
+    wait_for "$front" "${started[-1]}"
 }
 
 stop_all() {

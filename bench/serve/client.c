@@ -7,8 +7,8 @@
  * those called first, the payloads are asked for once, so that the server has kept the day. A line is printed: the
  * median of the times from the connection to the end of the response, of two requests to the end of the second,
  * and their mean, in nanoseconds, and a sum over all bytes of all responses. A response with an unexpected status
- * ends the client with 1. With SERVER, the process that answers, the mean of its processor time follows; then one
- * more request is made, before which the server does not end, so that its end is not in that time.
+ * ends the client with 1. With SERVER, the process that answers, the mean of its processor time follows, and after that
+ * time, so that the end of the server is not in it, the payloads are asked for once more, and are in the sum.
  *
  * The second form starts the server by its COMMAND, the path of a program and its words. The times are those from then
  * to the end of the response of a show, and the processor time is that of the whole process.
@@ -27,8 +27,9 @@
 
 #include "times.h"
 
-enum { REQUEST_SIZE = 1024, BODY_SIZE = 256, PREFIX_SIZE = 64, RESPONSE_MOST = 1 << 26 };
+enum { BODY_MOST = 1 << 20, REQUEST_MOST = BODY_MOST + 1024, PREFIX_SIZE = 64, RESPONSE_MOST = 1 << 26 };
 enum { COUNT_MOST = 10000, TRY_AGAIN_AFTER = 100 };
+enum { ROWS = 10000, ROWS_TO_MAKE = 100, CHANGES = 10, ROUTES_OF_WHAT_IF = 100 };
 
 static const int64_t TIME_TO_LISTEN = 600000000000;
 static const uint64_t NO_SUM = 14695981039346656037u;
@@ -46,40 +47,108 @@ static void put_prefix(char *prefix, unsigned holder, unsigned number, int is_lo
         snprintf(prefix, PREFIX_SIZE, "2001:db8:%x:%x::/%u", holder + 1, number, is_longer ? 80 : 64);
 }
 
-/* The body that creates this authorization. */
-static void put_auth(char *body, unsigned holder, unsigned number)
+static unsigned asn_of(unsigned number)
+{
+    return 64496 + number;
+}
+
+static unsigned max_of(unsigned number)
+{
+    return number % 5 ? 28 : 64;
+}
+
+/* Each of these appends to a body, and gives its end. */
+
+/* What creates this authorization: an object that begins so. */
+static char *put_auth(char *body, const char *start, unsigned holder, unsigned number)
 {
     char prefix[PREFIX_SIZE];
     put_prefix(prefix, holder, number, 0);
-    snprintf(body, BODY_SIZE,
-             "{\"asn\":%u,\"prefix\":\"%s\",\"max\":%u,\"from\":\"2026-01-01\",\"until\":\"2026-12-31\"}",
-             64496 + number, prefix, number % 5 ? 28 : 64);
+    return body + sprintf(body,
+                          "%s\"asn\":%u,\"prefix\":\"%s\",\"max\":%u,\"from\":\"2026-01-01\",\"until\":\"2026-12-31\"}",
+                          start, asn_of(number), prefix, max_of(number));
+}
+
+/* Of an authorization that is there the days are those of desk.awk. */
+static char *put_row(char *body, unsigned holder, unsigned number)
+{
+    static const char *const opens[] = {"2025-05-06", "2025-08-14", "2025-11-22", "2026-03-02"};
+    char prefix[PREFIX_SIZE];
+    int is_there = number <= auths;
+    put_prefix(prefix, holder, number, 0);
+    return body + sprintf(body, "AS%u,%s,%u,%s,%s\n", asn_of(number), prefix, max_of(number),
+                          is_there ? opens[number % 4] : "2026-01-01", is_there ? "2052-02-20" : "2026-12-31");
+}
+
+/* The rows name all authorizations of the holder over and over, and each hundredth one is to be made. */
+static char *put_import(char *body, unsigned holder)
+{
+    unsigned made = 0;
+    body += sprintf(body, "asn,prefix,maxlength,from,until\n");
+    for (unsigned row = 0; row < ROWS; row++)
+        if (row % (ROWS / ROWS_TO_MAKE))
+            body = put_row(body, holder, (row - made) % auths + 1);
+        else
+            body = put_row(body, holder, auths + ++made);
+    return body;
 }
 
 enum routes { AUTHORIZED, ANOTHER_AS, LONGER, ROUTES };
 
-/* The body that asks about such a route of an authorization. */
-static void put_route(char *body, unsigned holder, unsigned number, enum routes route)
+/* Such a route of an authorization. */
+static char *put_route(char *body, unsigned holder, unsigned number, enum routes route)
 {
     char prefix[PREFIX_SIZE];
     put_prefix(prefix, holder, number, route == LONGER);
-    snprintf(body, BODY_SIZE, "{\"routes\":[{\"prefix\":\"%s\",\"origin\":%u}]}", prefix,
-             64496 + number + (route == ANOTHER_AS));
+    return body + sprintf(body, "{\"prefix\":\"%s\",\"origin\":%u}", prefix,
+                          asn_of(number) + (route == ANOTHER_AS));
 }
 
-static void put_request(char *request, const char *method, const char *path, const char *body)
+static char *put_routes(char *body, unsigned holder, unsigned number, enum routes route)
+{
+    body = put_route(body + sprintf(body, "{\"routes\":["), holder, number, route);
+    return body + sprintf(body, "]}");
+}
+
+/* In turn a withdrawal, of the authorizations from this number on, and a create; and in turn routes of authorizations
+ * from this number on and of those that would be made. */
+static char *put_what_if(char *body, unsigned holder, unsigned number)
+{
+    body += sprintf(body, "{\"changes\":");
+    for (unsigned i = 0; i < CHANGES; i++)
+        if (i % 2)
+            body = put_auth(body, ",{\"do\":\"create\",", holder, auths + 1 + i / 2);
+        else
+            body += sprintf(body, "%s{\"do\":\"withdraw\",\"number\":%u}", i ? "," : "[", (number + i / 2) % auths + 1);
+    body += sprintf(body, "],\"routes\":");
+    for (unsigned i = 0; i < ROUTES_OF_WHAT_IF; i++) {
+        unsigned other = i / 2, made = auths + 1 + other % (CHANGES / 2);
+        *body++ = i ? ',' : '[';
+        body = put_route(body, holder, i % 2 ? made : (number + other) % auths + 1, i % ROUTES);
+    }
+    return body + sprintf(body, "]}");
+}
+
+/* The prefix has the subnets of the first 511 authorizations of a holder, of which each fifth is of IPv6. */
+static char *put_transfer(char *body, unsigned holder)
+{
+    return body + sprintf(body, "{\"prefix\":\"2001:db8:%x::/55\",\"giver\":\"h%u\",\"taker\":\"h%u\"}",
+                          holder + 1, holder, (holder + 1) % holders);
+}
+
+static void put_request(char *request, const char *caller, const char *method, const char *path, const char *body)
 {
     char length[96] = "";
     if (*body)
         snprintf(length, sizeof length, "Content-Type: application/json\r\nContent-Length: %zu\r\n", strlen(body));
-    snprintf(request, REQUEST_SIZE,
-             "%s %s HTTP/1.1\r\nHost: 127.0.0.1\r\nUser-Agent: client\r\nAccept: */*\r\nDesk-Caller: ann\r\n%s\r\n%s",
-             method, path, length, body);
+    snprintf(request, REQUEST_MOST,
+             "%s %s HTTP/1.1\r\nHost: 127.0.0.1\r\nUser-Agent: client\r\nAccept: */*\r\nDesk-Caller: %s\r\n%s\r\n%s",
+             method, path, caller, length, body);
 }
 
 /* CREATE makes a new authorization. SAME and FULL are denied: one that is there, and a new one where a holder has as
  * many as it may. VALIDITY asks about routes of all kinds, VALIDITY_OF_MADE about that of what CREATE made,
- * VALIDITY_OF_TAKEN about that of what WITHDRAW took away. */
+ * VALIDITY_OF_TAKEN about that of what WITHDRAW took away. IMPORT and TRANSFER are of each holder once. */
 enum kind {
     NOTHING,
     SHOW,
@@ -92,6 +161,9 @@ enum kind {
     VALIDITY,
     VALIDITY_OF_MADE,
     VALIDITY_OF_TAKEN,
+    IMPORT,
+    WHAT_IF,
+    TRANSFER,
 };
 
 struct operation {
@@ -111,6 +183,9 @@ static const struct operation operations[] = {
     {"validity", 1, VALIDITY, NOTHING},
     {"create-validity", 1, CREATE, VALIDITY_OF_MADE},
     {"withdraw-validity", 1, WITHDRAW, VALIDITY_OF_TAKEN},
+    {"import", 1, IMPORT, NOTHING},
+    {"what-if", 1, WHAT_IF, NOTHING},
+    {"transfer", 1, TRANSFER, NOTHING},
     {"first-payloads", 0, PAYLOADS, NOTHING},
     {"first-validity", 0, VALIDITY, NOTHING},
 };
@@ -119,8 +194,10 @@ static const struct operation operations[] = {
  * there are some. */
 static void make_request(char *request, enum kind kind, unsigned at)
 {
-    char path[64], body[BODY_SIZE] = "";
+    static char body[BODY_MOST];
+    char path[64];
     unsigned holder = at * 7919 % holders, number = (at % holders + at / holders) % auths + 1, made = auths + at + 1;
+    *body = 0;
     snprintf(path, sizeof path, "/holders/h%u/auths", holder);
     switch (kind) {
     case NOTHING:
@@ -128,28 +205,42 @@ static void make_request(char *request, enum kind kind, unsigned at)
     case SHOW:
     case WITHDRAW:
         snprintf(path, sizeof path, "/holders/h%u/auths/%u", holder, number);
-        put_request(request, kind == SHOW ? "GET" : "DELETE", path, body);
+        put_request(request, "ann", kind == SHOW ? "GET" : "DELETE", path, body);
         return;
     case LIST:
-        put_request(request, "GET", path, body);
+        put_request(request, "ann", "GET", path, body);
         return;
     case PAYLOADS:
-        put_request(request, "GET", "/payloads", body);
+        put_request(request, "ann", "GET", "/payloads", body);
         return;
     case VALIDITY:
-        put_route(body, holder, number, at % ROUTES);
-        put_request(request, "POST", "/validity", body);
+        put_routes(body, holder, number, at % ROUTES);
+        put_request(request, "ann", "POST", "/validity", body);
         return;
     case VALIDITY_OF_MADE:
     case VALIDITY_OF_TAKEN:
-        put_route(body, holder, kind == VALIDITY_OF_MADE ? made : number, AUTHORIZED);
-        put_request(request, "POST", "/validity", body);
+        put_routes(body, holder, kind == VALIDITY_OF_MADE ? made : number, AUTHORIZED);
+        put_request(request, "ann", "POST", "/validity", body);
         return;
     case SAME:
     case FULL:
     case CREATE:
-        put_auth(body, holder, kind == SAME ? number : made);
-        put_request(request, "POST", path, body);
+        put_auth(body, "{", holder, kind == SAME ? number : made);
+        put_request(request, "ann", "POST", path, body);
+        return;
+    case IMPORT:
+        put_import(body, holder);
+        snprintf(path, sizeof path, "/holders/h%u/imports", holder);
+        put_request(request, "ann", "POST", path, body);
+        return;
+    case WHAT_IF:
+        put_what_if(body, holder, number);
+        snprintf(path, sizeof path, "/holders/h%u/whatif", holder);
+        put_request(request, "ann", "POST", path, body);
+        return;
+    case TRANSFER:
+        put_transfer(body, holder);
+        put_request(request, "reg", "POST", "/transfers", body);
     }
 }
 
@@ -187,7 +278,7 @@ static int connected_at_last(const struct sockaddr_in *server, pid_t child)
 /* A request that is made, and its response. */
 struct exchange {
     enum kind kind;
-    char request[REQUEST_SIZE], response[RESPONSE_MOST];
+    char request[REQUEST_MOST], response[RESPONSE_MOST];
     size_t length;
 };
 
@@ -243,12 +334,13 @@ static int64_t processor_time(pid_t process)
     return now.tv_sec * 1000000000LL + now.tv_nsec;
 }
 
-/* So that the server, which ends after a number of connections, ends. */
-static void ask_once_more(const struct sockaddr_in *server)
+/* The server ends after a number of connections, so with this one. */
+static uint64_t sum_with_payloads(const struct sockaddr_in *server, uint64_t sum)
 {
     static struct exchange last;
-    prepare(&last, SHOW, 0);
+    prepare(&last, PAYLOADS, 0);
     ask(connected_or_end(server), &last);
+    return checked_sum(sum, &last);
 }
 
 static void measure(const struct sockaddr_in *server, const struct operation *operation, unsigned count, pid_t process)
@@ -279,11 +371,11 @@ static void measure(const struct sockaddr_in *server, const struct operation *op
             sum = checked_sum(sum, &second);
     }
     int64_t taken = processor_time(process) - before;
+    if (process)
+        sum = sum_with_payloads(server, sum);
     printf("%lld %lld %016llx", (long long)median(times, count), (long long)all / count, (unsigned long long)sum);
-    if (process) {
+    if (process)
         printf(" %lld", (long long)taken / count);
-        ask_once_more(server);
-    }
     puts("");
 }
 

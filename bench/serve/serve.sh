@@ -12,6 +12,7 @@
 # something could not be run.
 set -u
 . "$(dirname "${BASH_SOURCE[0]}")/../common/work.sh"
+. "$common/ports.sh"
 program=${PROGRAM:-$top/crates/cli/out/cli}
 servers='roadesk C'
 if [ "${1:-}" = --only-c ]; then
@@ -20,21 +21,12 @@ if [ "${1:-}" = --only-c ]; then
 fi
 runs=${1:-5}
 sizes=("${@:2}")
-[ ${#sizes[@]} != 0 ] || sizes=('200 5' '200 50' '200 500' '1 1000' '10000 1' '25000 4' '25000 40')
+[ ${#sizes[@]} != 0 ] || sizes=('200 5' '200 50' '200 500' '20 900' '1 1000' '10000 1' '25000 4' '25000 40')
 
 [ "$servers" = C ] || [ -x "$program" ] || fail "the program is not built: run ./roadesk build first"
 gcc -O2 -Wall -I "$common" -o "$work/serve" "$here"/{serve,texts,kept}.c "$common/tables.c" -lsqlite3 ||
     fail "serve.c was not built"
 gcc -O2 -Wall -I "$common" -o "$work/client" "$here/client.c" || fail "client.c was not built"
-
-# A port of 127.0.0.1 where nothing listens.
-free_port() {
-    local port
-    for port in $(shuf -i 20000-30000 -n 20); do
-        (: <"/dev/tcp/127.0.0.1/$port") 2>/dev/null || { echo "$port" && return; }
-    done
-    fail "no port is free"
-}
 
 # make_desk HOLDERS AUTHORIZATIONS: the database file desk.db, written by sqlite3.
 make_desk() {
@@ -48,7 +40,8 @@ declare -A programs=([roadesk]=$program [C]=$work/serve) first_words=([roadesk]=
 
 # place COUNT: a copy of desk.db, and the `words` of a server of it for so many connections at `port`.
 place() {
-    port=$(free_port) || return 2
+    free_port
+    port=$free
     rm -f "$work"/served.db*
     cp "$work/desk.db" "$work/served.db" && sync "$work/served.db" || return 2
     words=(--db "$work/served.db" --listen "127.0.0.1:$port" --count "$1" --day 2026-03-01)
@@ -155,6 +148,7 @@ turn=$servers
 : >"$work/memory.lines"
 for size in "${sizes[@]}"; do
     make_desk $size
+    read -r holders auths <<<"$size"
     for _ in $(seq "$runs"); do
         for operation in show list denied validity; do
             measure "$size" "$operation" 1000
@@ -169,6 +163,12 @@ for size in "${sizes[@]}"; do
         esac
         measure "$size" withdraw 200
         measure "$size" withdraw-validity 200
+        # A what-if withdraws five authorizations. A holder has one import, which makes 100, and one transfer.
+        [ "$auths" -lt 5 ] || measure "$size" what-if 200
+        if [ "$holders" -ge 20 ] && [ "$auths" -ge 500 ] && [ "$auths" -le 900 ]; then
+            measure "$size" import 20
+            measure "$size" transfer 20
+        fi
         measure "$size" payloads 20
         for _ in 1 2 3; do
             measure "$size" first-payloads 1

@@ -139,17 +139,35 @@ int read_prefix(const char *from, struct prefix *prefix)
     return spells_prefix(from, prefix) && !(prefix->first & bits_past(prefix));
 }
 
+/* The number of the day on which a month begins, of which the thirteenth is in the next year. It is counted in years
+ * that begin with March, so that a leap day is the last one. */
+static int64_t first_of(int year, int month)
+{
+    year -= month < 3;
+    return 365 * year + year / 4 - year / 100 + year / 400 + (153 * ((month + 9) % 12) + 2) / 5 - 719468;
+}
+
+/* The number that is written in so many digits; -1 where they are none. */
+static int number_in(const char *digits, int count)
+{
+    int number = 0;
+    for (int i = 0; i < count; i++) {
+        if (digits[i] < '0' || digits[i] > '9')
+            return -1;
+        number = number * 10 + (digits[i] - '0');
+    }
+    return number;
+}
+
 int read_day(const char *from, int64_t *day)
 {
-    char bytes[DAY_SIZE];
-    struct text spelling = {.bytes = bytes, .room = sizeof bytes};
-    struct tm date = {0};
-    const char *end = strptime(from, "%Y-%m-%d", &date);
-    if (!end || *end || strlen(from) != DAY_SIZE - 1)
+    if (strlen(from) != DAY_SIZE - 1 || from[4] != '-' || from[7] != '-')
         return 0;
-    *day = timegm(&date) / DAY_SECONDS;
-    put_day(&spelling, *day);
-    return are_same(&spelling, from);
+    int year = number_in(from, 4), month = number_in(from + 5, 2), of_month = number_in(from + 8, 2);
+    if (year < 1970 || month < 1 || month > 12 || of_month < 1)
+        return 0;
+    *day = first_of(year, month) + of_month - 1;
+    return *day < first_of(year, month + 1);
 }
 
 int width_of(int family)
