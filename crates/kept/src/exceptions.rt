@@ -33,6 +33,8 @@ pub(crate) fn excepted(
     let mut vrps = given;
     keep_unfiltered(filters, &mut vrps);
     vrps.extend_from_slice(assertions)?;
+    // Nodes that are made in the order of a visit lie beside one another in memory.
+    vrps.sort_unstable();
     Trie::of(alloc, &vrps)
 }
 
