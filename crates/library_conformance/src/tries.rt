@@ -163,16 +163,26 @@ fn assert_rows(
     Ok(())
 }
 
+/// A trie and a list of these VRPs judge the routes as the rows say, and hand out the same.
+fn assert_set(rt: &impl Abort, alloc: Global, vrps: &[Vrp], routes: &str) -> Result<(), Fail> {
+    let mut list = ListIndex::new(alloc);
+    let mut trie = Trie::new(alloc);
+    assert_eq!(rt; fill(&mut trie, vrps)?, fill(&mut list, vrps)?, "{routes}");
+    assert_rows(rt, alloc, &list, &trie, routes)?;
+    assert_same(rt, alloc, &list, &trie)
+}
+
+fn assert_same(rt: &impl Abort, alloc: Global, list: &ListIndex, trie: &Trie) -> Result<(), Fail> {
+    let vrps = listed(alloc, list)?;
+    assert!(rt; listed(alloc, trie)? == vrps);
+    Ok(())
+}
+
 #[test]
 fn search_depths_of_nested_prefixes(rt: HostRuntime) -> Result<(), Fail> {
-    let alloc = rt.alloc();
     for (lines, routes) in SETS {
-        let vrps = vrps_of(alloc, lines)?;
-        let mut list = ListIndex::new(alloc);
-        let mut trie = Trie::new(alloc);
-        assert_eq!(rt; fill(&mut trie, &vrps)?, fill(&mut list, &vrps)?, "{lines}");
-        assert_rows(&rt, alloc, &list, &trie, routes)?;
-        assert!(rt; listed(alloc, &trie)? == listed(alloc, &list)?, "{lines}");
+        let vrps = vrps_of(rt.alloc(), lines)?;
+        assert_set(&rt, rt.alloc(), &vrps, routes)?;
     }
     Ok(())
 }
