@@ -261,14 +261,23 @@ fn vrps_follow_what_begins_and_ends(rt: HostRuntime) -> Result<(), Fail> {
     Ok(())
 }
 
+fn assert_follows_edit(
+    rt: &impl Abort,
+    alloc: Global,
+    auths: &[Auth],
+    row: Row<'_>,
+) -> Result<(), Fail> {
+    let mut kept = kept_day(alloc)?;
+    let edit = parse_edit(alloc, row.input)?;
+    kept.follow(&edit, auths)?;
+    assert_row(rt, alloc, &kept, row)
+}
+
 #[test]
 fn vrps_follow_edits(rt: HostRuntime) -> Result<(), Fail> {
-    let alloc = rt.alloc();
-    let auths = auths_from(alloc, 1, AUTHS.trim(), '\n')?;
-    for row in &table_rows(alloc, EDITS)? {
-        let mut kept = kept_day(alloc)?;
-        kept.follow(&parse_edit(alloc, row.input)?, &auths)?;
-        assert_row(&rt, alloc, &kept, *row)?;
+    let auths = auths_from(rt.alloc(), 1, AUTHS.trim(), '\n')?;
+    for row in &table_rows(rt.alloc(), EDITS)? {
+        assert_follows_edit(&rt, rt.alloc(), &auths, *row)?;
     }
     Ok(())
 }

@@ -1,7 +1,7 @@
 //! The two representations of a set of VRPs, beside one another, and what a trie counts.
 use crate::listing::listed;
 use crate::rows::table_rows;
-use crate::vrps::{fill, parse_route, parse_vrp, vrps_of};
+use crate::vrps::{fill, parse_route, vrps_of};
 use addr::{Asn, Family, Prefix, Vrp};
 use payload::{ListIndex, PayloadIndex, Trie, Validity};
 use std::alloc::Global;
@@ -248,27 +248,46 @@ fn chain_of_nested_prefixes(rt: HostRuntime) -> Result<(), Fail> {
     assert_each_is_found(&rt, &mut trie, &vrps)
 }
 
+/// The VRP of a prefix that has a thousand.
+fn vrp_of(asn: u32) -> Result<Vrp, Fail> {
+    let prefix = Prefix::read(b"192.0.2.0/24")?;
+    Ok(Vrp::from_parts(prefix, 24, Asn(asn)).ok_or("a VRP")?)
+}
+
+fn assert_is_new_once(rt: &impl Abort, trie: &mut Trie, vrp: Vrp) -> Result<(), Fail> {
+    assert!(rt; trie.insert(vrp)?);
+    assert!(rt; !trie.insert(vrp)?);
+    Ok(())
+}
+
+fn insert_a_thousand(rt: &impl Abort, trie: &mut Trie) -> Result<(), Fail> {
+    for asn in (1..1001).rev() {
+        assert_is_new_once(rt, trie, vrp_of(asn)?)?;
+    }
+    Ok(())
+}
+
+fn remove_all_but_the_last(rt: &impl Abort, trie: &mut Trie) -> Result<(), Fail> {
+    for asn in 1..1000 {
+        assert!(rt; trie.remove(&vrp_of(asn)?));
+    }
+    Ok(())
+}
+
+fn assert_judges(rt: &impl Abort, trie: &Trie, route: &str, state: Validity) -> Result<(), Fail> {
+    let counted = trie.validity_counted(&parse_route(route)?);
+    assert_eq!(rt; counted, (state, 25), "{route}");
+    Ok(())
+}
+
 #[test]
 fn thousand_vrps_of_one_prefix(rt: HostRuntime) -> Result<(), Fail> {
-    let alloc = rt.alloc();
-    let prefix = Prefix::read(b"192.0.2.0/24")?;
-    let mut trie = Trie::new(alloc);
-    for asn in (1..1001).rev() {
-        let vrp = Vrp::from_parts(prefix, 24, Asn(asn)).ok_or("a VRP")?;
-        assert!(rt; trie.insert(vrp)? && !trie.insert(vrp)?);
-    }
-    assert_eq!(rt;
-        trie.validity_counted(&parse_route("192.0.2.0/24 AS1000")?),
-        (Validity::Valid, 25)
-    );
-    assert_eq!(rt;
-        trie.validity_counted(&parse_route("192.0.2.0/24 AS1001")?),
-        (Validity::Invalid, 25)
-    );
-    for asn in 1..1000 {
-        let vrp = Vrp::from_parts(prefix, 24, Asn(asn)).ok_or("a VRP")?;
-        assert!(rt; trie.remove(&vrp));
-    }
-    assert!(rt; listed(alloc, &trie)?.as_slice() == &[parse_vrp("AS1000 192.0.2.0/24 24")?][..]);
+    let mut trie = Trie::new(rt.alloc());
+    insert_a_thousand(&rt, &mut trie)?;
+    assert_judges(&rt, &trie, "192.0.2.0/24 AS1000", Validity::Valid)?;
+    assert_judges(&rt, &trie, "192.0.2.0/24 AS1001", Validity::Invalid)?;
+    remove_all_but_the_last(&rt, &mut trie)?;
+    let left = listed(rt.alloc(), &trie)?;
+    assert!(rt; left.as_slice() == &[vrp_of(1000)?][..]);
     Ok(())
 }
