@@ -299,22 +299,44 @@ fn only_file(alloc: Global, store: &mut Store<MemStore>) -> Result<Slurm, Fail> 
     Ok(files.pop().ok_or("a file")?)
 }
 
+fn apply_file(
+    rt: &impl Abort,
+    alloc: Global,
+    store: &mut Store<MemStore>,
+    text: &str,
+    file: Slurm,
+) -> Result<(), Fail> {
+    let set = one_file(alloc, text, file)?;
+    assert!(rt; store.apply(&Change::Exceptions(set)).is_ok());
+    Ok(())
+}
+
+fn count_files(alloc: Global, store: &mut Store<MemStore>) -> Result<usize, Fail> {
+    match store.slurm_files(alloc) {
+        Ok(files) => Ok(files.len()),
+        Err(_) => Err("no files".into()),
+    }
+}
+
 #[test]
 fn slurm_file_is_loaded_as_it_was_applied(rt: HostRuntime) -> Result<(), Fail> {
     let mut store = registered_holder(rt.alloc())?;
     let file = Slurm::read(rt.alloc(), SAMPLE.as_bytes())?;
-    let set = one_file(rt.alloc(), "main", file.clone()?)?;
-    assert!(rt; store.apply(&Change::Exceptions(set)).is_ok());
+    apply_file(&rt, rt.alloc(), &mut store, "main", file.clone()?)?;
     let loaded = only_file(rt.alloc(), &mut store)?;
     assert!(rt; loaded.filters() == file.filters());
     assert!(rt; loaded.assertions() == file.assertions());
+    Ok(())
+}
+
+#[test]
+fn slurm_file_without_entries_is_not_loaded(rt: HostRuntime) -> Result<(), Fail> {
+    let mut store = registered_holder(rt.alloc())?;
+    let file = Slurm::read(rt.alloc(), SAMPLE.as_bytes())?;
+    apply_file(&rt, rt.alloc(), &mut store, "main", file)?;
     let empty = Slurm::make(Vec::new(rt.alloc()), Vec::new(rt.alloc()))?;
-    let set = one_file(rt.alloc(), "a", empty)?;
-    assert!(rt; store.apply(&Change::Exceptions(set)).is_ok());
-    let Ok(files) = store.slurm_files(rt.alloc()) else {
-        return Err("no files".into());
-    };
-    assert!(rt; files.is_empty());
+    apply_file(&rt, rt.alloc(), &mut store, "a", empty)?;
+    assert_eq!(rt; count_files(rt.alloc(), &mut store)?, 0);
     Ok(())
 }
 
@@ -337,10 +359,8 @@ fn filters_loaded(alloc: Global, store: &mut Store<MemStore>) -> Result<Vec<Filt
     Ok(filters)
 }
 
-#[test]
-fn slurm_files_are_loaded_by_name(rt: HostRuntime) -> Result<(), Fail> {
-    let alloc = rt.alloc();
-    let mut store = registered_holder(alloc)?;
+/// Three files of one filter each, out of their order, and one without entries.
+fn four_files(alloc: Global) -> Result<SlurmSet, Fail> {
     let mut files = Vec::new(alloc);
     for (text, asn) in [("b", 64_497), ("main", 64_498), ("a", 64_496)] {
         files.push(NamedSlurm {
@@ -352,18 +372,21 @@ fn slurm_files_are_loaded_by_name(rt: HostRuntime) -> Result<(), Fail> {
         name: name("empty")?,
         file: Slurm::make(Vec::new(alloc), Vec::new(alloc))?,
     })?;
-    let set = SlurmSet::make(files)?;
+    Ok(SlurmSet::make(files)?)
+}
+
+#[test]
+fn slurm_files_are_loaded_by_name(rt: HostRuntime) -> Result<(), Fail> {
+    let mut store = registered_holder(rt.alloc())?;
+    let set = four_files(rt.alloc())?;
     assert!(rt; store.apply(&Change::Exceptions(set)).is_ok());
-    let Ok(loaded) = store.slurm_files(alloc) else {
-        return Err("no files".into());
-    };
-    assert_eq!(rt; loaded.len(), 3);
+    assert_eq!(rt; count_files(rt.alloc(), &mut store)?, 3);
     let expected = [
         Filter::By(Asn(64_496)),
         Filter::By(Asn(64_497)),
         Filter::By(Asn(64_498)),
     ];
-    assert!(rt; filters_loaded(alloc, &mut store)?.as_slice() == expected.as_slice());
+    assert!(rt; filters_loaded(rt.alloc(), &mut store)?.as_slice() == expected.as_slice());
     Ok(())
 }
 
