@@ -4,8 +4,8 @@
 #     trie.sh [ROUTES [VRPS...]]      (1000000, and 10000 and 500000 where left out)
 #
 # Needs rt, python3 and GNU time at /usr/bin/time. Files go to a temporary folder, or stay in BENCH_WORK; the
-# next run there is quicker, since the program is proved. Each runs three times in turn: of the milliseconds of building
-# and judging the least count, and of the memory the greatest peak, which has the VRPs and the routes in it.
+# next run there is quicker, since the program is proved. Each runs three times in turn: of the milliseconds of building,
+# visiting and judging the least count, and of the memory the greatest peak, which has the VRPs and the routes in it.
 # Ends with 1 where the two answer otherwise than each other, with 2 where something could not be run.
 set -u
 . "$(dirname "${BASH_SOURCE[0]}")/../common/work.sh"
