@@ -124,52 +124,59 @@ fn count_denied(alloc: Global, desk: &mut Desk<MemStore>) -> Result<usize, Fail>
     )
 }
 
+fn assert_replies_cut(rt: &impl Abort, alloc: Global, room: usize) -> Result<(), Fail> {
+    let mut desk = example_desk(alloc)?;
+    let script = REGISTER_THREE.as_bytes();
+    let outcome = run(alloc, &mut desk, script, false, 10_000, room);
+    assert_eq!(rt;
+        outcome.result,
+        Err(ScriptFault::Write),
+        "after {room} bytes"
+    );
+    assert_eq!(rt;
+        Some(outcome.written.as_slice()),
+        DONE_THREE.as_bytes().get(..room),
+        "after {room} bytes"
+    );
+    let denied = count_denied(alloc, &mut desk)?;
+    assert_eq!(rt; denied, (room / 14).saturating_add(1), "after {room} bytes");
+    Ok(())
+}
+
 /// The command whose reply was cut short was acted on, and none after it.
 #[test]
 fn write_that_fails_cuts_the_replies_short(rt: HostRuntime) -> Result<(), Fail> {
-    let alloc = rt.alloc();
-    let script = REGISTER_THREE.as_bytes();
     for room in 0..DONE_THREE.len() {
-        let mut desk = example_desk(alloc)?;
-        let outcome = run(alloc, &mut desk, script, false, 10_000, room);
-        assert_eq!(rt;
-            outcome.result,
-            Err(ScriptFault::Write),
-            "after {room} bytes"
-        );
-        assert_eq!(rt;
-            outcome.written.as_slice(),
-            &DONE_THREE.as_bytes()[..room],
-            "after {room} bytes"
-        );
-        let denied = count_denied(alloc, &mut desk)?;
-        assert_eq!(rt; denied, room / 14 + 1, "after {room} bytes");
+        assert_replies_cut(&rt, rt.alloc(), room)?;
     }
+    Ok(())
+}
+
+fn assert_script_ended(rt: &impl Abort, alloc: Global, read: &[u8]) -> Result<(), Fail> {
+    let whole = read.iter().filter(|byte| **byte == b'\n').count();
+    let mut desk = example_desk(alloc)?;
+    let outcome = run(alloc, &mut desk, read, true, 10_000, usize::MAX);
+    assert_eq!(rt;
+        outcome.result,
+        Err(ScriptFault::Read),
+        "after {whole} lines"
+    );
+    assert_eq!(rt;
+        Some(outcome.written.as_slice()),
+        DONE_THREE.as_bytes().get(..whole.saturating_mul(14)),
+        "after {whole} lines"
+    );
+    let denied = count_denied(alloc, &mut desk)?;
+    assert_eq!(rt; denied, whole, "after {whole} lines");
     Ok(())
 }
 
 /// The commands whose lines came whole were acted on and answered, and no others.
 #[test]
 fn read_that_fails_ends_the_script_after_whole_lines(rt: HostRuntime) -> Result<(), Fail> {
-    let alloc = rt.alloc();
     let script = REGISTER_THREE.as_bytes();
     for count in 0..=script.len() {
-        let read = &script[..count];
-        let whole = read.iter().filter(|byte| **byte == b'\n').count();
-        let mut desk = example_desk(alloc)?;
-        let outcome = run(alloc, &mut desk, read, true, 10_000, usize::MAX);
-        assert_eq!(rt;
-            outcome.result,
-            Err(ScriptFault::Read),
-            "after {count} bytes"
-        );
-        assert_eq!(rt;
-            Some(outcome.written.as_slice()),
-            DONE_THREE.as_bytes().get(..whole.saturating_mul(14)),
-            "after {count} bytes"
-        );
-        let denied = count_denied(alloc, &mut desk)?;
-        assert_eq!(rt; denied, whole, "after {count} bytes");
+        assert_script_ended(&rt, rt.alloc(), &script[..count])?;
     }
     Ok(())
 }

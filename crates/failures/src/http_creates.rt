@@ -79,18 +79,28 @@ fn stop_at_a_create_while_the_log_is_copied(rt: HostRuntime) -> Result<(), Fail>
     stop_at_a_create(&rt, rt.alloc(), options)
 }
 
-/// A create whose response is not taken was made, and is there after a stop.
+/// A create whose response is not taken.
+fn create_untaken<S: Alter>(
+    rt: &impl Abort,
+    alloc: Global,
+    desk: &mut Desk<S>,
+) -> Result<(), Fail> {
+    let answers = ask_first(rt, alloc, desk, COUNT_BEFORE_CREATE)?;
+    assert_eq!(rt; answers.count, COUNT_BEFORE_CREATE);
+    let mut sheet = sheet_of(alloc, 0);
+    let result = serve_create(alloc, desk, &mut sheet)?;
+    assert_eq!(rt; result, Err(WebFault::Write));
+    assert!(rt; sheet.bytes.is_empty());
+    Ok(())
+}
+
+/// It was made, and is there after a stop.
 #[test]
 fn response_that_is_not_taken(rt: HostRuntime) -> Result<(), Fail> {
     let alloc = rt.alloc();
     let files: Files<Fuse<Memory>> = failing_files(alloc, true, u64::MAX);
     let mut desk = begin(alloc, files, small_options())?.ok_or("no desk")?;
-    let answers = ask_first(&rt, alloc, &mut desk, COUNT_BEFORE_CREATE)?;
-    assert_eq!(rt; answers.count, COUNT_BEFORE_CREATE);
-    let mut sheet = sheet_of(alloc, 0);
-    let result = serve_create(alloc, &mut desk, &mut sheet)?;
-    assert_eq!(rt; result, Err(WebFault::Write));
-    assert!(rt; sheet.bytes.is_empty());
+    create_untaken(&rt, alloc, &mut desk)?;
     let mut sweep = Sweep::new(alloc, small_options(), Course::HttpCreate);
     let count = COUNT_BEFORE_CREATE.saturating_add(1);
     sweep.open_both(&rt, stop(desk), count)?;
