@@ -15,11 +15,10 @@ use Rattle.addr.specs.declared.prefix.Prefix.{Prefix}
 use Rattle.addr.specs.declared.vrp.Vrp.{Vrp}
 use Rattle.addr.specs.contracts.family.FamilyOrd.TheImpl as FamilyOrd
 use Rattle.addr.specs.contracts.family.FamilyPartialEq.TheImpl as FamilyPartialEq
-use Rattle.addr.specs.contracts.prefix.PrefixOrd.TheImpl as PrefixOrd
-use Rattle.addr.specs.contracts.prefix.PrefixPartialEq.TheImpl as PrefixPartialEq
 use Rattle.addr.specs.contracts.vrp.VrpOrd.TheImpl as VrpOrd
 use Rattle.addr.specs.contracts.vrp.VrpPartialEq.TheImpl as VrpPartialEq
 use Rattle.addr.proofs.Equality.{equal_prefix, prefix_itself}
+use Rattle.addr.specs.steps.TotalOrders.{prefix_total}
 
 -- ---- at or before
 
@@ -38,34 +37,6 @@ pub le-trans : {K : Type 0} {R : K → K → Ordering} (o : IsTotalOrder R) (x y
 le-trans {K} {R} o x y z one two = not_greater (R x z) (upto o x y z (not_after (R x y) one) (not_after (R y z) two))
 
 -- ---- the order is total
-
-pub family_total : IsTotalOrder family_cmp
-family_total = record {
-  antisymm = antisymm;
-  trans = trans;
-  congr = congr;
-} where
-  antisymm : (f g : Family) → family_cmp f g ≡ ordering_reverse (family_cmp g f)
-  antisymm V4 V4 = refl
-  antisymm V4 V6 = refl
-  antisymm V6 V4 = refl
-  antisymm V6 V6 = refl
-
-  trans : (f g h : Family) → family_cmp f g ≡ Less → family_cmp g h ≡ Less → family_cmp f h ≡ Less
-  trans V4 V4 h p q = q
-  trans V4 V6 V4 p q = cc
-  trans V4 V6 V6 p q = p
-  trans V6 V4 h p q = cc
-  trans V6 V6 h p q = q
-
-  congr : (f g h : Family) → family_cmp f g ≡ Equal → family_cmp f h ≡ family_cmp g h
-  congr V4 V4 h p = refl
-  congr V4 V6 h p = cc
-  congr V6 V4 h p = cc
-  congr V6 V6 h p = refl
-
-prefix_total : IsTotalOrder prefix_cmp
-prefix_total = then_total (on_total (λ p. p.family) family_total) (then_total (on_total (λ p. p.first) nat_cmp_total) (on_total (λ p. p.length) nat_cmp_total))
 
 vrp_total : IsTotalOrder vrp_cmp
 vrp_total = then_total (on_total (λ v. v.prefix) prefix_total) (then_total (on_total (λ v. v.max) nat_cmp_total) (on_total (λ v. v.asn.0) nat_cmp_total))
@@ -114,25 +85,11 @@ derived_family V4 V6 = refl
 derived_family V6 V4 = refl
 derived_family V6 V6 = refl
 
-pub derived_prefix : (p q : Prefix) → PrefixOrd.ghosts.cmp p q ≡ prefix_cmp p q
-derived_prefix p q =
-    ap (λ (o : Ordering). ordering_then o (ordering_then (nat_cmp p.first q.first) (nat_cmp p.length q.length))) (derived_family p.family q.family)
-
-abbrev pub derived_prefix_cmp : Prefix → Prefix → Ordering
-derived_prefix_cmp = PrefixOrd.ghosts.cmp
-
-pub derived_prefix_order : derived_prefix_cmp ≡ prefix_cmp
-derived_prefix_order = λ i p q. derived_prefix p q i
-
-derived_vrp : (v w : Vrp) → VrpOrd.ghosts.cmp v w ≡ vrp_cmp v w
-derived_vrp v w =
-    ap (λ (o : Ordering). ordering_then o (ordering_then (nat_cmp v.max w.max) (nat_cmp v.asn.0 w.asn.0))) (derived_prefix v.prefix w.prefix)
-
 abbrev pub derived_vrp_cmp : Vrp → Vrp → Ordering
 derived_vrp_cmp = VrpOrd.ghosts.cmp
 
 pub derived_vrp_order : derived_vrp_cmp ≡ vrp_cmp
-derived_vrp_order = λ i v w. derived_vrp v w i
+derived_vrp_order = refl
 
 -- ---- the derived `==` tests equality
 
@@ -142,15 +99,12 @@ derived_family_eq V4 V6 = refl
 derived_family_eq V6 V4 = refl
 derived_family_eq V6 V6 = refl
 
-pub derived_prefix_eq : (p q : Prefix) → PrefixPartialEq.ghosts.eq p q ≡ prefix_eq p q
-derived_prefix_eq p q = ap (λ (b : Bool). b && ((p.first == q.first) && (p.length == q.length))) (derived_family_eq p.family q.family)
-
 pub prefix_equality : TestsEquality prefix_eq
 prefix_equality p q = (equal_prefix p q, λ same. subst (λ (r : Prefix). prefix_eq p r ≡ true) same (prefix_itself p))
 
 vrp_itself : (v : Vrp) → VrpPartialEq.ghosts.eq v v ≡ true
 vrp_itself v =
-    and_from _ _ (derived_prefix_eq v.prefix v.prefix ∙ prefix_itself v.prefix)
+    and_from _ _ (prefix_itself v.prefix)
     (and_from _ _ (eq-eqb v.max v.max refl) (eq-eqb v.asn.0 v.asn.0 refl))
 
 pub vrp_equality : TestsEquality VrpPartialEq.ghosts.eq
@@ -158,7 +112,7 @@ vrp_equality v w = (same, λ is. subst (λ (u : Vrp). VrpPartialEq.ghosts.eq v u
   where
     same : VrpPartialEq.ghosts.eq v w ≡ true → v ≡ w
     same passes =
-        let parts = and_parts (PrefixPartialEq.ghosts.eq v.prefix w.prefix) ((v.max == w.max) && (v.asn.0 == w.asn.0)) passes in
+        let parts = and_parts (prefix_eq v.prefix w.prefix) ((v.max == w.max) && (v.asn.0 == w.asn.0)) passes in
         let numbers = and_parts (v.max == w.max) (v.asn.0 == w.asn.0) parts.1 in
-        same_vrp v w (equal_prefix v.prefix w.prefix (sym (derived_prefix_eq v.prefix w.prefix) ∙ parts.0))
+        same_vrp v w (equal_prefix v.prefix w.prefix parts.0)
         (eqb-true v.max w.max numbers.0) (ap (λ n. record { 0 = n }) (eqb-true v.asn.0 w.asn.0 numbers.1))

@@ -25,7 +25,8 @@ use Rattle.addr.specs.declared.prefix.Prefix.{Prefix}
 use Rattle.addr.specs.declared.span.Span.{Span}
 use Rattle.addr.proofs.AddressLemmas.{first-last}
 use Rattle.addr.proofs.Equality.{equal_span, span_itself}
-use Rattle.addr.proofs.OrderLemmas.{family_total, exact_family, derived_family, both_equal}
+use Rattle.addr.proofs.OrderLemmas.{exact_family, derived_family, both_equal}
+use Rattle.addr.specs.steps.TotalOrders.{family_total}
 use Rattle.addr.proofs.SpanLemmas.{is_gap}
 
 -- by family, first and last address

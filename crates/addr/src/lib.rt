@@ -11,6 +11,7 @@ mod holdings;
 pub mod laws;
 mod name;
 mod prefix;
+mod prefix_order;
 mod route;
 mod span;
 mod text;

@@ -6,12 +6,13 @@ use crate::{Family, Span};
 
 /// All addresses of a family that share their first `length` bits (RFC 4291 section 2.3).
 ///
-/// Prefixes rise by family, first address and length.
-#[derive(Clone, Copy, Debug, PartialEq, Eq, PartialOrd, Ord)]
+/// Prefixes rise by family, first address and length. The address comes first in memory, since it
+/// is aligned to 16 octets: so a prefix takes 32, and not 48.
+#[derive(Clone, Copy, Debug)]
 pub struct Prefix {
-    pub family: Family,
     /// The first address, as a number.
     pub first: u128,
+    pub family: Family,
     /// How many leading bits the addresses share, at most the family's width.
     pub length: u8,
     ghost length_fits: { length ≤ width family },

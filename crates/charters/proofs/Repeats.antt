@@ -11,8 +11,6 @@ use Rattle.addr.specs.Address.{prefix_eq}
 use Rattle.addr.specs.declared.family.Family.{Family}
 use Rattle.addr.specs.declared.family.Family.TheVariants.{V4, V6}
 use Rattle.addr.specs.declared.prefix.Prefix.{Prefix}
-use Rattle.addr.specs.contracts.prefix.PrefixPartialEq.TheImpl as prefix_equality
-use Rattle.addr.proofs.OrderLemmas.{derived_prefix_eq}
 use Rattle.charters.specs.Repeats.{has_repeat}
 
 -- the list without its first value, as a slice pattern has it
@@ -24,16 +22,6 @@ any_agree : {T : Type 0} (f g : T → Bool) → ((x : T) → f x ≡ g x) → (x
 any_agree f g agree [] = refl
 any_agree f g agree (x ∷ xs) =
     ap (λ b. b || list_any f xs) (agree x) ∙ ap (λ b. g x || b) (any_agree f g agree xs)
-
-has_repeat-agree : {T : Type 0} (f g : T → T → Bool) → ((x y : T) → f x y ≡ g x y) → (xs : List T) → has_repeat f xs ≡ has_repeat g xs
-has_repeat-agree f g agree [] = refl
-has_repeat-agree f g agree (x ∷ xs) =
-    ap (λ b. b || has_repeat f xs) (any_agree (λ y. f x y) (λ y. g x y) (agree x) xs)
-    ∙ ap (λ b. list_any (λ y. g x y) xs || b) (has_repeat-agree f g agree xs)
-
--- the equality that is derived for prefixes is that of family, first address and length
-pub derived_repeats : (pool : List Prefix) → has_repeat prefix_equality.ghosts.eq pool ≡ has_repeat prefix_eq pool
-derived_repeats pool = has_repeat-agree prefix_equality.ghosts.eq prefix_eq derived_prefix_eq pool
 
 -- a repeat is of the first value, or after it
 has_repeat-first : {T : Type 0} (same : T → T → Bool) → ((x y : T) → same x y ≡ same y x) → (rest others : List T) (x : T) → 0 < length rest

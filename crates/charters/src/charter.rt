@@ -96,7 +96,6 @@ impl Charter {
     ghost use Rattle.charters.specs.Charter.{is_operator, operators_of, pool_of};
 
     /// The charter of these operators and this pool, both in rising order. It takes no memory.
-    #[tactic(auto, using(crate::proofs::Repeats::derived_repeats))]
     pub fn make(mut operators: Vec<Name>, mut pool: Vec<Prefix>) -> Result<Charter, CharterFault>
         ensures operators { IfOk result
             (λ charter. IsPermutation operators.items (operators_of charter)) }

@@ -10,22 +10,19 @@ use Rattle.std.proofs.lemmas.Map.Text.{is_eq-slice_cmp}
 use Rattle.std.proofs.lemmas.Slice.Eq.{bytes_eq-Decides}
 use Rattle.std.specs.BTreeMap.{is_at}
 use Rattle.std.specs.BTreeSet.{contains}
-use Rattle.std.specs.Cmp.{both_tied, both_ways, unsigned_ties}
+use Rattle.std.specs.Cmp.{both_ways}
 use Rattle.std.specs.Cmp.Lexicographic.{pointwise, slice_cmp}
 use Rattle.std.specs.Ordering.{is_eq, nat_cmp}
 use Rattle.std.specs.declared.cmp.Ordering.{Ordering}
 use Rattle.std.specs.List.{list_any}
 use Rattle.std.specs.Str.{bytes_eq}
 use Rattle.addr.specs.Address.{prefix_eq}
-use Rattle.addr.specs.Family.{family_eq}
-use Rattle.addr.specs.declared.family.Family.{Family}
-use Rattle.addr.specs.declared.family.Family.TheVariants.{V4, V6}
 use Rattle.addr.specs.PrefixText.{Spells}
 use Rattle.addr.proofs.Equality.{equal_prefix, prefix_itself}
 use Rattle.addr.proofs.PrefixSpellingLemmas.{Spells_unique, faultless-Spells}
 use Rattle.addr.specs.declared.prefix.Prefix.{Prefix}
-use Rattle.addr.proofs.OrderLemmas.{derived_prefix_cmp, derived_prefix_order}
-use Rattle.addr.specs.Order.{family_cmp, prefix_cmp}
+use Rattle.addr.specs.Order.{prefix_cmp}
+use Rattle.addr.specs.steps.TotalOrders.{prefix_ties}
 use Rattle.charters.specs.Repeats.{has_repeat}
 use Rattle.command_line.specs.CharterFile.{charter_fault, charter_row, fault_of_pair, first_charter_fault, kind_and_value_fault, kind_of, operators_in, pool_in, pool_kind, is_noted, same_row, value_of, HoldsRows}
 use Rattle.csv_records.specs.Fields.{Fields}
@@ -44,17 +41,6 @@ use Rattle.command_line.specs.declared.fault.RowFault.TheVariants as row
 
 same_text : (p q : Prefix) → prefix_eq p q ≡ true → prefix_text p ≡ prefix_text q
 same_text p q e = ap prefix_text (equal_prefix p q e)
-
-family_ties : (f g : Family) → family_eq f g ≡ is_eq (family_cmp f g)
-family_ties V4 V4 = refl
-family_ties V4 V6 = refl
-family_ties V6 V4 = refl
-family_ties V6 V6 = refl
-
--- prefixes are equal where neither is less
-prefix_ties : (p q : Prefix) → prefix_eq p q ≡ is_eq (prefix_cmp p q)
-prefix_ties p q =
-    both_tied _ _ _ _ (family_ties p.family q.family) (both_tied _ _ _ _ (unsigned_ties p.first q.first) (unsigned_ties p.length q.length))
 
 -- texts are equal where the prefixes are
 texts_same : (p q : Prefix) → bytes_eq (prefix_text p) (prefix_text q) ≡ prefix_eq p q
@@ -101,13 +87,12 @@ noted-operator old new n updates others (Operator m) = updates m ∙ rw (is_eq-s
 noted-operator old new n updates others (Pool q) = rw others refl
 
 pub noted-pool : (old new : CharterRows) (p : Prefix)
-    → ((q : Prefix) → contains derived_prefix_cmp new.prefixes q ≡ cond (is_at (derived_prefix_cmp p) q) true (contains derived_prefix_cmp old.prefixes q))
+    → ((q : Prefix) → contains prefix_cmp new.prefixes q ≡ cond (is_at (prefix_cmp p) q) true (contains prefix_cmp old.prefixes q))
     → new.names ≡ old.names
     → (r : CharterRow) → is_noted new r ≡ (same_row (Pool p) r || is_noted old r)
 noted-pool old new p updates others (Operator m) = rw others refl
 noted-pool old new p updates others (Pool q) =
-    let by_order = subst (λ (c : Prefix → Prefix → Ordering). contains c new.prefixes q ≡ cond (is_at (c p) q) true (contains c old.prefixes q)) derived_prefix_order (updates q) in
-    by_order ∙ rw (← prefix_ties p q) (cond_or (prefix_eq p q) _)
+    updates q ∙ rw (← prefix_ties p q) (cond_or (prefix_eq p q) _)
 
 noted-same : (old new : CharterRows) → new.names ≡ old.names → new.prefixes ≡ old.prefixes
     → (r : CharterRow) → is_noted new r ≡ is_noted old r

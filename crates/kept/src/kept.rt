@@ -50,17 +50,17 @@ impl Kept {
         alloc: Global,
         day: Day,
         given: Vec<Vrp>,
-        filters: &[Filter],
-        assertions: &[Vrp],
+        filters: Vec<Filter>,
+        assertions: Vec<Vrp>,
     ) -> Result<Kept, AllocError>
         ensures kept { IfOk result (λ kept. IsKept (λ v. Contains given.items v) kept) }
         ensures day { IfOk result (λ kept. kept.day ≡ day) }
         ensures exceptions { IfOk result (λ kept. HasExceptions kept
-            (record { filters = filters.now; assertions = assertions.now })) }
+            (record { filters = filters.items; assertions = assertions.items })) }
     {
         let filters = FilterIndex::of(alloc, filters)?;
-        let vrps = excepted(alloc, &filters, assertions, given)?;
-        let asserted = ListIndex::from(Vec::from_slice(alloc, assertions)?);
+        let vrps = excepted(alloc, &filters, &assertions, given)?;
+        let asserted = ListIndex::from(assertions);
         Ok(Kept {
             day,
             vrps,

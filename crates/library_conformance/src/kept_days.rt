@@ -144,13 +144,11 @@ fn parse_auth(alloc: Global, number: u32, text: &str) -> Result<Auth, Fail> {
 
 /// The day before anything begins or ends on it.
 fn kept_day(alloc: Global) -> Result<Kept, Fail> {
-    let filters = [
-        Filter::Under(Prefix::read(b"198.51.100.0/24")?),
-        Filter::By(Asn(64511)),
-    ];
+    let filtered = Prefix::read(b"198.51.100.0/24")?;
+    let filters = vec![in alloc; Filter::Under(filtered), Filter::By(Asn(64511))]?;
     let given = vrps_of(alloc, GIVEN)?;
     let asserted = vrps_of(alloc, ASSERTED)?;
-    Ok(Kept::of(alloc, parse_day(DAY)?, given, &filters, &asserted)?)
+    Ok(Kept::of(alloc, parse_day(DAY)?, given, filters, asserted)?)
 }
 
 fn follow(alloc: Global, kept: &mut Kept, events: &str) -> Result<(), Fail> {

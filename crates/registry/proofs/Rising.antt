@@ -11,7 +11,7 @@ use Rattle.addr.specs.Address.{prefix_eq}
 use Rattle.addr.specs.Order.{prefix_cmp}
 use Rattle.addr.specs.declared.prefix.Prefix.{Prefix}
 use Rattle.addr.proofs.Equality.{prefix_itself, equal_prefix}
-use Rattle.addr.proofs.OrderLemmas.{prefix_order, less_is, derived_prefix_cmp, derived_prefix}
+use Rattle.addr.proofs.OrderLemmas.{prefix_order, less_is}
 use Rattle.charters.proofs.Repeats.{has_repeat-moved, prefix_eq-flips}
 use Rattle.registry.specs.declared.authorization.RoaPrefix.{RoaPrefix}
 use Rattle.registry.specs.RoaPrefixes.{Rise, have_one_prefix, repeats_prefix}
@@ -19,16 +19,13 @@ use Rattle.registry.specs.RoaPrefixes.{Rise, have_one_prefix, repeats_prefix}
 -- ---- rising, by index and by recursion
 
 abbrev pub is_before : RoaPrefix → RoaPrefix → Bool
-is_before d e = is_lt (derived_prefix_cmp d.prefix e.prefix)
-
-before-is : (d e : RoaPrefix) → is_before d e ≡ is_lt (prefix_cmp d.prefix e.prefix)
-before-is d e = ap is_lt (derived_prefix d.prefix e.prefix)
+is_before d e = is_lt (prefix_cmp d.prefix e.prefix)
 
 before_less : (d e : RoaPrefix) → is_before d e ≡ true → prefix_cmp d.prefix e.prefix ≡ Less
-before_less d e before = less_is (prefix_cmp d.prefix e.prefix) (sym (before-is d e) ∙ before)
+before_less d e before = less_is (prefix_cmp d.prefix e.prefix) before
 
 less_before : (d e : RoaPrefix) → prefix_cmp d.prefix e.prefix ≡ Less → is_before d e ≡ true
-less_before d e less = before-is d e ∙ ap is_lt less
+less_before d e less = ap is_lt less
 
 rise-from_index : (es : List RoaPrefix) → AllAdjacentBelow (λ d e. is_before d e ≡ true) es (length es) → Rise es
 rise-from_index [] all = tt
@@ -95,11 +92,11 @@ StaysSorted [] = Unit {0}
 StaysSorted (d ∷ []) = Unit {0}
 StaysSorted (d ∷ e ∷ es) = (is_before e d ≡ false) × StaysSorted (e ∷ es)
 
-sorted_from_index : (es : List RoaPrefix) → IsSortedByKey (λ e. e.prefix) derived_prefix_cmp es → StaysSorted es
+sorted_from_index : (es : List RoaPrefix) → IsSortedByKey (λ e. e.prefix) prefix_cmp es → StaysSorted es
 sorted_from_index [] sorted = tt
 sorted_from_index (d ∷ []) sorted = tt
 sorted_from_index (d ∷ e ∷ es) sorted =
-    let tail : IsSortedByKey (λ e. e.prefix) derived_prefix_cmp (e ∷ es) = λ k o low lt.
+    let tail : IsSortedByKey (λ e. e.prefix) prefix_cmp (e ∷ es) = λ k o low lt.
     let next : suc k + 1 ≡ suc (k + 1) = omega arith in
     let at : is_before (get_or (d ∷ e ∷ es) (suc k + 1) o) (get_or (e ∷ es) k o) ≡ false = sorted (suc k) o (omega arith) (omega (arith, lt)) in
     subst (λ (j : ℕ). is_before (get_or (d ∷ e ∷ es) j o) (get_or (e ∷ es) k o) ≡ false) next at in
@@ -132,7 +129,7 @@ pub given_once : (xs ys : List RoaPrefix) → IsPermutation xs ys → Rise ys �
 given_once xs ys moved rising = has_repeat-moved have_one_prefix one_prefix-flips ys xs (IsPermutation-sym xs ys moved) (rising_once ys rising)
 
 -- and one that does not has some prefix twice
-pub given_repeats : (xs ys : List RoaPrefix) → IsPermutation xs ys → IsSortedByKey (λ e. e.prefix) derived_prefix_cmp ys → (Rise ys → ⊥) → repeats_prefix xs ≡ true
+pub given_repeats : (xs ys : List RoaPrefix) → IsPermutation xs ys → IsSortedByKey (λ e. e.prefix) prefix_cmp ys → (Rise ys → ⊥) → repeats_prefix xs ≡ true
 given_repeats xs ys moved sorted falls = stays (repeats_prefix xs) refl
   where
     twice : repeats_prefix ys ≡ true

@@ -16,7 +16,7 @@ use Rattle.std.proofs.lemmas.List.Sorted.{ranks_by, sorted_far}
 use Rattle.addr.specs.Address.{contains}
 use Rattle.addr.specs.declared.asn.Asn.{Asn}
 use Rattle.addr.specs.declared.prefix.Prefix.{Prefix}
-use Rattle.addr.proofs.OrderLemmas.{derived_prefix, le-trans, prefix_order}
+use Rattle.addr.proofs.OrderLemmas.{le-trans, prefix_order}
 use Rattle.addr.proofs.PrefixOrderLemmas.{cmp-equal, cmp-greater, contains-at_most, contains-between, contains-ends, ends-contains}
 use Rattle.slurm.specs.declared.filter.Filter.{Filter}
 use Rattle.slurm.specs.contracts.reach.ReachOrd.TheImpl as ReachOrd
@@ -148,11 +148,8 @@ last-of_front reaches w last n widest end fits some read =
 
 -- ---- what is kept
 
-derived_reach : (r s : Reach) → ReachOrd.ghosts.cmp r s ≡ reach_cmp r s
-derived_reach r s = ap (λ (o : Ordering). ordering_then (asn_cmp r.asn s.asn) o) (derived_prefix r.prefix s.prefix)
-
 pub derived_reach_order : ReachOrd.ghosts.cmp ≡ reach_cmp
-derived_reach_order = λ i r s. derived_reach r s i
+derived_reach_order = refl
 
 contains-trans : (p q r : Prefix) → contains p q ≡ true → contains q r ≡ true → contains p r ≡ true
 contains-trans p q r one two =

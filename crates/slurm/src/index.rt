@@ -31,15 +31,12 @@ impl Model for FilterIndex {
 
 impl FilterIndex {
     /// The index of these filters, whatever their order.
-    pub fn of(alloc: Global, filters: &[Filter]) -> Result<FilterIndex, AllocError>
-        ensures { IfOk result (λ index. index ≡ filters.now) }
+    pub fn of(alloc: Global, filters: Vec<Filter>) -> Result<FilterIndex, AllocError>
+        ensures { IfOk result (λ index. index ≡ filters.items) }
     {
-        let mut reaches = reaches_of(alloc, filters)?;
+        let mut reaches = reaches_of(alloc, &filters)?;
         keep_widest(&mut reaches);
-        Ok(FilterIndex {
-            filters: Vec::from_slice(alloc, filters)?,
-            reaches,
-        })
+        Ok(FilterIndex { filters, reaches })
     }
 
     /// Whether some filter matches the VRP.

@@ -46,7 +46,7 @@ fn kept_on<S: Alter>(store: &mut Store<S>, alloc: Global, day: Day) -> Result<Ke
     let (vrps, files) = read_day(store, alloc, day)?;
     let filters = filters_of(alloc, &files)?;
     let assertions = assertions_of(alloc, &files)?;
-    Ok(Kept::of(alloc, day, vrps, &filters, &assertions)?)
+    Ok(Kept::of(alloc, day, vrps, filters, assertions)?)
 }
 
 impl<S: Alter> Desk<S> {

@@ -1,8 +1,6 @@
-use Rattle.std.proofs.Common.{◌≡◌, ap, rules, subst, ◌∙◌}
+use Rattle.std.proofs.Common.{◌≡◌, ap, rules, ◌∙◌}
 use Rattle.std.proofs.lemmas.Fn.{always_returns_same}
 use Rattle.std.specs.List.{flat_map}
-use Rattle.std.specs.List.Sorted.{IsSortedByKey}
-use Rattle.addr.proofs.OrderLemmas.{derived_prefix}
 use Rattle.slurm.specs.steps.Walk.{prefixes_of, some_clash}
 use Rattle.slurm.proofs.RisingNames.{rising_once}
 use Rattle.slurm.proofs.SetOverlapLemmas.{set_overlap}
@@ -11,7 +9,7 @@ use Rattle.slurm.proofs.walk.has_clash.Goals as goal
 pub some_clash-requires : goal.some_clash-requires
 some_clash-requires c =
     let sorted = c.sort_unstable_by_key.ensures.sorted (λ p. p.prefix) (always_returns_same _ (λ a r. r ≡ a.0.now.prefix) _ (λ a r q k. search rules)) in
-    rw c.deref.ensures.value (subst (λ cmp. IsSortedByKey (λ p. p.prefix) cmp c.sort_unstable_by_key.new.self.items) (λ i p q. derived_prefix p q i) sorted)
+    rw c.deref.ensures.value sorted
 
 pub returns : goal.returns
 returns c =

@@ -5,8 +5,7 @@ use Rattle.std.proofs.lemmas.Cmp.{nat_list_eq_equiv}
 use Rattle.addr.specs.Address.{prefix_eq}
 use Rattle.charters.specs.declared.charter.TheConstants.{MOST_OPERATORS, MOST_POOL_PREFIXES}
 use Rattle.charters.specs.Repeats.{has_repeat}
-use Rattle.charters.proofs.Repeats.{derived_repeats, has_repeat-moved, prefix_eq-flips}
-use Rattle.addr.proofs.OrderLemmas.{derived_prefix}
+use Rattle.charters.proofs.Repeats.{has_repeat-moved, prefix_eq-flips}
 use Rattle.charters.proofs.charter.Charter.make.Goals as goal
 
 pub invariant_of-result : goal.invariant_of-result
@@ -26,15 +25,8 @@ invariant_of-result c =
       operators_once = has_repeat-moved (pointwise nat_eq) nat_list_eq_equiv.symm c.args.operators.items c.sort_unstable.new.self.items c.sort_unstable.ensures.permutation
           (ap (has_repeat (pointwise nat_eq)) (sym c.deref-3.ensures.value) ∙ sym c.has_repeat.ensures ∙ c.if-has_repeat.false);
       pool_once = has_repeat-moved prefix_eq prefix_eq-flips c.args.pool.items c.sort_unstable-2.new.self.items c.sort_unstable-2.ensures.permutation
-          (ap (has_repeat prefix_eq) (sym c.deref-else-has_repeat.ensures.value) ∙ sym (derived_repeats c.deref-else-has_repeat.result.now)
+          (ap (has_repeat prefix_eq) (sym c.deref-else-has_repeat.ensures.value)
           ∙ sym c.has_repeat-else-has_repeat.ensures ∙ c.if-has_repeat-2.false);
       operators_rise = c.sort_unstable.ensures.sorted;
-      pool_rises = λ k d low high.
-          ap is_lt (sym (derived_prefix (get_or c.sort_unstable-2.new.self.items (k + 1) d) (get_or c.sort_unstable-2.new.self.items k d)))
-          ∙ c.sort_unstable-2.ensures.sorted k d low high;
+      pool_rises = c.sort_unstable-2.ensures.sorted;
     }
-
-pub returns-clause-pool_rises : goal.returns-clause-pool_rises
-returns-clause-pool_rises c k d low high =
-    ap is_lt (sym (derived_prefix (get_or c.sort_unstable-2.new.self.items (k + 1) d) (get_or c.sort_unstable-2.new.self.items k d)))
-    ∙ c.sort_unstable-2.ensures.sorted k d low high

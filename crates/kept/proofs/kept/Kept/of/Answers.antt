@@ -7,12 +7,12 @@ use Rattle.kept.proofs.kept.Kept.of.Goals as goal
 pub returns-clause-exceptions : goal.returns-clause-exceptions
 returns-clause-exceptions c = record {
   filters = c.in_ok-filters.ensures;
-  assertions = λ v. rw (c.from-asserted.ensures, c.in_ok-from_slice.ensures.items) (items_of_list c.args.assertions.now v);
+  assertions = λ v. rw c.from-asserted.ensures (items_of_list c.args.assertions.items v);
 }
 
 pub returns-clause-kept : goal.returns-clause-kept
 returns-clause-kept c =
     kept_after (λ (v : Vrp). Contains c.args.given.items v)
     (record { day = c.args.day; vrps = c.in_ok-vrps.vrps; filters = c.in_ok-filters.filters; asserted = c.from-asserted.result })
-    (record { filters = c.args.filters.now; assertions = c.args.assertions.now }) (returns-clause-exceptions c)
-    (λ v. rw (← c.in_ok-filters.ensures) (c.in_ok-vrps.ensures v))
+    (record { filters = c.args.filters.items; assertions = c.args.assertions.items }) (returns-clause-exceptions c)
+    (λ v. rw (← c.in_ok-filters.ensures, ← c.deref.ensures.value) (c.in_ok-vrps.ensures v))
