@@ -12,12 +12,15 @@ test false n is = ne_eqb n 1 (λ e. false≢true (is.1 e))
 pub bits_from-end : (p : Prefix) (at : ℕ) → p.length ≤ at → bits_from p at ≡ []
 bits_from-end p at past = let none : p.length - at ≡ 0 = omega arith in ap (last_bits p) none
 
-pub bits_from-next : (p : Prefix) (at : ℕ) (b : Bool) → at < p.length → IsTrue b ↔ (bit_of p at ≡ 1) → bits_from p at ≡ b ∷ bits_from p (at + 1)
-bits_from-next p at b within is =
+pub next-bit : (p : Prefix) (at : ℕ) (b : Bool) → at < p.length → (bit_of p at == 1) ≡ b → bits_from p at ≡ b ∷ bits_from p (at + 1)
+next-bit p at b within is =
     let n = p.length - (at + 1) in
     let more : p.length - at ≡ suc n = omega arith in
     let place : p.length - suc n ≡ at = omega arith in
-    ap (last_bits p) more ∙ ap (λ k. (bit_of p k == 1) ∷ last_bits p n) place ∙ ap (λ t. t ∷ last_bits p n) (test b (bit_of p at) is)
+    ap (last_bits p) more ∙ ap (λ k. (bit_of p k == 1) ∷ last_bits p n) place ∙ ap (λ t. t ∷ last_bits p n) is
+
+pub bits_from-next : (p : Prefix) (at : ℕ) (b : Bool) → at < p.length → IsTrue b ↔ (bit_of p at ≡ 1) → bits_from p at ≡ b ∷ bits_from p (at + 1)
+bits_from-next p at b within is = next-bit p at b within (test b (bit_of p at) is)
 
 length-last_bits : (p : Prefix) (n : ℕ) → length (last_bits p n) ≡ n
 length-last_bits p zero = refl

@@ -1,7 +1,7 @@
 -- The lengths at which a search has something to look at, as the nodes of a tree on a route's path.
-use Rattle.std.proofs.Common.{◌≡◌, ℕ, zero, suc, ◌+◌, ◌-◌, ◌*◌, ◌/◌, ◌%◌, ◌^◌, ◌≤◌, ◌<◌, Bool, true, false, not, ◌&&◌, ◌||◌, nat_lt, if◌then◌else◌, List, [], ◌∷◌, length, filter, refl, sym, ap, ◌∙◌, subst, arith, inl, inr}
+use Rattle.std.proofs.Common.{◌≡◌, ℕ, zero, suc, ◌+◌, ◌-◌, ◌*◌, ◌/◌, ◌%◌, ◌^◌, ◌≤◌, ◌<◌, Bool, true, false, not, ◌==◌, ◌&&◌, ◌||◌, nat_lt, if◌then◌else◌, List, [], ◌∷◌, length, filter, refl, sym, ap, ◌∙◌, subst, arith}
 use Rattle.std.specs.List.{All, list_any, range_with_len}
-use Rattle.std.proofs.Math.Bool.{or-false, and-false, and-true}
+use Rattle.std.proofs.Math.Bool.{and-false, and-true}
 use Rattle.std.proofs.Math.Nat.{div-div-eq-div-mul}
 use Rattle.std.proofs.lemmas.Bool.{and_parts, and_from, false_from_ne_true, le-leb, leb-true, lt-leb, eqb-true, eq-eqb}
 use Rattle.std.proofs.lemmas.List.Elements.{All-head, All-weaker}
@@ -19,11 +19,10 @@ use Rattle.addr.proofs.PrefixOrderLemmas.{contains-ends}
 use Rattle.payload.specs.SearchDepths.{agrees, first_bits, is_matched_before}
 use Rattle.payload.specs.declared.originator.Originator.{Originator}
 use Rattle.payload.specs.steps.Tree.{Tree, Leaf, Fork, IsPruned, below, is_bare, nodes_on_path}
-use Rattle.payload.specs.steps.Trie.{authorizes, bits_from, node_vrps, originator_of, vrps_at, vrps_below}
-use Rattle.payload.proofs.Bits.{bits_from-end}
-use Rattle.payload.proofs.Halves.{half_size, lower_half, upper_half, contains-lower_half, contains-upper_half, contains-trans, contains-longer, lower_half-bit, upper_half-bit, lower_half-contains, upper_half-contains, within-first}
-use Rattle.payload.proofs.TrieVrps.{HasLengths, contains-itself, lower_vrps, upper_vrps, leaf-or-room, node_vrps-cons, vrp_of, IsRound, any-node, any-parts, any-zero, any-one, none-lower_half, none-upper_half, All-within}
-use Rattle.payload.proofs.TrieWalks.{bit-of-cases, next-zero, next-one}
+use Rattle.payload.specs.steps.Trie.{authorizes, bits_from, half_first, half_vrps, node_vrps, originator_of, vrps_at, vrps_below}
+use Rattle.payload.proofs.Halves.{half, half-bit, contains-half, contains-trans, contains-longer, within-first}
+use Rattle.payload.proofs.TrieVrps.{HasLengths, contains-itself, node_vrps-cons, vrp_of, IsRound, any-node, any-parts, any-half, any-side, not-other, All-within}
+use Rattle.payload.proofs.TrieWalks.{walk}
 
 -- ---- the first bits of prefixes
 
@@ -99,46 +98,28 @@ unless a true c = and-false a
 unless a false c = refl
 
 -- past a node, a length is searched where no VRP of the node matches and it is searched in the half to which the bits go
-is_searched-zero : (route : Route) (p : Prefix) (os : List Originator) (low high : Tree) (k : ℕ) → IsPruned (width p.family) p.length (Fork os low high) → contains p route.prefix ≡ true → p.length < k → bit_of route.prefix p.length ≡ 0 → is_searched route (vrps_at p (Fork os low high)) k ≡ (if list_any (authorizes route) os then false else is_searched route (lower_vrps p low) k)
-is_searched-zero route p os low high k pruned inside longer bit =
+is_searched-half : (bit : Bool) (route : Route) (p : Prefix) (os : List Originator) (low high : Tree) (k : ℕ) → IsPruned (width p.family) p.length (Fork os low high) → contains p route.prefix ≡ true → p.length < k → (bit_of route.prefix p.length == 1) ≡ bit → is_searched route (vrps_at p (Fork os low high)) k ≡ (if list_any (authorizes route) os then false else is_searched route (half_vrps bit p (below bit (Fork os low high))) k)
+is_searched-half bit route p os low high k pruned inside longer is =
     ap (λ b. b && not (is_matched_before (vrps_at p (Fork os low high)) route k)) agreeing
-    ∙ ap (λ b. list_any test (lower_vrps p low) && not b) matching
+    ∙ ap (λ b. list_any test child && not b) matching
     ∙ unless _ (list_any (authorizes route) os) _
   where
     test : Vrp → Bool
     test v = agrees k v.prefix route.prefix
 
-    agreeing : list_any test (vrps_at p (Fork os low high)) ≡ list_any test (lower_vrps p low)
+    child : List Vrp
+    child = half_vrps bit p (below bit (Fork os low high))
+
+    agreeing : list_any test (vrps_at p (Fork os low high)) ≡ list_any test child
     agreeing =
-        any-parts test p os low high
-        ∙ ap (λ b. b || (list_any test (lower_vrps p low) || list_any test (upper_vrps p high))) (node-agrees p route.prefix os k pruned.0.lengths longer)
-        ∙ ap (λ b. list_any test (lower_vrps p low) || b) (none-upper_half test p high pruned.2.1 (λ room v inside. not-agrees p v.prefix route.prefix k longer (λ same. absurd (omega (arith, bit, same, upper_half-bit p v.prefix room inside)))))
-        ∙ or-false _
+        any-side bit test p os low high pruned (λ room v inside. not-agrees p v.prefix route.prefix k longer (λ same.
+        not-other bit _ is (ap (λ n. n == 1) (sym same) ∙ half-bit (not bit) p v.prefix room inside)))
+        ∙ ap (λ b. b || list_any test child) (node-agrees p route.prefix os k pruned.0.lengths longer)
 
-    matching : list_any (matches_before route k) (vrps_at p (Fork os low high)) ≡ (list_any (authorizes route) os || list_any (matches_before route k) (lower_vrps p low))
+    matching : list_any (matches_before route k) (vrps_at p (Fork os low high)) ≡ (list_any (authorizes route) os || list_any (matches_before route k) child)
     matching =
-        any-zero (matches_before route k) p route.prefix os low high (around-match route k) pruned bit
-        ∙ ap (λ b. b || list_any (matches_before route k) (lower_vrps p low)) (node-matches route p os k pruned.0.lengths inside longer)
-
-is_searched-one : (route : Route) (p : Prefix) (os : List Originator) (low high : Tree) (k : ℕ) → IsPruned (width p.family) p.length (Fork os low high) → contains p route.prefix ≡ true → p.length < k → bit_of route.prefix p.length ≡ 1 → is_searched route (vrps_at p (Fork os low high)) k ≡ (if list_any (authorizes route) os then false else is_searched route (upper_vrps p high) k)
-is_searched-one route p os low high k pruned inside longer bit =
-    ap (λ b. b && not (is_matched_before (vrps_at p (Fork os low high)) route k)) agreeing
-    ∙ ap (λ b. list_any test (upper_vrps p high) && not b) matching
-    ∙ unless _ (list_any (authorizes route) os) _
-  where
-    test : Vrp → Bool
-    test v = agrees k v.prefix route.prefix
-
-    agreeing : list_any test (vrps_at p (Fork os low high)) ≡ list_any test (upper_vrps p high)
-    agreeing =
-        any-parts test p os low high
-        ∙ ap (λ b. b || (list_any test (lower_vrps p low) || list_any test (upper_vrps p high))) (node-agrees p route.prefix os k pruned.0.lengths longer)
-        ∙ ap (λ b. b || list_any test (upper_vrps p high)) (none-lower_half test p low pruned.1.1 (λ room v inside. not-agrees p v.prefix route.prefix k longer (λ same. absurd (omega (arith, bit, same, lower_half-bit p v.prefix room inside)))))
-
-    matching : list_any (matches_before route k) (vrps_at p (Fork os low high)) ≡ (list_any (authorizes route) os || list_any (matches_before route k) (upper_vrps p high))
-    matching =
-        any-one (matches_before route k) p route.prefix os low high (around-match route k) pruned bit
-        ∙ ap (λ b. b || list_any (matches_before route k) (upper_vrps p high)) (node-matches route p os k pruned.0.lengths inside longer)
+        any-half bit (matches_before route k) p route.prefix os low high (around-match route k) pruned is
+        ∙ ap (λ b. b || list_any (matches_before route k) child) (node-matches route p os k pruned.0.lengths inside longer)
 
 -- a node that is not bare, or one below it, has a VRP
 some-vrp : (test : Vrp → Bool) (p : Prefix) (t : Tree) → IsPruned (width p.family) p.length t → (t ≡ Leaf → ⊥) → is_bare t ≡ false → ((v : Vrp) → contains p v.prefix ≡ true → test v ≡ true) → list_any test (vrps_at p t) ≡ true
@@ -146,16 +127,16 @@ some-vrp test p Leaf pruned node full each = absurd (node refl)
 some-vrp test p (Fork (o ∷ os) low high) pruned node full each =
     let fits = All-head (HasLengths p) o os pruned.0.lengths in
     any-parts test p (o ∷ os) low high
-    ∙ ap (λ b. b || (list_any test (lower_vrps p low) || list_any test (upper_vrps p high)))
+    ∙ ap (λ b. b || (list_any test (half_vrps false p low) || list_any test (half_vrps true p high)))
     (ap (list_any test) (node_vrps-cons p o os fits) ∙ ap (λ b. b || list_any test (node_vrps p os)) (each (vrp_of p o fits) (contains-itself p p refl)))
 some-vrp test p (Fork [] (Fork os low high) other) pruned node full each =
     let room : p.length < width p.family = omega (arith, pruned.1.1.0.fits) in
     any-parts test p [] (Fork os low high) other
-    ∙ ap (λ b. b || list_any test (upper_vrps p other))
-    (some-vrp test (lower_half p room) (Fork os low high) pruned.1.1 (λ e. cc) pruned.1.0 (λ v inside. each v (contains-trans p (lower_half p room) v.prefix (contains-lower_half p room) inside)))
+    ∙ ap (λ b. b || list_any test (half_vrps true p other))
+    (some-vrp test (half false p room) (Fork os low high) pruned.1.1 (λ e. cc) pruned.1.0 (λ v inside. each v (contains-trans p (half false p room) v.prefix (contains-half false p room) inside)))
 some-vrp test p (Fork [] Leaf (Fork os low high)) pruned node full each =
     let room : p.length < width p.family = omega (arith, pruned.2.1.0.fits) in
-    some-vrp test (upper_half p room) (Fork os low high) pruned.2.1 (λ e. cc) pruned.2.0 (λ v inside. each v (contains-trans p (upper_half p room) v.prefix (contains-upper_half p room) inside))
+    some-vrp test (half true p room) (Fork os low high) pruned.2.1 (λ e. cc) pruned.2.0 (λ v inside. each v (contains-trans p (half true p room) v.prefix (contains-half true p room) inside))
 some-vrp test p (Fork [] Leaf Leaf) pruned node full each = cc
 
 -- the length of a node's prefix
@@ -201,46 +182,40 @@ pub nodes-parts : (test : Originator → Bool) (path : List Bool) (os : List Ori
 nodes-parts test [] os low high = refl
 nodes-parts test (bit ∷ path) os low high = refl
 
--- from the length of a node below the root
-with-node : (route : Route) (p : Prefix) (t : Tree) (m : ℕ) → is_bare t ≡ false → IsPruned (width p.family) p.length t → contains p route.prefix ≡ true → passing (is_searched route (vrps_at p t)) (p.length + 1) m ≡ nodes_below (authorizes route) (bits_from route.prefix p.length) t → passing (is_searched route (vrps_at p t)) p.length (suc m) ≡ nodes_on_path (authorizes route) (bits_from route.prefix p.length) t
-with-node route p Leaf m full pruned inside rest = passing-none (is_searched route []) p.length (suc m) (λ k later. refl)
-with-node route p (Fork os low high) m full pruned inside rest =
-    let here = passing-first (is_searched route (vrps_at p (Fork os low high))) p.length m (is_searched-here route p os low high pruned full inside) in
-    omega (arith, here, rest, nodes-parts (authorizes route) (bits_from route.prefix p.length) os low high)
-
 passing-unless : (b : Bool) (f : ℕ → Bool) (a m n : ℕ) → passing f a m ≡ n → passing (λ k. if b then false else f k) a m ≡ (if b then 0 else n)
 passing-unless true f a m n same = passing-none (λ k. false) a m (λ k later. refl)
 passing-unless false f a m n same = same
 
--- where there is no node no length is searched
-without-node : (route : Route) (family : Family) (first len : ℕ) (t : Tree) (a m : ℕ) (path : List Bool) → t ≡ Leaf → passing (is_searched route (vrps_below family first len t)) a m ≡ nodes_on_path (authorizes route) path t
-without-node route family first len Leaf a m path leaf = passing-none (is_searched route []) a m (λ k later. refl)
-without-node route family first len (Fork os low high) a m path leaf = cc
+-- from the length of a prefix on, as many lengths are searched as there are nodes on the path from its node on
+abbrev Counts : Route → Family → ℕ → ℕ → List Bool → Tree → Type 0
+Counts route family first len path t = (m : ℕ) → route.prefix.length ≡ len + m → (
+    passing (is_searched route (vrps_below family first len t)) (len + 1) m ≡ nodes_below (authorizes route) path t
+    ) × (is_bare t ≡ false → passing (is_searched route (vrps_below family first len t)) len (suc m) ≡ nodes_on_path (authorizes route) path t)
 
--- past the length of a node, as many lengths are searched as there are nodes on the path below it
+with-node : (route : Route) (p : Prefix) (os : List Originator) (low high : Tree) (m : ℕ) (path : List Bool) → IsPruned (width p.family) p.length (Fork os low high) → contains p route.prefix ≡ true → passing (is_searched route (vrps_at p (Fork os low high))) (p.length + 1) m ≡ nodes_below (authorizes route) path (Fork os low high) → is_bare (Fork os low high) ≡ false → passing (is_searched route (vrps_at p (Fork os low high))) p.length (suc m) ≡ nodes_on_path (authorizes route) path (Fork os low high)
+with-node route p os low high m path pruned inside rest full =
+    omega (arith, passing-first (is_searched route (vrps_at p (Fork os low high))) p.length m (is_searched-here route p os low high pruned full inside), rest, nodes-parts (authorizes route) path os low high)
+
+counts-here : (route : Route) (p : Prefix) (os : List Originator) (low high : Tree) → IsPruned (width p.family) p.length (Fork os low high) → p ≡ route.prefix → Counts route p.family p.first p.length [] (Fork os low high)
+counts-here route p os low high pruned same m long =
+    let none : m ≡ 0 = omega (arith, long, ap (λ q. q.length) same) in
+    rw none (refl, with-node route p os low high 0 [] pruned (contains-itself p route.prefix (sym same)) refl)
+
+counts-next : (route : Route) (p : Prefix) (os : List Originator) (low high : Tree) → IsPruned (width p.family) p.length (Fork os low high) → contains p route.prefix ≡ true → p.length < route.prefix.length → (bit : Bool) → (bit_of route.prefix p.length == 1) ≡ bit → Counts route p.family (half_first bit p) (p.length + 1) (bits_from route.prefix (p.length + 1)) (below bit (Fork os low high)) → Counts route p.family p.first p.length (bit ∷ bits_from route.prefix (p.length + 1)) (Fork os low high)
+counts-next route p os low high pruned inside longer bit is child zero long = absurd (omega arith)
+counts-next route p os low high pruned inside longer bit is child (suc m) long = (later, with-node route p os low high (suc m) (bit ∷ bits_from route.prefix (p.length + 1)) pruned inside later)
+  where
+    full : (bit : Bool) → is_bare (below bit (Fork os low high)) ≡ false
+    full false = pruned.1.0
+    full true = pruned.2.0
+
+    later : passing (is_searched route (vrps_at p (Fork os low high))) (p.length + 1) (suc m) ≡ nodes_below (authorizes route) (bit ∷ bits_from route.prefix (p.length + 1)) (Fork os low high)
+    later =
+        passing-same _ _ (p.length + 1) (suc m) (λ k past. is_searched-half bit route p os low high k pruned inside (omega arith) is)
+        ∙ passing-unless (list_any (authorizes route) os) (is_searched route (half_vrps bit p (below bit (Fork os low high)))) (p.length + 1) (suc m) _ ((child m (omega arith)).1 (full bit))
+
 pub passing-below : (route : Route) (p : Prefix) (t : Tree) (m : ℕ) → IsPruned (width p.family) p.length t → contains p route.prefix ≡ true → route.prefix.length ≡ p.length + m → passing (is_searched route (vrps_at p t)) (p.length + 1) m ≡ nodes_below (authorizes route) (bits_from route.prefix p.length) t
-passing-below route p Leaf m pruned inside long = passing-none (is_searched route []) (p.length + 1) m (λ k later. refl)
-passing-below route p (Fork os low high) zero pruned inside long = rw (bits_from-end route.prefix p.length (omega arith))
-passing-below route p (Fork os low high) (suc m) pruned inside long =
-    let q = route.prefix in
-    let longer : p.length < q.length = omega arith in
-    elim (bit-of-cases q p.length) [
-      | inl bit ↦
-          rw (next-zero q p.length longer bit)
-          (passing-same _ _ (p.length + 1) (suc m) (λ k later. is_searched-zero route p os low high k pruned inside (omega arith) bit)
-          ∙ passing-unless (list_any (authorizes route) os) (is_searched route (lower_vrps p low)) (p.length + 1) (suc m) (nodes_on_path (authorizes route) (bits_from q (p.length + 1)) low) (elim (leaf-or-room p low pruned.1.1) [
-            | inl leaf ↦ without-node route p.family p.first (p.length + 1) low (p.length + 1) (suc m) (bits_from q (p.length + 1)) leaf
-            | inr room ↦
-                let inside' = lower_half-contains p q room inside longer bit in
-                with-node route (lower_half p room) low m pruned.1.0 pruned.1.1 inside' (passing-below route (lower_half p room) low m pruned.1.1 inside' (omega arith))
-          ]))
-      | inr bit ↦
-          rw (next-one q p.length longer bit)
-          (passing-same _ _ (p.length + 1) (suc m) (λ k later. is_searched-one route p os low high k pruned inside (omega arith) bit)
-          ∙ passing-unless (list_any (authorizes route) os) (is_searched route (upper_vrps p high)) (p.length + 1) (suc m) (nodes_on_path (authorizes route) (bits_from q (p.length + 1)) high) (elim (leaf-or-room p high pruned.2.1) [
-            | inl leaf ↦ without-node route p.family (p.first + half_size p) (p.length + 1) high (p.length + 1) (suc m) (bits_from q (p.length + 1)) leaf
-            | inr room ↦
-                let inside' = upper_half-contains p q room inside longer bit in
-                with-node route (upper_half p room) high m pruned.2.0 pruned.2.1 inside' (passing-below route (upper_half p room) high m pruned.2.1 inside' (omega arith))
-          ]))
-    ]
+passing-below route p t m pruned inside long =
+    (walk route.prefix (Counts route)
+    (λ family first len path m long. (passing-none _ (len + 1) m (λ k later. refl), λ full. passing-none _ len (suc m) (λ k later. refl)))
+    (counts-here route) (counts-next route) p t pruned inside m long).0

@@ -2,12 +2,14 @@ pub mod Bits
 pub mod Dedup
 pub mod Depths
 pub mod Fronts
+pub mod Grown
 pub mod Halves
 pub mod Left
 pub mod Lengths
 pub mod Places
 pub mod Prefixes
 pub mod Sets
+pub mod Skips
 pub mod SortedItems
 pub mod Trees
 pub mod TrieOrder

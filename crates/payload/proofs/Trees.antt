@@ -1,5 +1,5 @@
 -- Trees, by what is at the end of each path.
-use Rattle.std.proofs.Common.{◌≡◌, ℕ, ◌+◌, ◌≤◌, Bool, true, false, not, ◌&&◌, ◌||◌, List, [], ◌∷◌, length, refl, sym, ap, ◌∙◌, subst, arith, Result, Ok, Err}
+use Rattle.std.proofs.Common.{◌≡◌, ℕ, ◌≤◌, Bool, true, false, not, ◌&&◌, ◌||◌, List, [], ◌∷◌, ◌++◌, refl, sym, ap, ◌∙◌, subst, Result, Ok, Err}
 use Rattle.std.specs.Prelude.{OnOk, OnErr}
 use Rattle.std.specs.Cmp.{IsTotalOrder, nat_cmp_total, on_total, then_total}
 use Rattle.std.specs.FinMap.{nat_cmp-IsAntisymmetric}
@@ -7,11 +7,10 @@ use Rattle.std.specs.List.{list_any}
 use Rattle.std.specs.Ordering.{eq_by_cmp, is_eq}
 use Rattle.std.specs.declared.cmp.Ordering.TheVariants.{Equal}
 use Rattle.std.proofs.lemmas.Cmp.{tied_itself}
-use Rattle.std.proofs.lemmas.List.Elements.{All-nil, All-cons}
 use Rattle.addr.proofs.OrderLemmas.{both_equal}
 use Rattle.payload.specs.Rising.{RiseBy}
 use Rattle.payload.specs.declared.originator.Originator.{Originator}
-use Rattle.payload.specs.steps.Tree.{Tree, Leaf, Fork, Top, tree, AreOriginators, IsInserted, IsRemoved, IsPruned, has, is_bare, is_place, chain, originator_cmp, same_originator}
+use Rattle.payload.specs.steps.Tree.{Tree, Leaf, Fork, Top, tree, AreOriginators, IsInserted, IsRemoved, grown, has, is_bare, is_place, chain, originator_cmp, same_originator}
 use Rattle.payload.proofs.SortedItems.{All-inserted, All-removed}
 
 abbrev pub is_originator : Originator → Originator → Bool
@@ -51,27 +50,29 @@ full-inserted path o old new is = full-has path o new (is path o ∙ ap (λ b. b
 
 -- ---- a node changes in one child
 
-pub inserted-zero : (path : List Bool) (o : Originator) (xs : List Originator) (zero zero' one : Tree) → IsInserted path o zero zero' → IsInserted (false ∷ path) o (Fork xs zero one) (Fork xs zero' one)
-inserted-zero path o xs zero zero' one is [] q = refl
-inserted-zero path o xs zero zero' one is (false ∷ other) q = is other q
-inserted-zero path o xs zero zero' one is (true ∷ other) q = refl
+-- whether the new tree has an originator follows from whether it is the one at the end of the path, and whether the
+-- old tree has it
+abbrev pub IsChanged : (Bool → Bool → Bool) → List Bool → Originator → Tree → Tree → Type 0
+IsChanged now path o old new = (other : List Bool) (q : Originator) → has other q new ≡ now (is_place path o other q) (has other q old)
 
-pub inserted-one : (path : List Bool) (o : Originator) (xs : List Originator) (zero one one' : Tree) → IsInserted path o one one' → IsInserted (true ∷ path) o (Fork xs zero one) (Fork xs zero one')
-inserted-one path o xs zero one one' is [] q = refl
-inserted-one path o xs zero one one' is (false ∷ other) q = refl
-inserted-one path o xs zero one one' is (true ∷ other) q = is other q
+module _ (now : Bool → Bool → Bool) (stays : (had : Bool) → had ≡ now false had) where
+  pub changed-zero : (path : List Bool) (o : Originator) (xs : List Originator) (zero zero' one : Tree) → IsChanged now path o zero zero' → IsChanged now (false ∷ path) o (Fork xs zero one) (Fork xs zero' one)
+  changed-zero path o xs zero zero' one is [] q = stays _
+  changed-zero path o xs zero zero' one is (false ∷ other) q = is other q
+  changed-zero path o xs zero zero' one is (true ∷ other) q = stays _
 
-pub removed-zero : (path : List Bool) (o : Originator) (xs : List Originator) (zero zero' one : Tree) → IsRemoved path o zero zero' → IsRemoved (false ∷ path) o (Fork xs zero one) (Fork xs zero' one)
-removed-zero path o xs zero zero' one is [] q = refl
-removed-zero path o xs zero zero' one is (false ∷ other) q = is other q
-removed-zero path o xs zero zero' one is (true ∷ other) q = refl
+  pub changed-one : (path : List Bool) (o : Originator) (xs : List Originator) (zero one one' : Tree) → IsChanged now path o one one' → IsChanged now (true ∷ path) o (Fork xs zero one) (Fork xs zero one')
+  changed-one path o xs zero one one' is [] q = stays _
+  changed-one path o xs zero one one' is (false ∷ other) q = stays _
+  changed-one path o xs zero one one' is (true ∷ other) q = is other q
 
-pub removed-one : (path : List Bool) (o : Originator) (xs : List Originator) (zero one one' : Tree) → IsRemoved path o one one' → IsRemoved (true ∷ path) o (Fork xs zero one) (Fork xs zero one')
-removed-one path o xs zero one one' is [] q = refl
-removed-one path o xs zero one one' is (false ∷ other) q = refl
-removed-one path o xs zero one one' is (true ∷ other) q = is other q
+  -- what is at the end of the path changes
+  pub changed-grown : (path rest : List Bool) (o : Originator) (old new : Top) → IsChanged now rest o (tree old) (tree new) → IsChanged now (path ++ rest) o (tree (grown path old)) (tree (grown path new))
+  changed-grown [] rest o old new is = is
+  changed-grown (false ∷ path) rest o old new is = changed-zero _ _ _ _ _ _ (changed-grown path rest o old new is)
+  changed-grown (true ∷ path) rest o old new is = changed-one _ _ _ _ _ _ (changed-grown path rest o old new is)
 
-and-none : (b : Bool) → false ≡ (b && false)
+pub and-none : (b : Bool) → false ≡ (b && false)
 and-none true = refl
 and-none false = refl
 
@@ -79,7 +80,7 @@ and-none false = refl
 pub removed-leaf : (path : List Bool) (o : Originator) → IsRemoved path o Leaf Leaf
 removed-leaf path o other q = has-leaf other q ∙ and-none (not (is_place path o other q)) ∙ ap (λ b. not (is_place path o other q) && b) (sym (has-leaf other q))
 
-bare-none : (t : Tree) → is_bare t ≡ true → (path : List Bool) (o : Originator) → has path o t ≡ false
+pub bare-none : (t : Tree) → is_bare t ≡ true → (path : List Bool) (o : Originator) → has path o t ≡ false
 bare-none Leaf bare path o = has-leaf path o
 bare-none (Fork [] Leaf Leaf) bare [] o = refl
 bare-none (Fork [] Leaf Leaf) bare (false ∷ path) o = has-leaf path o
@@ -104,28 +105,6 @@ inserted-chain (false ∷ path) o (true ∷ other) q = refl
 inserted-chain (true ∷ path) o [] q = refl
 inserted-chain (true ∷ path) o (false ∷ other) q = refl
 inserted-chain (true ∷ path) o (true ∷ other) q = inserted-chain path o other q
-
-none-rise : RiseBy originator_cmp []
-none-rise i j d less within = absurd (omega arith)
-
-one-rises : (o : Originator) → RiseBy originator_cmp (o ∷ [])
-one-rises o i j d less within = absurd (omega arith)
-
-pub no_originators : (width len : ℕ) → len ≤ width → AreOriginators width len []
-no_originators width len fits = record { fits = fits; rise = none-rise; lengths = All-nil _ }
-
-pub pruned-chain : (width len : ℕ) (path : List Bool) (o : Originator) → len + length path ≤ o.max → o.max ≤ width → IsPruned width len (chain path o)
-pruned-chain width len [] o low high = (
-  record { fits = omega arith; rise = one-rises o; lengths = All-cons (λ q. (len ≤ q.max) × (q.max ≤ width)) o [] (omega arith, high) (All-nil _) },
-  (refl, tt),
-  (refl, tt),
-)
-pruned-chain width len (false ∷ path) o low high =
-    let rest : IsPruned width (len + 1) (chain path o) = pruned-chain width (len + 1) path o (omega arith) high in
-    (no_originators width len (omega arith), (full-inserted path o Leaf (chain path o) (inserted-chain path o), rest), (refl, tt))
-pruned-chain width len (true ∷ path) o low high =
-    let rest : IsPruned width (len + 1) (chain path o) = pruned-chain width (len + 1) path o (omega arith) high in
-    (no_originators width len (omega arith), (refl, tt), (full-inserted path o Leaf (chain path o) (inserted-chain path o), rest))
 
 -- ---- the originators at one node
 

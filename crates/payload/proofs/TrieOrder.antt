@@ -1,10 +1,10 @@
 -- The VRPs of a tree rise.
-use Rattle.std.proofs.Common.{◌≡◌, suc, ◌+◌, ◌<◌, true, List, [], ◌∷◌, ◌++◌, refl, sym, ap, ◌∙◌, subst, arith, inl, inr}
+use Rattle.std.proofs.Common.{◌≡◌, suc, ◌<◌, true, false, List, [], ◌∷◌, ◌++◌, refl, sym, ap, ◌∙◌, subst, arith, inl, inr}
 use Rattle.std.specs.List.{All, AllPairs}
 use Rattle.std.specs.declared.cmp.Ordering.TheVariants.{Less, Equal}
 use Rattle.std.proofs.lemmas.Bool.{cases_lt}
 use Rattle.std.proofs.lemmas.Cmp.{tied_itself}
-use Rattle.std.proofs.lemmas.List.Elements.{All-append, All-head, All-nil, All-tail, All-weaker}
+use Rattle.std.proofs.lemmas.List.Elements.{All-append, All-head, All-tail}
 use Rattle.std.proofs.lemmas.List.Kept.{AllPairs-cons}
 use Rattle.addr.specs.Address.{contains}
 use Rattle.addr.specs.Family.{width}
@@ -17,10 +17,10 @@ use Rattle.addr.proofs.OrderLemmas.{prefix_order}
 use Rattle.payload.specs.Rising.{AreRising, RiseBy}
 use Rattle.payload.specs.declared.originator.Originator.{Originator}
 use Rattle.payload.specs.steps.Tree.{Tree, Leaf, Fork, IsPruned, originator_cmp}
-use Rattle.payload.specs.steps.Trie.{node_vrps, vrps_at}
-use Rattle.payload.proofs.Halves.{lower_half, upper_half, contains-lower_half, contains-upper_half, contains-trans, contains-longer, within-first}
+use Rattle.payload.specs.steps.Trie.{half_vrps, node_vrps, vrps_at}
+use Rattle.payload.proofs.Halves.{half, contains-half, contains-trans, contains-longer, within-first}
 use Rattle.addr.proofs.PrefixOrderLemmas.{cmp-less, cmp-equal, contains-ends}
-use Rattle.payload.proofs.TrieVrps.{HasLengths, node_vrps-cons, lower_vrps, upper_vrps, leaf-or-room, vrp_of, All-node, All-within}
+use Rattle.payload.proofs.TrieVrps.{All-half, HasLengths, node_vrps-cons, leaf-or-room, vrp_of, All-node}
 
 -- each item of the one list before each of the other
 pub pairs-append : {X : Type 0} (R : X → X → Type 0) (xs ys : List X) → AllPairs R xs → AllPairs R ys → All (λ x. All (R x) ys) xs → AllPairs R (xs ++ ys)
@@ -67,20 +67,6 @@ node-rises p (o ∷ os) all rise =
     rw tie less))
     (node-rises p os rest (λ i j d less within. rise (suc i) (suc j) d (omega arith) (omega arith))))
 
-All-lower_half : (P : Vrp → Type 0) (p : Prefix) (zero : Tree) → IsPruned (width p.family) (p.length + 1) zero → ((room : p.length < width p.family) (v : Vrp) → contains (lower_half p room) v.prefix ≡ true → P v) → All P (lower_vrps p zero)
-All-lower_half P p zero pruned each =
-    elim (leaf-or-room p zero pruned) [
-      | inl leaf ↦ rw leaf (All-nil P)
-      | inr room ↦ All-weaker _ P (each room) _ (All-within (lower_half p room) zero pruned)
-    ]
-
-All-upper_half : (P : Vrp → Type 0) (p : Prefix) (one : Tree) → IsPruned (width p.family) (p.length + 1) one → ((room : p.length < width p.family) (v : Vrp) → contains (upper_half p room) v.prefix ≡ true → P v) → All P (upper_vrps p one)
-All-upper_half P p one pruned each =
-    elim (leaf-or-room p one pruned) [
-      | inl leaf ↦ rw leaf (All-nil P)
-      | inr room ↦ All-weaker _ P (each room) _ (All-within (upper_half p room) one pruned)
-    ]
-
 none-rise : AreRising []
 none-rise i j d less within = absurd (omega arith)
 
@@ -91,28 +77,28 @@ pub vrps-rise : (p : Prefix) (t : Tree) → IsPruned (width p.family) p.length t
 vrps-rise p Leaf pruned = none-rise
 vrps-rise p (Fork os zero one) pruned =
     pairs-append Before (node_vrps p os) _ (node-rises p os pruned.0.lengths pruned.0.rise)
-    (pairs-append Before (lower_vrps p zero) (upper_vrps p one)
+    (pairs-append Before (half_vrps false p zero) (half_vrps true p one)
     (elim (leaf-or-room p zero pruned.1.1) [
       | inl leaf ↦ rw leaf none-rise
-      | inr room ↦ vrps-rise (lower_half p room) zero pruned.1.1
+      | inr room ↦ vrps-rise (half false p room) zero pruned.1.1
     ])
     (elim (leaf-or-room p one pruned.2.1) [
       | inl leaf ↦ rw leaf none-rise
-      | inr room ↦ vrps-rise (upper_half p room) one pruned.2.1
+      | inr room ↦ vrps-rise (half true p room) one pruned.2.1
     ])
-    (All-lower_half (λ v. All (Before v) (upper_vrps p one)) p zero pruned.1.1 (λ room v low.
-    All-upper_half (Before v) p one pruned.2.1 (λ room' w high.
-    let below = contains-ends (lower_half p room) v.prefix low in
-    let above = contains-ends (upper_half p room') w.prefix high in
+    (All-half false (λ v. All (Before v) (half_vrps true p one)) p zero pruned.1.1 (λ room v low.
+    All-half true (Before v) p one pruned.2.1 (λ room' w high.
+    let below = contains-ends (half false p room) v.prefix low in
+    let above = contains-ends (half true p room') w.prefix high in
     less-first v w (sym below.family ∙ above.family) (first-below p room v low w room' high)))))
-    (All-node (HasLengths p) (λ v. All (Before v) (lower_vrps p zero ++ upper_vrps p one)) p os pruned.0.lengths pruned.0.lengths (λ v at fits.
-    All-append (Before v) (lower_vrps p zero) (upper_vrps p one)
-    (All-lower_half (Before v) p zero pruned.1.1 (λ room w inside.
-    less-within p v w at (contains-trans p (lower_half p room) w.prefix (contains-lower_half p room) inside) (omega (arith, contains-longer (lower_half p room) w.prefix inside))))
-    (All-upper_half (Before v) p one pruned.2.1 (λ room w inside.
-    less-within p v w at (contains-trans p (upper_half p room) w.prefix (contains-upper_half p room) inside) (omega (arith, contains-longer (upper_half p room) w.prefix inside))))))
+    (All-node (HasLengths p) (λ v. All (Before v) (half_vrps false p zero ++ half_vrps true p one)) p os pruned.0.lengths pruned.0.lengths (λ v at fits.
+    All-append (Before v) (half_vrps false p zero) (half_vrps true p one)
+    (All-half false (Before v) p zero pruned.1.1 (λ room w inside.
+    less-within p v w at (contains-trans p (half false p room) w.prefix (contains-half false p room) inside) (omega (arith, contains-longer (half false p room) w.prefix inside))))
+    (All-half true (Before v) p one pruned.2.1 (λ room w inside.
+    less-within p v w at (contains-trans p (half true p room) w.prefix (contains-half true p room) inside) (omega (arith, contains-longer (half true p room) w.prefix inside))))))
   where
-    first-below : (p : Prefix) (room : p.length < width p.family) (v : Vrp) → contains (lower_half p room) v.prefix ≡ true → (w : Vrp) (room' : p.length < width p.family) → contains (upper_half p room') w.prefix ≡ true → v.prefix.first < w.prefix.first
+    first-below : (p : Prefix) (room : p.length < width p.family) (v : Vrp) → contains (half false p room) v.prefix ≡ true → (w : Vrp) (room' : p.length < width p.family) → contains (half true p room') w.prefix ≡ true → v.prefix.first < w.prefix.first
     first-below p room v low w room' high =
-        let above = contains-ends (upper_half p room') w.prefix high in
-        omega (arith, above.first, within-first (lower_half p room) v.prefix low)
+        let above = contains-ends (half true p room') w.prefix high in
+        omega (arith, above.first, within-first (half false p room) v.prefix low)

@@ -1,11 +1,13 @@
 -- The state of a route, and the nodes gone to, as a walk down a tree goes on.
-use Rattle.std.proofs.Common.{◌≡◌, ℕ, ◌+◌, ◌<◌, Bool, true, false, ◌||◌, if◌then◌else◌, List, [], ◌∷◌, length, refl, sym, ap, ◌∙◌, arith}
+use Rattle.std.proofs.Common.{◌≡◌, ℕ, ◌+◌, ◌<◌, Bool, true, false, ◌||◌, if◌then◌else◌, List, [], ◌∷◌, ◌++◌, length, refl, sym, ap, ◌∙◌, arith}
 use Rattle.std.specs.List.{list_any}
 use Rattle.addr.specs.OriginValidation.{ValidationState, Valid}
 use Rattle.addr.specs.declared.route.Route.{Route}
 use Rattle.payload.specs.declared.originator.Originator.{Originator}
-use Rattle.payload.specs.steps.Tree.{Tree, Leaf, Fork, below, has_on_path, nodes_on_path}
+use Rattle.payload.specs.steps.Tree.{Tree, Leaf, Fork, Top, below, grown, tree, has_on_path, nodes_on_path}
 use Rattle.payload.specs.steps.Trie.{authorizes, state_below, walked_state}
+use Rattle.payload.specs.steps.Skipped.{common}
+use Rattle.payload.proofs.Grown.{on_path-apart, on_path-grown}
 use Rattle.payload.proofs.TrieWalks.{on-path-leaf}
 
 -- the state by a node whose VRPs do not match and by those below it
@@ -25,6 +27,18 @@ pub walked-leaf : (route : Route) (above : ValidationState) (path : List Bool) �
 walked-leaf route above path =
     sym (ap (λ b. if b then Valid else state_below above (has_on_path (λ o. true) path Leaf)) (on-path-leaf (authorizes route) path)
     ∙ ap (state_below above) (on-path-leaf (λ o. true) path))
+
+-- past skipped bits
+pub walked-grown : (route : Route) (above : ValidationState) (path rest : List Bool) (t : Top) → walked_state route above rest (tree t) ≡ walked_state route above (path ++ rest) (tree (grown path t))
+walked-grown route above path rest t = sym (λ i.
+    if on_path-grown (authorizes route) path rest t i then Valid
+    else state_below above (on_path-grown (λ o. true) path rest t i))
+
+-- where the bits differ from those that are skipped the state stays
+pub walked-apart : (route : Route) (above : ValidationState) (path other : List Bool) (t : Top) → common path other < length path → above ≡ walked_state route above other (tree (grown path t))
+walked-apart route above path other t apart = sym (λ i.
+    if on_path-apart (authorizes route) path other t apart i then Valid
+    else state_below above (on_path-apart (λ o. true) path other t apart i))
 
 pub nodes-next : (route : Route) (bit : Bool) (path : List Bool) (os : List Originator) (zero one : Tree) (count : ℕ) → list_any (authorizes route) os ≡ false → count + 1 + nodes_on_path (authorizes route) path (below bit (Fork os zero one)) ≡ count + nodes_on_path (authorizes route) (bit ∷ path) (Fork os zero one)
 nodes-next route bit path os zero one count none =

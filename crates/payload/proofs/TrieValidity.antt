@@ -1,13 +1,13 @@
 -- The VRPs of a trie: they rise, what state they give a route, and at which lengths a search looks.
 use Rattle.std.proofs.Common.{◌≡◌, ℕ, suc, ◌+◌, ◌≤◌, Bool, true, false, not, ◌&&◌, ◌||◌, nat_lt, get_or, if◌then◌else◌, List, length, sym, ap, ◌∙◌, arith}
-use Rattle.std.proofs.Math.Bool.{or-false, and-false, and-true}
+use Rattle.std.proofs.Math.Bool.{and-false, and-true}
 use Rattle.std.specs.List.{All, list_any, range_with_len}
 use Rattle.std.specs.declared.cmp.Ordering.TheVariants.{Less}
 use Rattle.std.proofs.lemmas.Bool.{false_from_ne_true, and_parts, lt-leb, ne_eqb}
 use Rattle.std.proofs.lemmas.List.Elements.{All-weaker}
 use Rattle.std.proofs.lemmas.List.FromFn.{length-range_with_len}
 use Rattle.std.proofs.lemmas.List.Sums.{count_by-le-length, length-filter}
-use Rattle.std.proofs.lemmas.List.Folds.{list_any-append, list_any_none}
+use Rattle.std.proofs.lemmas.List.Folds.{list_any_none}
 use Rattle.addr.specs.OriginValidation.{Valid, NotFound, covers, matches, validation_state}
 use Rattle.addr.specs.Order.{vrp_cmp}
 use Rattle.addr.specs.declared.family.Family.{Family}
@@ -27,7 +27,7 @@ use Rattle.payload.proofs.Sets.{items-from_list}
 use Rattle.payload.proofs.TrieOrder.{pairs-append, vrps-rise}
 use Rattle.payload.proofs.TrieVrps.{All-within}
 use Rattle.payload.proofs.TrieWalks.{any-covers, covers_with}
-use Rattle.payload.proofs.Tries.{none-of_four, none-of_six, whole-four, whole-six}
+use Rattle.payload.proofs.Tries.{any-four, any-six, whole-four, whole-six}
 
 -- ---- the VRPs rise
 
@@ -45,18 +45,6 @@ trie-rises four six prune4 prune6 =
 -- the VRPs of the set are those of the trees, in their order
 pub trie-items : (s : set.VrpSet) (four six : Tree) → set.from_list (trie_vrps four six) ≡ s → IsPruned 32 0 four → IsPruned 128 0 six → set.items s ≡ trie_vrps four six
 trie-items s four six view prune4 prune6 = ap set.items (sym view) ∙ items-from_list (trie_vrps four six) (trie-rises four six prune4 prune6)
-
--- ---- a test that no VRP of the other family passes
-
-any-four : (test : Vrp → Bool) (four six : Tree) → IsPruned 128 0 six → ((v : Vrp) → v.prefix.family ≡ V6 → test v ≡ false) → list_any test (trie_vrps four six) ≡ list_any test (vrps_below V4 0 0 four)
-any-four test four six prune6 out =
-    list_any-append test (vrps_below V4 0 0 four) (vrps_below V6 0 0 six)
-    ∙ ap (λ b. list_any test (vrps_below V4 0 0 four) || b) (none-of_six test six prune6 out) ∙ or-false _
-
-any-six : (test : Vrp → Bool) (four six : Tree) → IsPruned 32 0 four → ((v : Vrp) → v.prefix.family ≡ V4 → test v ≡ false) → list_any test (trie_vrps four six) ≡ list_any test (vrps_below V6 0 0 six)
-any-six test four six prune4 out =
-    list_any-append test (vrps_below V4 0 0 four) (vrps_below V6 0 0 six)
-    ∙ ap (λ b. b || list_any test (vrps_below V6 0 0 six)) (none-of_four test four prune4 out)
 
 -- ---- the state of a route
 

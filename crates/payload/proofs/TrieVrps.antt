@@ -1,5 +1,5 @@
 -- The VRPs of a tree, and what tests say of them.
-use Rattle.std.proofs.Common.{◌≡◌, ◌+◌, ◌≤◌, ◌<◌, Bool, true, false, ◌||◌, List, [], ◌∷◌, Some, refl, sym, ap, ◌∙◌, subst, arith, inl, inr, ◌⊎◌}
+use Rattle.std.proofs.Common.{◌≡◌, ◌+◌, ◌≤◌, ◌<◌, Bool, true, false, not, ◌==◌, ◌||◌, List, [], ◌∷◌, Some, refl, sym, ap, ◌∙◌, subst, arith, inl, inr, ◌⊎◌}
 use Rattle.std.proofs.Math.Bool.{or-false}
 use Rattle.std.specs.List.{All, list_any}
 use Rattle.std.proofs.lemmas.Bool.{false_from_ne_true}
@@ -12,9 +12,9 @@ use Rattle.addr.specs.PrefixText.{prefix_if, prefix_with}
 use Rattle.addr.specs.declared.prefix.Prefix.{Prefix}
 use Rattle.addr.specs.declared.vrp.Vrp.{Vrp}
 use Rattle.payload.specs.declared.originator.Originator.{Originator}
-use Rattle.payload.specs.steps.Tree.{Tree, Leaf, Fork, IsPruned}
-use Rattle.payload.specs.steps.Trie.{node_vrps, originator_of, vrp_at, vrp_if, vrp_of_parts, vrps_at, vrps_below}
-use Rattle.payload.proofs.Halves.{half_size, lower_half, upper_half, contains-lower_half, contains-upper_half, contains-trans, contains-longer, lower_half-bit, upper_half-bit}
+use Rattle.payload.specs.steps.Tree.{Tree, Leaf, Fork, IsPruned, below}
+use Rattle.payload.specs.steps.Trie.{half_vrps, node_vrps, originator_of, vrp_at, vrp_if, vrp_of_parts, vrps_at, vrps_below}
+use Rattle.payload.proofs.Halves.{half, half-bit, contains-half, contains-trans, contains-longer}
 use Rattle.addr.proofs.PrefixOrderLemmas.{ends-contains}
 
 abbrev pub HasLengths : Prefix → Originator → Type 0
@@ -84,38 +84,28 @@ All-within p (Fork os zero one) pruned =
     (All-append (IsInside p) (vrps_below p.family p.first (p.length + 1) zero) _
     (elim (leaf-or-room p zero pruned.1.1) [
       | inl leaf ↦ rw leaf (All-nil (IsInside p))
-      | inr room ↦ All-weaker _ (IsInside p) (λ v inside. contains-trans p (lower_half p room) v.prefix (contains-lower_half p room) inside) _ (All-within (lower_half p room) zero pruned.1.1)
+      | inr room ↦ All-weaker _ (IsInside p) (λ v inside. contains-trans p (half false p room) v.prefix (contains-half false p room) inside) _ (All-within (half false p room) zero pruned.1.1)
     ])
     (elim (leaf-or-room p one pruned.2.1) [
       | inl leaf ↦ rw leaf (All-nil (IsInside p))
-      | inr room ↦ All-weaker _ (IsInside p) (λ v inside. contains-trans p (upper_half p room) v.prefix (contains-upper_half p room) inside) _ (All-within (upper_half p room) one pruned.2.1)
+      | inr room ↦ All-weaker _ (IsInside p) (λ v inside. contains-trans p (half true p room) v.prefix (contains-half true p room) inside) _ (All-within (half true p room) one pruned.2.1)
     ]))
 
--- the children's VRPs
-abbrev pub lower_vrps : Prefix → Tree → List Vrp
-lower_vrps p zero = vrps_below p.family p.first (p.length + 1) zero
-
-abbrev pub upper_vrps : Prefix → Tree → List Vrp
-upper_vrps p one = vrps_below p.family (p.first + half_size p) (p.length + 1) one
-
-pub none-lower_half : (test : Vrp → Bool) (p : Prefix) (zero : Tree) → IsPruned (width p.family) (p.length + 1) zero → ((room : p.length < width p.family) (v : Vrp) → contains (lower_half p room) v.prefix ≡ true → test v ≡ false) → list_any test (lower_vrps p zero) ≡ false
-none-lower_half test p zero pruned out =
-    elim (leaf-or-room p zero pruned) [
-      | inl leaf ↦ rw leaf
-      | inr room ↦ list_any_none test _ (All-weaker _ (λ v. test v ≡ false) (out room) _ (All-within (lower_half p room) zero pruned))
+-- what holds of the VRPs in a half holds of a child's
+pub All-half : (bit : Bool) (P : Vrp → Type 0) (p : Prefix) (t : Tree) → IsPruned (width p.family) (p.length + 1) t → ((room : p.length < width p.family) (v : Vrp) → contains (half bit p room) v.prefix ≡ true → P v) → All P (half_vrps bit p t)
+All-half bit P p t pruned each =
+    elim (leaf-or-room p t pruned) [
+      | inl leaf ↦ rw leaf (All-nil P)
+      | inr room ↦ All-weaker _ P (each room) _ (All-within (half bit p room) t pruned)
     ]
 
-pub none-upper_half : (test : Vrp → Bool) (p : Prefix) (one : Tree) → IsPruned (width p.family) (p.length + 1) one → ((room : p.length < width p.family) (v : Vrp) → contains (upper_half p room) v.prefix ≡ true → test v ≡ false) → list_any test (upper_vrps p one) ≡ false
-none-upper_half test p one pruned out =
-    elim (leaf-or-room p one pruned) [
-      | inl leaf ↦ rw leaf
-      | inr room ↦ list_any_none test _ (All-weaker _ (λ v. test v ≡ false) (out room) _ (All-within (upper_half p room) one pruned))
-    ]
+none-half : (bit : Bool) (test : Vrp → Bool) (p : Prefix) (t : Tree) → IsPruned (width p.family) (p.length + 1) t → ((room : p.length < width p.family) (v : Vrp) → contains (half bit p room) v.prefix ≡ true → test v ≡ false) → list_any test (half_vrps bit p t) ≡ false
+none-half bit test p t pruned out = list_any_none test _ (All-half bit (λ v. test v ≡ false) p t pruned out)
 
-pub any-parts : (test : Vrp → Bool) (p : Prefix) (os : List Originator) (zero one : Tree) → list_any test (vrps_at p (Fork os zero one)) ≡ (list_any test (node_vrps p os) || (list_any test (lower_vrps p zero) || list_any test (upper_vrps p one)))
+pub any-parts : (test : Vrp → Bool) (p : Prefix) (os : List Originator) (zero one : Tree) → list_any test (vrps_at p (Fork os zero one)) ≡ (list_any test (node_vrps p os) || (list_any test (half_vrps false p zero) || list_any test (half_vrps true p one)))
 any-parts test p os zero one =
     list_any-append test (node_vrps p os) _
-    ∙ ap (λ b. list_any test (node_vrps p os) || b) (list_any-append test (lower_vrps p zero) (upper_vrps p one))
+    ∙ ap (λ b. list_any test (node_vrps p os) || b) (list_any-append test (half_vrps false p zero) (half_vrps true p one))
 
 -- ---- a test that only VRPs round a prefix q pass, where p contains q
 
@@ -126,21 +116,29 @@ IsRound q test = (v : Vrp) → test v ≡ true → contains v.prefix q ≡ true
 pub any-here : (test : Vrp → Bool) (p q : Prefix) (os : List Originator) (zero one : Tree) → IsRound q test → IsPruned (width p.family) p.length (Fork os zero one) → q.length ≤ p.length → list_any test (vrps_at p (Fork os zero one)) ≡ list_any test (node_vrps p os)
 any-here test p q os zero one round pruned short =
     any-parts test p os zero one
-    ∙ ap (λ b. list_any test (node_vrps p os) || (b || list_any test (upper_vrps p one))) (none-lower_half test p zero pruned.1.1 (λ room v inside. false_from_ne_true _ (λ passes.
-    absurd (omega (arith, contains-longer v.prefix q (round v passes), contains-longer (lower_half p room) v.prefix inside)))))
-    ∙ ap (λ b. list_any test (node_vrps p os) || b) (none-upper_half test p one pruned.2.1 (λ room v inside. false_from_ne_true _ (λ passes.
-    absurd (omega (arith, contains-longer v.prefix q (round v passes), contains-longer (upper_half p room) v.prefix inside)))))
+    ∙ ap (λ b. list_any test (node_vrps p os) || (b || list_any test (half_vrps true p one))) (none false zero pruned.1.1)
+    ∙ ap (λ b. list_any test (node_vrps p os) || b) (none true one pruned.2.1)
     ∙ or-false _
+  where
+    none : (bit : Bool) (t : Tree) → IsPruned (width p.family) (p.length + 1) t → list_any test (half_vrps bit p t) ≡ false
+    none bit t pruned = none-half bit test p t pruned (λ room v inside. false_from_ne_true _ (λ passes.
+        absurd (omega (arith, contains-longer v.prefix q (round v passes), contains-longer (half bit p room) v.prefix inside))))
 
-pub any-zero : (test : Vrp → Bool) (p q : Prefix) (os : List Originator) (zero one : Tree) → IsRound q test → IsPruned (width p.family) p.length (Fork os zero one) → bit_of q p.length ≡ 0 → list_any test (vrps_at p (Fork os zero one)) ≡ (list_any test (node_vrps p os) || list_any test (lower_vrps p zero))
-any-zero test p q os zero one round pruned bit =
+-- where none in the other half passes, only VRPs at the node and in the half of the bit do
+pub any-side : (bit : Bool) (test : Vrp → Bool) (p : Prefix) (os : List Originator) (zero one : Tree) → IsPruned (width p.family) p.length (Fork os zero one) → ((room : p.length < width p.family) (v : Vrp) → contains (half (not bit) p room) v.prefix ≡ true → test v ≡ false) → list_any test (vrps_at p (Fork os zero one)) ≡ (list_any test (node_vrps p os) || list_any test (half_vrps bit p (below bit (Fork os zero one))))
+any-side false test p os zero one pruned out =
     any-parts test p os zero one
-    ∙ ap (λ b. list_any test (node_vrps p os) || (list_any test (lower_vrps p zero) || b)) (none-upper_half test p one pruned.2.1 (λ room v inside. false_from_ne_true _ (λ passes.
-    absurd (omega (arith, bit, upper_half-bit p q room (contains-trans (upper_half p room) v.prefix q inside (round v passes)))))))
+    ∙ ap (λ b. list_any test (node_vrps p os) || (list_any test (half_vrps false p zero) || b)) (none-half true test p one pruned.2.1 out)
     ∙ ap (λ b. list_any test (node_vrps p os) || b) (or-false _)
-
-pub any-one : (test : Vrp → Bool) (p q : Prefix) (os : List Originator) (zero one : Tree) → IsRound q test → IsPruned (width p.family) p.length (Fork os zero one) → bit_of q p.length ≡ 1 → list_any test (vrps_at p (Fork os zero one)) ≡ (list_any test (node_vrps p os) || list_any test (upper_vrps p one))
-any-one test p q os zero one round pruned bit =
+any-side true test p os zero one pruned out =
     any-parts test p os zero one
-    ∙ ap (λ b. list_any test (node_vrps p os) || (b || list_any test (upper_vrps p one))) (none-lower_half test p zero pruned.1.1 (λ room v inside. false_from_ne_true _ (λ passes.
-    absurd (omega (arith, bit, lower_half-bit p q room (contains-trans (lower_half p room) v.prefix q inside (round v passes)))))))
+    ∙ ap (λ b. list_any test (node_vrps p os) || (b || list_any test (half_vrps true p one))) (none-half false test p zero pruned.1.1 out)
+
+pub not-other : (bit other : Bool) → other ≡ bit → other ≡ not bit → ⊥
+not-other false other is isn't = cc
+not-other true other is isn't = cc
+
+pub any-half : (bit : Bool) (test : Vrp → Bool) (p q : Prefix) (os : List Originator) (zero one : Tree) → IsRound q test → IsPruned (width p.family) p.length (Fork os zero one) → (bit_of q p.length == 1) ≡ bit → list_any test (vrps_at p (Fork os zero one)) ≡ (list_any test (node_vrps p os) || list_any test (half_vrps bit p (below bit (Fork os zero one))))
+any-half bit test p q os zero one round pruned is =
+    any-side bit test p os zero one pruned (λ room v inside. false_from_ne_true _ (λ passes.
+    not-other bit _ is (half-bit (not bit) p q room (contains-trans (half (not bit) p room) v.prefix q inside (round v passes)))))

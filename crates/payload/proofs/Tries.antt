@@ -1,5 +1,5 @@
 -- The set of a trie's two trees.
-use Rattle.std.proofs.Common.{lit<, ◌≡◌, ◌+◌, ◌-◌, ◌^◌, ◌≤◌, Bool, true, false, not, ◌&&◌, ◌||◌, List, [], ◌∷◌, ◌++◌, length, refl, sym, ap, ◌∙◌, subst, arith, inl, inr, ◌⊎◌}
+use Rattle.std.proofs.Common.{lit<, ◌≡◌, ◌+◌, ◌-◌, ◌^◌, ◌≤◌, Bool, true, false, ◌||◌, List, [], ◌∷◌, ◌++◌, length, refl, sym, ap, ◌∙◌, subst, arith, inl, inr, ◌⊎◌}
 use Rattle.std.proofs.Math.Bool.{or-false}
 use Rattle.std.specs.List.{list_any}
 use Rattle.std.proofs.lemmas.Bool.{false_from_ne_true}
@@ -14,13 +14,14 @@ use Rattle.addr.specs.declared.prefix.Prefix.{Prefix}
 use Rattle.addr.specs.declared.vrp.Vrp.{Vrp}
 use Rattle.payload.specs.VrpSet as set
 use Rattle.payload.specs.declared.originator.Originator.{Originator}
-use Rattle.payload.specs.steps.Tree.{Tree, Leaf, IsInserted, IsRemoved, IsPruned, has, is_place, chain}
+use Rattle.payload.specs.steps.Tree.{Tree, Leaf, IsPruned, has, is_place, chain}
 use Rattle.payload.specs.steps.Trie.{bits_from, originator_of, trie_vrps, vrps_at, vrps_below, whole}
 use Rattle.payload.proofs.Bits.{length-bits_from}
-use Rattle.payload.proofs.Halves.{lower_half, upper_half, contains-longer}
+use Rattle.payload.proofs.Halves.{half, contains-longer}
 use Rattle.addr.proofs.PrefixOrderLemmas.{contains-ends, ends-contains}
+use Rattle.payload.proofs.Grown.{pruned-chain}
 use Rattle.payload.proofs.Sets.{is_vrp, same_vrp-equal, contains-from_list}
-use Rattle.payload.proofs.Trees.{has-leaf, inserted-chain, pruned-chain, place-itself}
+use Rattle.payload.proofs.Trees.{IsChanged, has-leaf, inserted-chain, place-itself}
 use Rattle.payload.proofs.TrieVrps.{All-within, leaf-or-room, node_vrps-cons}
 use Rattle.payload.proofs.TrieWalks.{any-is_vrp}
 
@@ -35,11 +36,22 @@ whole-six q is =
     ends-contains (whole V6) q (sym is) (omega arith) (omega arith)
 
 -- no VRP of one family is in the other's tree
-pub none-of_four : (test : Vrp → Bool) (four : Tree) → IsPruned 32 0 four → ((v : Vrp) → v.prefix.family ≡ V4 → test v ≡ false) → list_any test (vrps_below V4 0 0 four) ≡ false
+none-of_four : (test : Vrp → Bool) (four : Tree) → IsPruned 32 0 four → ((v : Vrp) → v.prefix.family ≡ V4 → test v ≡ false) → list_any test (vrps_below V4 0 0 four) ≡ false
 none-of_four test four pruned out = list_any_none test _ (All-weaker _ (λ v. test v ≡ false) (λ v inside. out v (sym (contains-ends (whole V4) v.prefix inside).family)) _ (All-within (whole V4) four pruned))
 
-pub none-of_six : (test : Vrp → Bool) (six : Tree) → IsPruned 128 0 six → ((v : Vrp) → v.prefix.family ≡ V6 → test v ≡ false) → list_any test (vrps_below V6 0 0 six) ≡ false
+none-of_six : (test : Vrp → Bool) (six : Tree) → IsPruned 128 0 six → ((v : Vrp) → v.prefix.family ≡ V6 → test v ≡ false) → list_any test (vrps_below V6 0 0 six) ≡ false
 none-of_six test six pruned out = list_any_none test _ (All-weaker _ (λ v. test v ≡ false) (λ v inside. out v (sym (contains-ends (whole V6) v.prefix inside).family)) _ (All-within (whole V6) six pruned))
+
+-- a test that no VRP of the other family passes
+pub any-four : (test : Vrp → Bool) (four six : Tree) → IsPruned 128 0 six → ((v : Vrp) → v.prefix.family ≡ V6 → test v ≡ false) → list_any test (trie_vrps four six) ≡ list_any test (vrps_below V4 0 0 four)
+any-four test four six prune6 out =
+    list_any-append test (vrps_below V4 0 0 four) (vrps_below V6 0 0 six)
+    ∙ ap (λ b. list_any test (vrps_below V4 0 0 four) || b) (none-of_six test six prune6 out) ∙ or-false _
+
+pub any-six : (test : Vrp → Bool) (four six : Tree) → IsPruned 32 0 four → ((v : Vrp) → v.prefix.family ≡ V4 → test v ≡ false) → list_any test (trie_vrps four six) ≡ list_any test (vrps_below V6 0 0 six)
+any-six test four six prune4 out =
+    list_any-append test (vrps_below V4 0 0 four) (vrps_below V6 0 0 six)
+    ∙ ap (λ b. b || list_any test (vrps_below V6 0 0 six)) (none-of_four test four prune4 out)
 
 other-family : (v w : Vrp) (f g : Family) → v.prefix.family ≡ f → w.prefix.family ≡ g → (f ≡ g → ⊥) → is_vrp v w ≡ false
 other-family v w f g one two apart = false_from_ne_true (is_vrp v w) (λ is. apart (sym one ∙ ap (λ u. u.prefix.family) (same_vrp-equal v w is) ∙ two))
@@ -50,16 +62,11 @@ vrp_path v = bits_from v.prefix 0
 -- the trie has a VRP where its family's tree has it
 pub any-in_four : (v : Vrp) (four six : Tree) → IsPruned 32 0 four → IsPruned 128 0 six → v.prefix.family ≡ V4 → list_any (is_vrp v) (trie_vrps four six) ≡ has (vrp_path v) (originator_of v) four
 any-in_four v four six prune4 prune6 is =
-    list_any-append (is_vrp v) (vrps_below V4 0 0 four) (vrps_below V6 0 0 six)
-    ∙ ap (λ b. list_any (is_vrp v) (vrps_below V4 0 0 four) || b) (none-of_six (is_vrp v) six prune6 (λ w other. other-family v w V4 V6 is other (λ e. cc)))
-    ∙ or-false _
-    ∙ any-is_vrp v (whole V4) four prune4 (whole-four v.prefix is)
+    any-four (is_vrp v) four six prune6 (λ w other. other-family v w V4 V6 is other (λ e. cc)) ∙ any-is_vrp v (whole V4) four prune4 (whole-four v.prefix is)
 
 pub any-in_six : (v : Vrp) (four six : Tree) → IsPruned 32 0 four → IsPruned 128 0 six → v.prefix.family ≡ V6 → list_any (is_vrp v) (trie_vrps four six) ≡ has (vrp_path v) (originator_of v) six
 any-in_six v four six prune4 prune6 is =
-    list_any-append (is_vrp v) (vrps_below V4 0 0 four) (vrps_below V6 0 0 six)
-    ∙ ap (λ b. b || list_any (is_vrp v) (vrps_below V6 0 0 six)) (none-of_four (is_vrp v) four prune4 (λ w other. other-family v w V6 V4 is other (λ e. cc)))
-    ∙ any-is_vrp v (whole V6) six prune6 (whole-six v.prefix is)
+    any-six (is_vrp v) four six prune4 (λ w other. other-family v w V6 V4 is other (λ e. cc)) ∙ any-is_vrp v (whole V6) six prune6 (whole-six v.prefix is)
 
 pub contains-in_four : (s : set.VrpSet) (v : Vrp) (four six : Tree) → set.from_list (trie_vrps four six) ≡ s → IsPruned 32 0 four → IsPruned 128 0 six → v.prefix.family ≡ V4 → has (vrp_path v) (originator_of v) four ≡ set.contains s v
 contains-in_four s v four six view prune4 prune6 is = sym (ap (λ t. set.contains t v) (sym view) ∙ contains-from_list (trie_vrps four six) v ∙ any-in_four v four six prune4 prune6 is)
@@ -81,12 +88,12 @@ one-vrp p (false ∷ path) o pruned =
     ap length (append-nil (vrps_below p.family p.first (p.length + 1) (chain path o)))
     ∙ elim (leaf-or-room p (chain path o) pruned.1.1) [
       | inl leaf ↦ absurd (no-leaf path o leaf)
-      | inr room ↦ one-vrp (lower_half p room) path o pruned.1.1
+      | inr room ↦ one-vrp (half false p room) path o pruned.1.1
     ]
 one-vrp p (true ∷ path) o pruned =
     elim (leaf-or-room p (chain path o) pruned.2.1) [
       | inl leaf ↦ absurd (no-leaf path o leaf)
-      | inr room ↦ one-vrp (upper_half p room) path o pruned.2.1
+      | inr room ↦ one-vrp (half true p room) path o pruned.2.1
     ]
 
 single : (v : Vrp) (vrps : List Vrp) → length vrps ≡ 1 → list_any (is_vrp v) vrps ≡ true → vrps ≡ v ∷ []
@@ -124,50 +131,27 @@ families : (f : Family) → (f ≡ V4) ⊎ (f ≡ V6)
 families V4 = inl refl
 families V6 = inr refl
 
-pub insert-four : (v : Vrp) (four new six : Tree) → IsPruned 32 0 four → IsPruned 32 0 new → IsPruned 128 0 six → v.prefix.family ≡ V4 → IsInserted (vrp_path v) (originator_of v) four new → (w : Vrp) → list_any (is_vrp w) (trie_vrps new six) ≡ (is_vrp w v || list_any (is_vrp w) (trie_vrps four six))
-insert-four v four new six old4 new4 prune6 family is w =
-    elim (families w.prefix.family) [
-      | inl same ↦
-          any-in_four w new six new4 prune6 same ∙ is (vrp_path w) (originator_of w)
-          ∙ ap (λ b. b || has (vrp_path w) (originator_of w) four) (place-is_vrp (whole V4) v w (whole-four v.prefix family) (whole-four w.prefix same))
-          ∙ ap (λ b. is_vrp w v || b) (sym (any-in_four w four six old4 prune6 same))
-      | inr other ↦
-          any-in_six w new six new4 prune6 other ∙ sym (any-in_six w four six old4 prune6 other)
-          ∙ ap (λ b. b || list_any (is_vrp w) (trie_vrps four six)) (sym (other-family w v V6 V4 other family (λ e. cc)))
-    ]
+module _ (now : Bool → Bool → Bool) (stays : (had : Bool) → had ≡ now false had) where
+  pub changed-four : (v : Vrp) (four new six : Tree) → IsPruned 32 0 four → IsPruned 32 0 new → IsPruned 128 0 six → v.prefix.family ≡ V4 → IsChanged now (vrp_path v) (originator_of v) four new → (w : Vrp) → list_any (is_vrp w) (trie_vrps new six) ≡ now (is_vrp w v) (list_any (is_vrp w) (trie_vrps four six))
+  changed-four v four new six old4 new4 prune6 family is w =
+      elim (families w.prefix.family) [
+        | inl same ↦
+            any-in_four w new six new4 prune6 same ∙ is (vrp_path w) (originator_of w)
+            ∙ ap (λ b. now b (has (vrp_path w) (originator_of w) four)) (place-is_vrp (whole V4) v w (whole-four v.prefix family) (whole-four w.prefix same))
+            ∙ ap (now (is_vrp w v)) (sym (any-in_four w four six old4 prune6 same))
+        | inr other ↦
+            any-in_six w new six new4 prune6 other ∙ sym (any-in_six w four six old4 prune6 other) ∙ stays _
+            ∙ ap (λ b. now b (list_any (is_vrp w) (trie_vrps four six))) (sym (other-family w v V6 V4 other family (λ e. cc)))
+      ]
 
-pub insert-six : (v : Vrp) (four six new : Tree) → IsPruned 32 0 four → IsPruned 128 0 six → IsPruned 128 0 new → v.prefix.family ≡ V6 → IsInserted (vrp_path v) (originator_of v) six new → (w : Vrp) → list_any (is_vrp w) (trie_vrps four new) ≡ (is_vrp w v || list_any (is_vrp w) (trie_vrps four six))
-insert-six v four six new prune4 old6 new6 family is w =
-    elim (families w.prefix.family) [
-      | inl other ↦
-          any-in_four w four new prune4 new6 other ∙ sym (any-in_four w four six prune4 old6 other)
-          ∙ ap (λ b. b || list_any (is_vrp w) (trie_vrps four six)) (sym (other-family w v V4 V6 other family (λ e. cc)))
-      | inr same ↦
-          any-in_six w four new prune4 new6 same ∙ is (vrp_path w) (originator_of w)
-          ∙ ap (λ b. b || has (vrp_path w) (originator_of w) six) (place-is_vrp (whole V6) v w (whole-six v.prefix family) (whole-six w.prefix same))
-          ∙ ap (λ b. is_vrp w v || b) (sym (any-in_six w four six prune4 old6 same))
-    ]
-
-pub remove-four : (v : Vrp) (four new six : Tree) → IsPruned 32 0 four → IsPruned 32 0 new → IsPruned 128 0 six → v.prefix.family ≡ V4 → IsRemoved (vrp_path v) (originator_of v) four new → (w : Vrp) → list_any (is_vrp w) (trie_vrps new six) ≡ (not (is_vrp w v) && list_any (is_vrp w) (trie_vrps four six))
-remove-four v four new six old4 new4 prune6 family is w =
-    elim (families w.prefix.family) [
-      | inl same ↦
-          any-in_four w new six new4 prune6 same ∙ is (vrp_path w) (originator_of w)
-          ∙ ap (λ b. not b && has (vrp_path w) (originator_of w) four) (place-is_vrp (whole V4) v w (whole-four v.prefix family) (whole-four w.prefix same))
-          ∙ ap (λ b. not (is_vrp w v) && b) (sym (any-in_four w four six old4 prune6 same))
-      | inr other ↦
-          any-in_six w new six new4 prune6 other ∙ sym (any-in_six w four six old4 prune6 other)
-          ∙ ap (λ b. not b && list_any (is_vrp w) (trie_vrps four six)) (sym (other-family w v V6 V4 other family (λ e. cc)))
-    ]
-
-pub remove-six : (v : Vrp) (four six new : Tree) → IsPruned 32 0 four → IsPruned 128 0 six → IsPruned 128 0 new → v.prefix.family ≡ V6 → IsRemoved (vrp_path v) (originator_of v) six new → (w : Vrp) → list_any (is_vrp w) (trie_vrps four new) ≡ (not (is_vrp w v) && list_any (is_vrp w) (trie_vrps four six))
-remove-six v four six new prune4 old6 new6 family is w =
-    elim (families w.prefix.family) [
-      | inl other ↦
-          any-in_four w four new prune4 new6 other ∙ sym (any-in_four w four six prune4 old6 other)
-          ∙ ap (λ b. not b && list_any (is_vrp w) (trie_vrps four six)) (sym (other-family w v V4 V6 other family (λ e. cc)))
-      | inr same ↦
-          any-in_six w four new prune4 new6 same ∙ is (vrp_path w) (originator_of w)
-          ∙ ap (λ b. not b && has (vrp_path w) (originator_of w) six) (place-is_vrp (whole V6) v w (whole-six v.prefix family) (whole-six w.prefix same))
-          ∙ ap (λ b. not (is_vrp w v) && b) (sym (any-in_six w four six prune4 old6 same))
-    ]
+  pub changed-six : (v : Vrp) (four six new : Tree) → IsPruned 32 0 four → IsPruned 128 0 six → IsPruned 128 0 new → v.prefix.family ≡ V6 → IsChanged now (vrp_path v) (originator_of v) six new → (w : Vrp) → list_any (is_vrp w) (trie_vrps four new) ≡ now (is_vrp w v) (list_any (is_vrp w) (trie_vrps four six))
+  changed-six v four six new prune4 old6 new6 family is w =
+      elim (families w.prefix.family) [
+        | inl other ↦
+            any-in_four w four new prune4 new6 other ∙ sym (any-in_four w four six prune4 old6 other) ∙ stays _
+            ∙ ap (λ b. now b (list_any (is_vrp w) (trie_vrps four six))) (sym (other-family w v V4 V6 other family (λ e. cc)))
+        | inr same ↦
+            any-in_six w four new prune4 new6 same ∙ is (vrp_path w) (originator_of w)
+            ∙ ap (λ b. now b (has (vrp_path w) (originator_of w) six)) (place-is_vrp (whole V6) v w (whole-six v.prefix family) (whole-six w.prefix same))
+            ∙ ap (now (is_vrp w v)) (sym (any-in_six w four six prune4 old6 same))
+      ]

@@ -10,6 +10,7 @@ mod contains;
 mod insert;
 mod node;
 mod remove;
+mod skipped;
 mod validity;
 mod visit;
 
@@ -65,8 +66,8 @@ impl Trie {
         Ok(trie)
     }
 
-    /// As `validity`, with the number of nodes that the search went to: one for each length at
-    /// which the set has something to look at, the root's always.
+    /// As `validity`, with the number of lengths at which the set has something to look at, up to
+    /// the first VRP that matches: the root's always, a node's, and those that a node skips.
     pub fn validity_counted(&self, route: &Route) -> (Validity, u32)
         ensures state { state_of result.0 ≡ validation_state (set.items self.now) route.now }
         ensures count { result.1 ≡ length (search_depths (set.items self.now) route.now) }

@@ -53,11 +53,19 @@ abbrev pub has : List Bool → Originator → Tree → Bool
 has [] o tree = list_any (eq_by_cmp originator_cmp o) (here tree)
 has (bit ∷ path) o tree = has path o (below bit tree)
 
+-- nothing but a tree below the bit
+abbrev pub above : Bool → Tree → Top
+above false tree = record { originators = []; zero = tree; one = Leaf }
+above true tree = record { originators = []; zero = Leaf; one = tree }
+
+-- what is at the end of the path, and nothing else
+abbrev pub grown : List Bool → Top → Top
+grown [] top = top
+grown (bit ∷ path) top = above bit (tree (grown path top))
+
 -- the tree with this originator at the end of the path, and nothing else
 abbrev pub chain : List Bool → Originator → Tree
-chain [] o = Fork (o ∷ []) Leaf Leaf
-chain (false ∷ path) o = Fork [] (chain path o) Leaf
-chain (true ∷ path) o = Fork [] Leaf (chain path o)
+chain path o = tree (grown path (record { originators = o ∷ []; zero = Leaf; one = Leaf }))
 
 -- some originator on the path passes the test
 abbrev pub has_on_path : (Originator → Bool) → List Bool → Tree → Bool

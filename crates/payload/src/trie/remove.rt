@@ -1,12 +1,14 @@
 //! Taking a VRP out of a trie.
 ghost use Rattle.std.specs.Prelude.{◌≡◌, ◌≤◌, false};
 ghost use Rattle.addr.specs.Family.{width};
+ghost use Rattle.payload.specs.steps.Branch.{top_of};
 ghost use Rattle.payload.specs.steps.Tree.{IsPruned, IsRemoved, has, is_bare, subtree, tree};
 ghost use Rattle.payload.specs.steps.Trie.{bits_from, originator_of};
 
 use crate::originator::Originator;
 use crate::sorted;
-use crate::trie::node::Node;
+use crate::trie::node::{Branch, Node};
+use crate::trie::skipped::Skipped;
 use addr::Vrp;
 
 impl Node {
@@ -20,6 +22,30 @@ impl Node {
         ensures rest { IsRemoved (bits_from vrp.now.prefix at) (originator_of vrp.now)
             (tree self.old) (tree self.new) }
         ensures pruned { IsPruned (width vrp.now.prefix.family) at (tree self.new) }
+    {
+        let shared = self.skipped.shared(&vrp.prefix, at);
+        if shared < self.skipped.count() {
+            return false;
+        }
+        let was_there = self.branch.remove(vrp, at + shared);
+        if self.branch.is_bare() {
+            self.skipped = Skipped::none();
+        }
+        was_there
+    }
+}
+
+impl Branch {
+    /// As `Node::remove`.
+    #[cycle(remove)]
+    fn remove(&mut self, vrp: &Vrp, at: u8) -> bool
+        requires within { at ≤ vrp.now.prefix.length }
+        requires pruned { IsPruned (width vrp.now.prefix.family) at (tree (top_of self.old)) }
+        ensures found { result
+            ≡ has (bits_from vrp.now.prefix at) (originator_of vrp.now) (tree (top_of self.old)) }
+        ensures rest { IsRemoved (bits_from vrp.now.prefix at) (originator_of vrp.now)
+            (tree (top_of self.old)) (tree (top_of self.new)) }
+        ensures pruned { IsPruned (width vrp.now.prefix.family) at (tree (top_of self.new)) }
     {
         if at == vrp.prefix.length {
             sorted::remove(&mut self.originators, &Originator::of(vrp))

@@ -2,19 +2,19 @@
 ghost use Rattle.std.specs.Prelude.{◌≡◌, ◌+◌, ◌≤◌, true};
 ghost use Rattle.std.specs.List.{list_any};
 ghost use Rattle.payload.specs.ValidityState.{state_of};
+ghost use Rattle.payload.specs.steps.Branch.{top_of};
 ghost use Rattle.payload.specs.steps.Tree.{nodes_on_path, subtree, tree};
 ghost use Rattle.payload.specs.steps.Trie.{authorizes, bits_from, state_below, walked_state};
 
 use crate::Validity;
 use crate::originator::Originator;
-use crate::trie::node::Node;
+use crate::trie::node::{Branch, Node};
 use addr::Route;
 
 impl Node {
-    /// The state of the route by this node and those below it, and the count with the nodes that
-    /// the search went to. `above` is the state by the nodes above it, whose VRPs do not match.
-    ///
-    /// This is the one step that goes to a node. The search stops at the first VRP that matches.
+    /// The state of the route by this node and those below it, and the count with the lengths at
+    /// which the search has something to look at: each bit that is skipped is one. `above` is the
+    /// state by the nodes above it, whose VRPs do not match.
     #[cycle(validity)]
     pub(crate) fn validity(
         &self,
@@ -29,6 +29,26 @@ impl Node {
             (bits_from route.now.prefix at) (tree self.now) }
         ensures count { result.1 ≡ count + nodes_on_path (authorizes route.now)
             (bits_from route.now.prefix at) (tree self.now) }
+    {
+        let shared = self.skipped.shared(&route.prefix, at);
+        let count = count + u32::from(shared);
+        if shared < self.skipped.count() {
+            return (above, count + 1);
+        }
+        self.branch.validity(route, at + shared, above, count)
+    }
+}
+
+impl Branch {
+    /// As `Node::validity`. The search stops at the first VRP that matches.
+    #[cycle(validity)]
+    fn validity(&self, route: &Route, at: u8, above: Validity, count: u32) -> (Validity, u32)
+        requires within { at ≤ route.now.prefix.length }
+        requires so_far { count ≤ at }
+        ensures state { state_of result.0 ≡ walked_state route.now (state_of above)
+            (bits_from route.now.prefix at) (tree (top_of self.now)) }
+        ensures count { result.1 ≡ count + nodes_on_path (authorizes route.now)
+            (bits_from route.now.prefix at) (tree (top_of self.now)) }
     {
         let count = count + 1;
         if some_authorizes(&self.originators, route) {

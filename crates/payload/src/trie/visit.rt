@@ -1,16 +1,19 @@
 //! The VRPs of a trie in their order.
-ghost use Rattle.std.specs.Prelude.{◌≡◌, ◌+◌, ◌<◌, true, false, OnOk, OnErr};
+ghost use Rattle.std.specs.Prelude.{◌≡◌, ◌+◌, ◌<◌, ◌≤◌, true, false, length, OnOk, OnErr};
 ghost use Rattle.addr.specs.Family.{width};
 ghost use Rattle.payload.specs.Visit.{TookBeginning};
-ghost use Rattle.payload.specs.steps.Tree.{IsPruned, subtree, tree};
+ghost use Rattle.payload.specs.steps.Branch.{top_of};
+ghost use Rattle.payload.specs.steps.Tree.{IsPruned, Top, grown, subtree, tree};
 ghost use Rattle.payload.specs.steps.Trie.{half_first, half_vrps, vrps_at};
 
-use crate::trie::node::Node;
+use crate::trie::node::{Branch, Node};
+use crate::trie::skipped::Skipped;
 use crate::{Sink, Stop};
 use addr::{Prefix, Vrp};
 
 impl Node {
-    /// Lets the sink take the VRPs at the node of this prefix and below it, rising, each once.
+    /// Lets the sink take the VRPs at the node and below it, rising, each once. The prefix is the
+    /// one from which the skipped bits lead to the node's.
     #[cycle(visit)]
     pub(crate) fn visit<S: Sink>(&self, prefix: &Prefix, sink: &mut S) -> Result<(), Stop>
         requires { IsPruned (width prefix.now.family) prefix.now.length (tree self.now) }
@@ -20,6 +23,24 @@ impl Node {
             → S.has_stopped sink.new ≡ false) }
         ensures beginning { OnErr result (S.has_stopped sink.old ≡ false
             → TookBeginning S.took (vrps_at prefix.now (tree self.now)) sink.old sink.new) }
+        ensures stopped { OnErr result (S.has_stopped sink.new ≡ true) }
+    {
+        self.branch.visit(&past(prefix, &self.skipped), sink)
+    }
+}
+
+impl Branch {
+    /// As `Node::visit`.
+    #[cycle(visit)]
+    fn visit<S: Sink>(&self, prefix: &Prefix, sink: &mut S) -> Result<(), Stop>
+        requires { IsPruned (width prefix.now.family) prefix.now.length (tree (top_of self.now)) }
+        ensures all { OnOk result (S.has_stopped sink.old ≡ false
+            → S.took sink.old (vrps_at prefix.now (tree (top_of self.now))) sink.new) }
+        ensures goes_on { OnOk result (S.has_stopped sink.old ≡ false
+            → S.has_stopped sink.new ≡ false) }
+        ensures beginning { OnErr result (S.has_stopped sink.old ≡ false
+            → TookBeginning S.took (vrps_at prefix.now (tree (top_of self.now)))
+            sink.old sink.new) }
         ensures stopped { OnErr result (S.has_stopped sink.new ≡ true) }
     {
         for originator in &self.originators {
@@ -55,6 +76,21 @@ fn visit_below<S: Sink>(
         Some(node) => node.visit(&half(prefix, bit), sink),
         None => Ok(()),
     }
+}
+
+/// The prefix to which the skipped bits lead from this one.
+fn past(prefix: &Prefix, skipped: &Skipped) -> Prefix
+    requires { prefix.now.length + length skipped.now ≤ width prefix.now.family }
+    ensures family { result.family ≡ prefix.now.family }
+    ensures length { result.length ≡ prefix.now.length + length skipped.now }
+    ensures vrps { (t : Top)
+        → vrps_at result (tree t) ≡ vrps_at prefix.now (tree (grown skipped.now t)) }
+{
+    let mut lower = *prefix;
+    for i in 0..skipped.count() {
+        lower = half(&lower, skipped.bit(i));
+    }
+    lower
 }
 
 /// The half of the prefix whose next bit is this one.

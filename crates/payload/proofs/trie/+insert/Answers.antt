@@ -1,10 +1,15 @@
-use Rattle.std.proofs.Common.{false, true, not, ◌≡◌, ◌≤◌, sym, ap, ◌∙◌, subst, arith}
+use Rattle.std.proofs.Common.{rules, ◌+◌, length, IfOk, false, true, not, ◌||◌, ◌≡◌, ◌≤◌, refl, sym, ap, ◌∙◌, subst, arith}
+use Rattle.std.proofs.lemmas.List.{length-take-le}
 use Rattle.std.proofs.lemmas.Result.{on_ok_weaker}
 use Rattle.addr.specs.Family.{width}
-use Rattle.payload.specs.steps.Tree.{Leaf, IsInserted, IsPruned, is_bare, chain, subtree, tree}
+use Rattle.payload.specs.steps.Branch.{top_of}
+use Rattle.payload.specs.steps.Shrinks.{shrinks}
+use Rattle.payload.specs.steps.Tree.{grown, weight, Leaf, IsInserted, IsPruned, is_bare, chain, subtree, tree}
 use Rattle.payload.specs.steps.Trie.{bits_from, originator_of}
+use Rattle.payload.proofs.Grown.{has-grown, pruned-after, pruned-chain, pruned-past}
+use Rattle.payload.proofs.Skips.{common-some}
 use Rattle.payload.proofs.Bits.{bits_from-next, length-bits_from}
-use Rattle.payload.proofs.Trees.{full-after, full-inserted, has-leaf, inserted-one, inserted-chain, inserted-zero, originators-after, pruned-chain}
+use Rattle.payload.proofs.Trees.{changed-grown, changed-one, changed-zero, full-after, full-inserted, has-leaf, inserted-chain, originators-after}
 use Rattle.payload.proofs.trie.+insert.Goals as goal
 
 pub insert::insert_below-returns-in-Some-clause-full : goal.insert::insert_below-returns-in-Some-clause-full
@@ -19,7 +24,7 @@ pub insert::insert_below-returns-in_ok-new-in-None-clause-ok : goal.insert::inse
 insert::insert_below-returns-in_ok-new-in-None-clause-ok t c =
     let path = bits_from c.args.vrp.now.prefix c.args.at in
     let o = originator_of c.args.vrp.now in
-    let new : tree c.in_ok-new-in-None.field-0.value ≡ chain path o = ap tree c.in_ok-new-in-None.ensures.ok ∙ c.in_ok-chain-in-None.ensures in
+    let new : tree c.in_ok-new-in-None.field-0.value ≡ chain path o = ap tree c.in_ok-new-in-None.ensures.ok ∙ c.in_ok-lone-in-None.ensures in
     subst (IsInserted path o (subtree c.args.child.now)) (sym new) (rw c.in-None.is (inserted-chain path o))
 
 pub insert::insert_below-returns-in_ok-new-in-None-clause-pruned : goal.insert::insert_below-returns-in_ok-new-in-None-clause-pruned
@@ -27,7 +32,7 @@ insert::insert_below-returns-in_ok-new-in-None-clause-pruned t c =
     let v = c.args.vrp.now in
     let path = bits_from v.prefix c.args.at in
     let o = originator_of v in
-    let new : tree c.in_ok-new-in-None.field-0.value ≡ chain path o = ap tree c.in_ok-new-in-None.ensures.ok ∙ c.in_ok-chain-in-None.ensures in
+    let new : tree c.in_ok-new-in-None.field-0.value ≡ chain path o = ap tree c.in_ok-new-in-None.ensures.ok ∙ c.in_ok-lone-in-None.ensures in
     subst (IsPruned (width v.prefix.family) c.args.at) (sym new)
     (pruned-chain (width v.prefix.family) c.args.at path o (omega (arith, length-bits_from v.prefix c.args.at, v.at_least_length, c.requires.within)) v.at_most_width)
 
@@ -35,31 +40,61 @@ pub insert::insert_below-returns-in_ok-new-in-None-clause-full : goal.insert::in
 insert::insert_below-returns-in_ok-new-in-None-clause-full t c =
     let path = bits_from c.args.vrp.now.prefix c.args.at in
     let o = originator_of c.args.vrp.now in
-    let new : tree c.in_ok-new-in-None.field-0.value ≡ chain path o = ap tree c.in_ok-new-in-None.ensures.ok ∙ c.in_ok-chain-in-None.ensures in
+    let new : tree c.in_ok-new-in-None.field-0.value ≡ chain path o = ap tree c.in_ok-new-in-None.ensures.ok ∙ c.in_ok-lone-in-None.ensures in
     subst (λ t. is_bare t ≡ false) (sym new) (full-inserted path o Leaf (chain path o) (inserted-chain path o))
 
-pub node::Node::insert-returns-then-at-vrp-clause-pruned : goal.node::Node::insert-returns-then-at-vrp-clause-pruned
-node::Node::insert-returns-then-at-vrp-clause-pruned t c =
+pub node::Branch::insert-returns-then-at-vrp-clause-pruned : goal.node::Branch::insert-returns-then-at-vrp-clause-pruned
+node::Branch::insert-returns-then-at-vrp-clause-pruned t c =
     let v = c.args.vrp.now in
-    let old = rw (← c.self.view_is) at c.requires.pruned in
+    let old = c.requires.pruned in
     let low : c.args.at ≤ c.of.result.max = rw c.of.ensures (omega (arith, c.if-at-vrp.true, v.at_least_length)) in
     let high : c.of.result.max ≤ width v.prefix.family = rw c.of.ensures v.at_most_width in
     (originators-after c.insert.result _ _ _ _ c.of.result old.0 low high c.insert.ensures.rise c.insert.ensures.members c.insert.ensures.err, old.1, old.2)
 
-pub node::Node::insert-returns-then-bit-clause-new : goal.node::Node::insert-returns-then-bit-clause-new
-node::Node::insert-returns-then-bit-clause-new t c =
-    rw (bits_from-next c.args.vrp.now.prefix c.args.at true (omega arith) c.if-bit.ensures, ← c.self.view_is) c.insert_below.ensures.new
+pub node::Branch::insert-returns-then-bit-clause-new : goal.node::Branch::insert-returns-then-bit-clause-new
+node::Branch::insert-returns-then-bit-clause-new t c =
+    rw (bits_from-next c.args.vrp.now.prefix c.args.at true (omega arith) c.if-bit.ensures) c.insert_below.ensures.new
 
-pub node::Node::insert-returns-then-bit-clause-ok : goal.node::Node::insert-returns-then-bit-clause-ok
-node::Node::insert-returns-then-bit-clause-ok t c =
-    rw (bits_from-next c.args.vrp.now.prefix c.args.at true (omega arith) c.if-bit.ensures, ← c.self.view_is)
-    (on_ok_weaker c.insert_below.result (inserted-one _ _ _ _ _ _) c.insert_below.ensures.ok)
+pub node::Branch::insert-returns-then-bit-clause-ok : goal.node::Branch::insert-returns-then-bit-clause-ok
+node::Branch::insert-returns-then-bit-clause-ok t c =
+    rw (bits_from-next c.args.vrp.now.prefix c.args.at true (omega arith) c.if-bit.ensures)
+    (on_ok_weaker c.insert_below.result (changed-one (λ is had. is || had) (λ had. refl) _ _ _ _ _ _) c.insert_below.ensures.ok)
 
-pub node::Node::insert-returns-else-bit-clause-new : goal.node::Node::insert-returns-else-bit-clause-new
-node::Node::insert-returns-else-bit-clause-new t c =
-    rw (bits_from-next c.args.vrp.now.prefix c.args.at false (omega arith) c.if-bit.ensures, ← c.self.view_is) c.insert_below-else-bit.ensures.new
+pub node::Branch::insert-returns-else-bit-clause-new : goal.node::Branch::insert-returns-else-bit-clause-new
+node::Branch::insert-returns-else-bit-clause-new t c =
+    rw (bits_from-next c.args.vrp.now.prefix c.args.at false (omega arith) c.if-bit.ensures) c.insert_below-else-bit.ensures.new
 
-pub node::Node::insert-returns-else-bit-clause-ok : goal.node::Node::insert-returns-else-bit-clause-ok
-node::Node::insert-returns-else-bit-clause-ok t c =
-    rw (bits_from-next c.args.vrp.now.prefix c.args.at false (omega arith) c.if-bit.ensures, ← c.self.view_is)
-    (on_ok_weaker c.insert_below-else-bit.result (inserted-zero _ _ _ _ _ _) c.insert_below-else-bit.ensures.ok)
+pub node::Branch::insert-returns-else-bit-clause-ok : goal.node::Branch::insert-returns-else-bit-clause-ok
+node::Branch::insert-returns-else-bit-clause-ok t c =
+    rw (bits_from-next c.args.vrp.now.prefix c.args.at false (omega arith) c.if-bit.ensures)
+    (on_ok_weaker c.insert_below-else-bit.result (changed-zero (λ is had. is || had) (λ had. refl) _ _ _ _ _ _) c.insert_below-else-bit.ensures.ok)
+
+pub node::Node::insert-insert-requires : goal.node::Node::insert-insert-requires
+node::Node::insert-insert-requires t c =
+    let same : grown c.cut.new.skipped (top_of c.cut.new.branch) ≡ c.args.self.now = c.in_ok-cut.ensures.same ∙ c.self.view_is in
+    let long : c.args.at + c.shared-shared.result ≡ c.args.at + length c.cut.new.skipped =
+    rw c.in_ok-cut.ensures.first (ap (λ n. c.args.at + n) (sym (length-take-le c.shared-shared.result c.self.inside.skipped c.shared-shared.ensures.most))) in
+    let pruned = rw (sym same) at c.requires.pruned in
+    (search (rules, shrinks (record { skipped = c.cut.new.skipped; branch = c.cut.new.branch }), ap (λ u. weight (tree u)) same), (c.shared-shared.ensures.within, pruned-past _ _ _ c.cut.new.skipped (top_of c.cut.new.branch) long pruned))
+
+pub node::Node::insert-returns-clause-new : goal.node::Node::insert-returns-clause-new
+node::Node::insert-returns-clause-new t c =
+    let p = c.args.vrp.now.prefix in
+    let rest = bits_from p (c.args.at + c.shared-shared.result) in
+    rw (common-some p c.args.at c.shared-shared.result c.self.inside.skipped c.requires.within (sym c.shared-shared.ensures.common), sym c.in_ok-cut.ensures.first, sym (c.in_ok-cut.ensures.same ∙ c.self.view_is))
+    (subst (λ b. IfOk c.insert.result (λ is_new. is_new ≡ not b)) (sym (has-grown c.cut.new.skipped rest (originator_of c.args.vrp.now) (top_of c.cut.new.branch))) c.insert.ensures.new)
+
+pub node::Node::insert-returns-clause-ok : goal.node::Node::insert-returns-clause-ok
+node::Node::insert-returns-clause-ok t c =
+    let p = c.args.vrp.now.prefix in
+    let rest = bits_from p (c.args.at + c.shared-shared.result) in
+    rw (common-some p c.args.at c.shared-shared.result c.self.inside.skipped c.requires.within (sym c.shared-shared.ensures.common), sym c.in_ok-cut.ensures.first, sym (c.in_ok-cut.ensures.same ∙ c.self.view_is))
+    (on_ok_weaker c.insert.result (changed-grown (λ is had. is || had) (λ had. refl) c.cut.new.skipped rest (originator_of c.args.vrp.now) (top_of c.cut.new.branch) (top_of c.insert.new.self)) c.insert.ensures.ok)
+
+pub node::Node::insert-returns-clause-pruned : goal.node::Node::insert-returns-clause-pruned
+node::Node::insert-returns-clause-pruned t c =
+    let old = top_of c.cut.new.branch in
+    let long : c.args.at + c.shared-shared.result ≡ c.args.at + length c.cut.new.skipped =
+    rw c.in_ok-cut.ensures.first (ap (λ n. c.args.at + n) (sym (length-take-le c.shared-shared.result c.self.inside.skipped c.shared-shared.ensures.most))) in
+    let pruned = rw (sym (c.in_ok-cut.ensures.same ∙ c.self.view_is)) at c.requires.pruned in
+    pruned-after c.insert.result _ _ _ c.cut.new.skipped (bits_from c.args.vrp.now.prefix (c.args.at + c.shared-shared.result)) (originator_of c.args.vrp.now) old (top_of c.insert.new.self) long pruned c.insert.ensures.pruned c.insert.ensures.ok c.insert.ensures.err

@@ -1,38 +1,55 @@
-use Rattle.std.proofs.Common.{refl, sym}
+use Rattle.std.proofs.Common.{rules, refl, subst, sym}
 use Rattle.std.specs.List.{All}
 use Rattle.std.proofs.lemmas.Result.{on_err_weaker}
+use Rattle.addr.specs.Family.{width}
+use Rattle.payload.specs.steps.Tree.{IsPruned, tree}
+use Rattle.payload.specs.steps.Shrinks.{shrinks}
+use Rattle.payload.specs.steps.Branch.{top_of}
+use Rattle.payload.proofs.Grown.{pruned-past}
 use Rattle.payload.proofs.TrieVisits.{node-beginning, node-took, node-took_all}
 use Rattle.payload.proofs.TrieVrps.{HasLengths}
 use Rattle.payload.proofs.Visits.{beginning-later, beginning-longer, on-err}
 use Rattle.payload.proofs.trie.+visit.Goals as goal
 
-pub node::Node::visit-loop-originator-preserved : goal.node::Node::visit-loop-originator-preserved
-node::Node::visit-loop-originator-preserved g t c =
-    let lengths : All (HasLengths c.args.prefix.now) c.deref-originator-items.result.now = rw c.deref-originator-items.ensures.value (rw (← c.self.view_is) at c.requires).0.lengths in
+pub node::Branch::visit-loop-originator-preserved : goal.node::Branch::visit-loop-originator-preserved
+node::Branch::visit-loop-originator-preserved g t c =
+    let lengths : All (HasLengths c.args.prefix.now) c.deref-originator-items.result.now = rw c.deref-originator-items.ensures.value c.requires.0.lengths in
     record {
       taken = λ fresh. node-took g.S.Sink.took g.met.S.Sink.took_then c.args.prefix.now _ _ _ _ _ _ _ lengths c.loop-originator-test.true refl refl (c.loop-originator.invariant.taken fresh) (c.take.ensures.took (c.loop-originator.invariant.goes_on fresh));
       goes_on = λ fresh. sym c.in_ok-take.ensures.stopped;
     }
 
-pub node::Node::visit-returns-in_err-take-clause-beginning : goal.node::Node::visit-returns-in_err-take-clause-beginning
-node::Node::visit-returns-in_err-take-clause-beginning g t c =
-    let lengths : All (HasLengths c.args.prefix.now) c.deref-originator-items.result.now = rw c.deref-originator-items.ensures.value (rw (← c.self.view_is) at c.requires).0.lengths in
-    rw (← c.self.view_is, ← c.deref-originator-items.ensures.value)
+pub node::Branch::visit-returns-in_err-take-clause-beginning : goal.node::Branch::visit-returns-in_err-take-clause-beginning
+node::Branch::visit-returns-in_err-take-clause-beginning g t c =
+    let lengths : All (HasLengths c.args.prefix.now) c.deref-originator-items.result.now = rw c.deref-originator-items.ensures.value c.requires.0.lengths in
+    rw (← c.deref-originator-items.ensures.value)
     (on-err c.from_residual.result _ (λ fresh.
     node-beginning g.S.Sink.took g.met.S.Sink.took_then c.args.prefix.now _ _ _ _ _ _ _ _ lengths c.loop-originator-test.true refl refl (c.loop-originator.invariant.taken fresh) (c.take.ensures.took (c.loop-originator.invariant.goes_on fresh))))
 
-pub node::Node::visit-returns-in_err-visit_below-clause-beginning : goal.node::Node::visit-returns-in_err-visit_below-clause-beginning
-node::Node::visit-returns-in_err-visit_below-clause-beginning g t c =
-    rw (← c.self.view_is, ← c.deref-originator-items.ensures.value)
+pub node::Branch::visit-returns-in_err-visit_below-clause-beginning : goal.node::Branch::visit-returns-in_err-visit_below-clause-beginning
+node::Branch::visit-returns-in_err-visit_below-clause-beginning g t c =
+    rw (← c.deref-originator-items.ensures.value)
     (on-err c.from_residual-in_err-visit_below.result _ (λ fresh.
     beginning-later g.S.Sink.took g.met.S.Sink.took_then _ _ _ _ _ (node-took_all g.S.Sink.took c.args.prefix.now _ _ _ _ (c.loop-originator.invariant.taken fresh) c.loop-originator-test.false)
     (beginning-longer g.S.Sink.took _ _ _ _ (c.in_err-visit_below.ensures.beginning (c.loop-originator.invariant.goes_on fresh)))))
 
-pub node::Node::visit-returns-clause-beginning : goal.node::Node::visit-returns-clause-beginning
-node::Node::visit-returns-clause-beginning g t c =
-    rw (← c.self.view_is, ← c.deref-originator-items.ensures.value)
+pub node::Branch::visit-returns-clause-beginning : goal.node::Branch::visit-returns-clause-beginning
+node::Branch::visit-returns-clause-beginning g t c =
+    rw (← c.deref-originator-items.ensures.value)
     (on_err_weaker c.visit_below-2.result (λ is fresh.
     let going = c.loop-originator.invariant.goes_on fresh in
     beginning-later g.S.Sink.took g.met.S.Sink.took_then _ _ _ _ _ (node-took_all g.S.Sink.took c.args.prefix.now _ _ _ _ (c.loop-originator.invariant.taken fresh) c.loop-originator-test.false)
     (beginning-later g.S.Sink.took g.met.S.Sink.took_then _ _ _ _ _ (c.in_ok-visit_below.ensures.all going) (is (c.in_ok-visit_below.ensures.goes_on going))))
     c.visit_below-2.ensures.beginning)
+
+pub node::Node::visit-past-requires : goal.node::Node::visit-past-requires
+node::Node::visit-past-requires g t c =
+    let pruned = rw (← c.self.view_is) at c.requires in
+    (pruned-past _ _ _ c.self.inside.skipped (top_of c.self.inside.branch) refl pruned).0.fits
+
+pub node::Node::visit-visit-requires : goal.node::Node::visit-visit-requires
+node::Node::visit-visit-requires g t c =
+    let pruned = rw (← c.self.view_is) at c.requires in
+    let below = pruned-past _ _ _ c.self.inside.skipped (top_of c.self.inside.branch) c.past.ensures.length pruned in
+    let there = subst (λ f. IsPruned (width f) c.past.result.length (tree (top_of c.self.inside.branch))) (sym c.past.ensures.family) below in
+    λ κs alive. (search (rules, shrinks c.self.inside), (search rules, there))

@@ -1,10 +1,10 @@
-use Rattle.std.proofs.Common.{◌≡◌, not, subst, IfOk}
+use Rattle.std.proofs.Common.{◌≡◌, not, ◌||◌, refl, subst, IfOk}
 use Rattle.std.proofs.lemmas.Result.{on_ok_weaker}
 use Rattle.addr.specs.Family.{width}
 use Rattle.payload.specs.steps.Tree.{IsPruned, tree}
 use Rattle.payload.specs.steps.Trie.{trie_vrps}
 use Rattle.payload.proofs.Sets.{members-insert}
-use Rattle.payload.proofs.Tries.{contains-in_four, contains-in_six, insert-four, insert-six}
+use Rattle.payload.proofs.Tries.{changed-four, changed-six, contains-in_four, contains-in_six}
 use Rattle.payload.proofs.trie.TriePayloadIndex.insert.Goals as goal
 
 pub returns-in-V4-clause-new : goal.returns-in-V4-clause-new
@@ -16,7 +16,7 @@ pub returns-in-V4-clause-ok : goal.returns-in-V4-clause-ok
 returns-in-V4-clause-ok c =
     let pruned = subst (λ f. IsPruned (width f) 0 (tree c.insert.new.self)) c.in-V4.is c.insert.ensures.pruned in
     on_ok_weaker c.insert.result
-    (λ is. members-insert c.args.self.now (trie_vrps (tree c.self.inside.four) (tree c.self.inside.six)) _ c.args.vrp c.self.view_is (insert-four c.args.vrp (tree c.self.inside.four) (tree c.insert.new.self) (tree c.self.inside.six) c.self.invariant.0 pruned c.self.invariant.1 c.in-V4.is is))
+    (λ is. members-insert c.args.self.now (trie_vrps (tree c.self.inside.four) (tree c.self.inside.six)) _ c.args.vrp c.self.view_is (changed-four (λ is had. is || had) (λ had. refl) c.args.vrp (tree c.self.inside.four) (tree c.insert.new.self) (tree c.self.inside.six) c.self.invariant.0 pruned c.self.invariant.1 c.in-V4.is is))
     c.insert.ensures.ok
 
 pub returns-in-V6-clause-new : goal.returns-in-V6-clause-new
@@ -28,5 +28,5 @@ pub returns-in-V6-clause-ok : goal.returns-in-V6-clause-ok
 returns-in-V6-clause-ok c =
     let pruned = subst (λ f. IsPruned (width f) 0 (tree c.insert-in-V6.new.self)) c.in-V6.is c.insert-in-V6.ensures.pruned in
     on_ok_weaker c.insert-in-V6.result
-    (λ is. members-insert c.args.self.now (trie_vrps (tree c.self.inside.four) (tree c.self.inside.six)) _ c.args.vrp c.self.view_is (insert-six c.args.vrp (tree c.self.inside.four) (tree c.self.inside.six) (tree c.insert-in-V6.new.self) c.self.invariant.0 c.self.invariant.1 pruned c.in-V6.is is))
+    (λ is. members-insert c.args.self.now (trie_vrps (tree c.self.inside.four) (tree c.self.inside.six)) _ c.args.vrp c.self.view_is (changed-six (λ is had. is || had) (λ had. refl) c.args.vrp (tree c.self.inside.four) (tree c.self.inside.six) (tree c.insert-in-V6.new.self) c.self.invariant.0 c.self.invariant.1 pruned c.in-V6.is is))
     c.insert-in-V6.ensures.ok

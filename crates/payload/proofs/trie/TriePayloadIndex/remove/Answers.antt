@@ -1,9 +1,9 @@
-use Rattle.std.proofs.Common.{◌∙◌, subst}
+use Rattle.std.proofs.Common.{not, ◌&&◌, refl, ◌∙◌, subst}
 use Rattle.addr.specs.Family.{width}
 use Rattle.payload.specs.steps.Tree.{IsPruned, tree}
 use Rattle.payload.specs.steps.Trie.{trie_vrps}
 use Rattle.payload.proofs.Sets.{members-remove}
-use Rattle.payload.proofs.Tries.{contains-in_four, contains-in_six, remove-four, remove-six}
+use Rattle.payload.proofs.Tries.{changed-four, changed-six, contains-in_four, contains-in_six}
 use Rattle.payload.proofs.trie.TriePayloadIndex.remove.Goals as goal
 
 pub returns-in-V4-clause-found : goal.returns-in-V4-clause-found
@@ -13,7 +13,7 @@ pub returns-in-V4-clause-rest : goal.returns-in-V4-clause-rest
 returns-in-V4-clause-rest c =
     let pruned = subst (λ f. IsPruned (width f) 0 (tree c.remove.new.self)) c.in-V4.is c.remove.ensures.pruned in
     members-remove c.args.self.now (trie_vrps (tree c.self.inside.four) (tree c.self.inside.six)) _ c.args.vrp.now c.self.view_is
-    (remove-four c.args.vrp.now (tree c.self.inside.four) (tree c.remove.new.self) (tree c.self.inside.six) c.self.invariant.0 pruned c.self.invariant.1 c.in-V4.is c.remove.ensures.rest)
+    (changed-four (λ is had. not is && had) (λ had. refl) c.args.vrp.now (tree c.self.inside.four) (tree c.remove.new.self) (tree c.self.inside.six) c.self.invariant.0 pruned c.self.invariant.1 c.in-V4.is c.remove.ensures.rest)
 
 pub returns-in-V6-clause-found : goal.returns-in-V6-clause-found
 returns-in-V6-clause-found c = c.remove-in-V6.ensures.found ∙ contains-in_six c.args.self.now c.args.vrp.now (tree c.self.inside.four) (tree c.self.inside.six) c.self.view_is c.self.invariant.0 c.self.invariant.1 c.in-V6.is
@@ -22,4 +22,4 @@ pub returns-in-V6-clause-rest : goal.returns-in-V6-clause-rest
 returns-in-V6-clause-rest c =
     let pruned = subst (λ f. IsPruned (width f) 0 (tree c.remove-in-V6.new.self)) c.in-V6.is c.remove-in-V6.ensures.pruned in
     members-remove c.args.self.now (trie_vrps (tree c.self.inside.four) (tree c.self.inside.six)) _ c.args.vrp.now c.self.view_is
-    (remove-six c.args.vrp.now (tree c.self.inside.four) (tree c.self.inside.six) (tree c.remove-in-V6.new.self) c.self.invariant.0 c.self.invariant.1 pruned c.in-V6.is c.remove-in-V6.ensures.rest)
+    (changed-six (λ is had. not is && had) (λ had. refl) c.args.vrp.now (tree c.self.inside.four) (tree c.self.inside.six) (tree c.remove-in-V6.new.self) c.self.invariant.0 c.self.invariant.1 pruned c.in-V6.is c.remove-in-V6.ensures.rest)

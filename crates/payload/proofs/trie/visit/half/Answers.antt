@@ -1,6 +1,7 @@
-use Rattle.std.proofs.Common.{◌≡◌, ◌+◌, ap, ◌∙◌, arith}
+use Rattle.std.proofs.Common.{◌≡◌, ◌+◌, ◌%◌, ◌^◌, ◌≤◌, sym, ap, ◌∙◌, subst, arith}
+use Rattle.addr.specs.Family.{width}
 use Rattle.payload.specs.steps.Trie.{half_first}
-use Rattle.payload.proofs.Halves.{half-aligned, half-fits, half-in_family, shifted-half}
+use Rattle.payload.proofs.Halves.{half_size, half-aligned, half-fits, half-in_family, shifted-half}
 use Rattle.payload.proofs.trie.visit.half.Goals as goal
 use Rattle.payload.proofs.trie.visit.half.Goals.{then-bit, else-bit}
 
@@ -22,6 +23,6 @@ invariant_of-result c =
     ] in
     record {
       length_fits = omega (arith, c.requires);
-      aligned = half-aligned c.args.bit p _ c.requires first;
-      in_family = half-in_family c.args.bit p _ c.requires first;
+      aligned = subst (λ n. n % half_size p ≡ 0) (sym first) (half-aligned c.args.bit p c.requires);
+      in_family = subst (λ n. n + half_size p ≤ 2 ^ width p.family) (sym first) (half-in_family c.args.bit p c.requires);
     }
