@@ -2,7 +2,7 @@
 ghost use Rattle.std.specs.Prelude.{◌≡◌, ◌++◌, ℕ, List, IfErr, OnOk};
 ghost use Rattle.command_line.specs.Check.{EndsCheck, JudgesFiles};
 
-use command_line::{ProgramFault, check_on};
+use command_line::{ProgramFault, check_routes, payload_index};
 use std::alloc::Global;
 use web::Drain;
 
@@ -14,18 +14,21 @@ pub struct PayloadFile(pub Vec<u8>);
 #[derive(Drop)]
 pub struct RouteFile(pub Vec<u8>);
 
-/// As `check_on`, where neither file can be taken for the other.
+/// As `check_on`, where neither file can be taken for the other. The payload file is let go before the
+/// routes are judged.
 pub fn check_files<D: Drain>(
     alloc: Global,
-    payloads: &PayloadFile,
+    payloads: PayloadFile,
     routes: &RouteFile,
     drain: &mut D,
 ) -> Result<(), ProgramFault>
     ensures ok { OnOk result ((text : List ℕ)
-        × JudgesFiles payloads.now.0.items routes.now.0.items text
+        × JudgesFiles payloads.0.items routes.now.0.items text
         × (D.written drain.new ≡ D.written drain.old ++ text)) }
-    ensures err { IfErr result (λ fault. EndsCheck fault payloads.now.0.items routes.now.0.items
+    ensures err { IfErr result (λ fault. EndsCheck fault payloads.0.items routes.now.0.items
         (D.written drain.old) (D.written drain.new) (D.has_failed drain.new)) }
 {
-    check_on(alloc, &payloads.0, &routes.0, drain)
+    let index = payload_index(alloc, &payloads.0)?;
+    drop(payloads);
+    check_routes(alloc, &index, &routes.0, drain)
 }

@@ -153,7 +153,7 @@ fn run_check_task(rt: &HostRuntime, payloads: &str, routes: &str) -> Result<(), 
     let payloads = PayloadFile(read_input(rt, payloads)?);
     let routes = RouteFile(read_input(rt, routes)?);
     let mut drain = Device::new(io::writer(rt));
-    check_files(rt.alloc(), &payloads, &routes, &mut drain)
+    check_files(rt.alloc(), payloads, &routes, &mut drain)
 }
 
 fn read_input(rt: &HostRuntime, path: &str) -> Result<Vec<u8>, ProgramFault> {

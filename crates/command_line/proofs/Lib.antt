@@ -3,3 +3,4 @@ pub mod CheckLemmas
 pub mod RowLemmas
 pub mod CharterSteps
 pub mod WordsSteps
+pub mod LineSteps

@@ -1,5 +1,5 @@
 -- One more route, and the line of its state.
-use Rattle.std.proofs.Common.{◌≡◌, ◌+◌, ◌≤◌, ℕ, List, [], ◌∷◌, ◌++◌, length, map, None, refl, sym, ap, ◌∙◌, append_assoc, arith, length-append}
+use Rattle.std.proofs.Common.{◌≡◌, ◌+◌, ℕ, List, [], ◌∷◌, ◌++◌, map, None, refl, sym, ap, ◌∙◌, append_assoc}
 use Rattle.std.proofs.lemmas.List.{append-nil, map-append}
 use Rattle.addr.specs.OriginValidation.{ValidationState, validation_state}
 use Rattle.addr.specs.declared.route.Route.{Route}
@@ -29,13 +29,6 @@ pub line_more : (vrps : set.VrpSet) (routes : List Route) (r : Route) (old new p
     → new ≡ state_lines vrps (routes ++ r ∷ [])
 line_more vrps routes r old new prefix origin state before one two judged pushed =
     pushed ∙ rw (before, one, two, judged, states_more vrps routes r) refl
-
-pub longer : (old new front : List ℕ) → new ≡ old ++ (front ++ 10 ∷ []) → length old + 1 ≤ length new
-longer old new front e =
-    let first = ap (λ (t : List ℕ). length t) e in
-    let second = length-append old (front ++ 10 ∷ []) in
-    let third = length-append front (10 ∷ []) in
-    omega arith
 
 pub first_route_more : (k : ℕ) (left rest : List Fields) (row : Fields) → left ≡ row ∷ rest → route_fault row ≡ None
     → first_fault route_fault k left ≡ first_fault route_fault (k + 1) rest

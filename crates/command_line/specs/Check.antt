@@ -1,6 +1,6 @@
 -- What `roadesk check` prints: a line for each route, in the file's order, with its validation state over
 -- the set of the VRPs (RFC 6811 section 2).
-use Rattle.std.specs.Prelude.{◌≡◌, ℕ, List, [], ◌∷◌, ◌++◌, map, Option, Some}
+use Rattle.std.specs.Prelude.{◌≡◌, ℕ, List, [], ◌∷◌, ◌++◌, map, Option, Some, None}
 use Rattle.addr.specs.OriginValidation.{state_text, validation_state}
 use Rattle.addr.specs.declared.route.Route.{Route}
 use Rattle.addr.specs.declared.vrp.Vrp.{Vrp}
@@ -28,6 +28,13 @@ state_lines vrps (r ∷ routes) = state_line vrps r ++ state_lines vrps routes
 pub record AreCheckFiles (payloads routes : List ℕ) (vrps : List Vrp) (announced : List Route) : Type 0 where
   pub payload_file : csv_records payloads ≡ payload_header ∷ map payload_row vrps
   pub route_file : csv_records routes ≡ route_header ∷ map route_row announced
+
+-- the payload file has no fault, and these are its VRPs
+pub record AreVrpsOf (payloads : List ℕ) (vrps : set.VrpSet) : Type 0 where
+  pub faultless : file_fault payload_header payload_fault (csv_records payloads) ≡ None
+  pub listed : List Vrp
+  pub file : csv_records payloads ≡ payload_header ∷ map payload_row listed
+  pub same : vrps ≡ set.from_list listed
 
 -- the text is the lines of a check of the two files
 abbrev pub JudgesFiles : List ℕ → List ℕ → List ℕ → Type 0

@@ -4,3 +4,4 @@ pub mod ProgramFaults
 pub mod Words
 pub mod WordsFault
 pub mod CharterFile
+pub mod steps
