@@ -6,8 +6,8 @@ use Rattle.addr.specs.Address.{Address}
 use Rattle.addr.specs.declared.prefix.Prefix.{Prefix}
 use Rattle.registry.specs.History.{History}
 use Rattle.registry.specs.Resources.{resource_holder, is_held_by, IsFree}
-use Rattle.registry.specs.Rows.{Rows, changed_files}
-use Rattle.registry.specs.Answer.{IsAccepted, IsAnswer, IsListRefusal, IsOfCommand, imported, number_made}
+use Rattle.registry.specs.Rows.{Rows, changed_files, rows_if_any}
+use Rattle.registry.specs.Answer.{holder_of, IsAccepted, IsAnswer, IsListRefusal, IsOfCommand, IsViewOf, RowsOfNamed, imported, number_made}
 use Rattle.registry.specs.declared.rule.Refusal.{Refusal}
 use Rattle.registry.specs.declared.rule.Refusal.TheVariants.{Denied, Memory}
 use Rattle.registry.specs.declared.change.Change.{Change}
@@ -24,10 +24,11 @@ use Rattle.sqlite.specs.Store.{Ghosts}
 use Rattle.store.specs.StoreRows.{StoreView, IsRead, IfClean, HoldsAfter, OfHeldRows}
 use Rattle.registry.specs.declared.authorization.ImportRow.{ImportRow}
 use Rattle.registry.specs.declared.command.Command.{Command}
-use Rattle.registry.specs.declared.command.Command.TheVariants.{Import}
+use Rattle.registry.specs.declared.command.Command.TheVariants.{Delegate, Import}
 use Rattle.registry.specs.declared.command.Query.{Query}
 use Rattle.registry.specs.declared.command.Query.TheVariants.{Show, Content, List as ListQuery, Payloads, Validity, WhatIf}
 use Rattle.registry.specs.Verdict.{IsLegal}
+use Rattle.registry.specs.declared.rows.HolderRows.{HolderRows}
 use Rattle.charters.specs.declared.charter.Charter.{Charter}
 use Rattle.registry.proofs.Names.{held_by_itself}
 use Rattle.registry.proofs.Unregistered.{has_nothing}
@@ -64,6 +65,12 @@ untaken_free charter rows history legal has p untaken a inside = go (resource_ho
 pub tells_taken : (charter : Charter) (rows : AllRows) (history : History) → IsLegal charter history → HasRows rows history → (p : Prefix) (taken : Bool) → IsTrue taken ↔ IsTaken rows p → MatchBool taken (IsFree history p → ⊥) (IsFree history p)
 tells_taken charter rows history legal has p true tells = taken_not_free rows history has p (tells.0 refl)
 tells_taken charter rows history legal has p false tells = untaken_free charter rows history legal has p (λ taken. false≢true (tells.1 taken))
+
+-- the rows are what a command other than a delegation is judged on
+pub view_of_rows : (history : History) (command : Command) (holder : Option HolderRows) → ((h : List ℕ) (p : Prefix) → ¬ (command ≡ Delegate h p))
+    → RowsOfNamed history (holder_of command) (rows_if_any holder) → IsViewOf history command (record { holder = holder; taken = false })
+view_of_rows history (Delegate h p) holder not rows = absurd (not h p refl)
+view_of_rows history other holder not rows = record { rows = rows; taken = tt }
 
 -- the rows after an accepted command are those of the history that it leaves
 pub rows_carried : (charter : Charter) (history : History) (day : ℕ) (caller : List ℕ) (command : Command) (change : Change) (rows : AllRows)

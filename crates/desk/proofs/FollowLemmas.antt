@@ -1,7 +1,8 @@
 -- What is kept of a day follows a change of the rows.
 use Rattle.std.proofs.Common.{◌≡◌, ◌⊎◌, inl, inr, ◌↔◌, ℕ, Bool, true, false, ◌||◌, List, [], ◌∷◌, Option, Some, None, Result, Ok, Err, refl, sym, ap, arith, ◌∙◌, ◌==◌, filter, subst, Contains}
 use Rattle.std.specs.Global.{Vec}
-use Rattle.std.specs.Prelude.{IfSome, OnOk, is_ok, is_err, option_map, option_to_list}
+use Rattle.std.specs.List.{list_any}
+use Rattle.std.specs.Prelude.{IfSome, OnOk, is_ok, is_err, is_some, option_map, option_to_list}
 use Rattle.std.proofs.lemmas.Bool.{eqb-true, false≢true, true≢false}
 use Rattle.addr.specs.Address.{last_of, Address}
 use Rattle.addr.proofs.AddressLemmas.{between_at, first-last}
@@ -33,8 +34,6 @@ use Rattle.registry.specs.declared.change.Edit.TheVariants.{Hold, Grant as Grant
 use Rattle.registry.specs.declared.command.Command.{Command}
 use Rattle.registry.specs.declared.command.Command.TheVariants.{Register, Delegate, Transfer, Reclaim, Grant, Revoke, Create, Amend, Withdraw, Import, Slurm as SlurmCommand}
 use Rattle.registry.specs.declared.change.HolderChange.{HolderChange}
-use Rattle.registry.specs.declared.grant.Role.{Role}
-use Rattle.registry.specs.declared.grant.Scope.{Scope}
 use Rattle.registry.specs.declared.rows.HolderRows.{HolderRows}
 use Rattle.slurm.specs.SlurmSets.{union}
 use Rattle.store.specs.Given.{GivenOnce}
@@ -191,22 +190,37 @@ kept_by_none edit (Some xs) ends_none begins_none = (
   λ x. rw (begins_none xs, begins_none []) (λ is. is, λ is. is),
 )
 
-pub enough_to_grant : (h name : List ℕ) (role : Role) (scope : Scope) (until : ℕ) (change : Change) (none : Vec Auth) (rows : AllRows)
-    → HasEditsOf (Grant h name role scope until) change → none.items ≡ [] → AreEnoughFor change (Some none) None rows
-enough_to_grant h name role scope until (Holders first None) none rows edits empty = rw empty (of first.edit edits.1)
-  where
-    of : (edit : Edit) → IsEditOf (Grant h name role scope until) edit → AreEnough edit (auths_of rows first.holder) (Some [])
-    of (GrantEdit g) is = kept_by_none (GrantEdit g) (auths_of rows first.holder) (λ n. refl) (λ xs. refl)
-    of other is = absurd is
-enough_to_grant h name role scope until (Holders first (Some second)) none rows edits empty = absurd edits
-enough_to_grant h name role scope until (Exceptions files) none rows edits empty = absurd edits
+-- commands whose edits neither end nor begin an authorization
+abbrev pub leaves_auths : Command → Bool
+leaves_auths (Delegate h p) = true
+leaves_auths (Grant h name role scope until) = true
+leaves_auths (Revoke h n) = true
+leaves_auths other = false
 
-pub enough_to_revoke : (h : List ℕ) (n : ℕ) (change : Change) (none : Vec Auth) (rows : AllRows) → HasEditsOf (Revoke h n) change → none.items ≡ []
+followed_by_none : (command : Command) (edit : Edit) → leaves_auths command ≡ true → IsEditOf command edit → (was : Option (List Auth)) → AreEnough edit was (Some [])
+followed_by_none (Delegate h p) (Hold removed added gone) leaves none was =
+    kept_by_none (Hold removed added gone) was (λ n. ap (λ (ns : List ℕ). list_any (λ m. n == m) ns) none) (λ xs. refl)
+followed_by_none (Delegate h p) other leaves is was = absurd is
+followed_by_none (Grant h name role scope until) (GrantEdit g) leaves is was = kept_by_none (GrantEdit g) was (λ n. refl) (λ xs. refl)
+followed_by_none (Grant h name role scope until) other leaves is was = absurd is
+followed_by_none (Revoke h n) edit leaves is was = rw is (kept_by_none (RevokeEdit n) was (λ m. refl) (λ xs. refl))
+followed_by_none other edit leaves is was = absurd (false≢true leaves)
+
+pub enough_of_none : (command : Command) (change : Change) (none : Vec Auth) (rows : AllRows) → leaves_auths command ≡ true → HasEditsOf command change → none.items ≡ []
     → AreEnoughFor change (Some none) None rows
-enough_to_revoke h n (Holders first None) none rows edits empty =
-    rw (empty, edits.1) (kept_by_none (RevokeEdit n) (auths_of rows first.holder) (λ m. refl) (λ xs. refl))
-enough_to_revoke h n (Holders first (Some second)) none rows edits empty = absurd edits
-enough_to_revoke h n (Exceptions files) none rows edits empty = absurd edits
+enough_of_none (Transfer p giver taker) change none rows leaves edits empty = absurd (false≢true leaves)
+enough_of_none command (Exceptions files) none rows leaves edits empty = tt
+enough_of_none command (Holders first None) none rows leaves edits empty =
+    rw empty (followed_by_none command first.edit leaves edits.1 (auths_of rows first.holder))
+enough_of_none command (Holders first (Some second)) none rows leaves edits empty = absurd edits
+
+not_loaded : (was : Option Rows) → is_some was ≡ false → AreLoaded was None
+not_loaded None none = tt
+not_loaded (Some r) none = absurd (true≢false none)
+
+-- a holder that is registered has no rows before
+pub enough_to_register : (h : List ℕ) (change : Change) (rows : AllRows) → HasEditsOf (Register h) change → is_some (rows.of_holder h) ≡ false → AreEnoughFor change None None rows
+enough_to_register h change rows edits none = enough_for_one (Register h) change None rows refl edits (not_loaded (rows.of_holder h) none)
 
 -- an edit of a command that makes no authorization begins none
 begins_no : (command : Command) (edit : Edit) → IsEditOf command edit → makes_auths command ≡ false → begins_some edit ≡ false

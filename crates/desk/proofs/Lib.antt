@@ -1,4 +1,3 @@
-pub mod ContentLemmas
 pub mod HolderLemmas
 pub mod OneReply
 pub mod AsDone

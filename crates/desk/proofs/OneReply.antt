@@ -25,7 +25,7 @@ use Rattle.desk.specs.Answer.{AnswersCommand, AnswersShow, AnswersContent, Answe
 use Rattle.hex.specs.Hex.{encode_lower}
 use Rattle.roa.specs.ContentOctets.{content_octets}
 use Rattle.roa.specs.RoaContent.{RouteOriginAttestation, Encodes, IsContent}
-use Rattle.desk.specs.ContentText.{content_of, IsContentText}
+use Rattle.contents.specs.ContentText.{content_of, IsContentText}
 use Rattle.desk.specs.HolderAnswers.{deciding_entries, IsAnswerOn, SaySame, OneReply}
 use Rattle.registry.specs.declared.asked.Request.{Request}
 use Rattle.registry.specs.declared.asked.Request.TheVariants.{Command as CommandRequest, Query as QueryRequest}

@@ -27,7 +27,7 @@ use Rattle.registry.specs.declared.command.Query.{Query}
 use Rattle.registry.specs.declared.command.Query.TheVariants.{Show as ShowQuery, Content as ContentQuery, List as ListQuery, Payloads as PayloadsQuery, Validity as ValidityQuery, WhatIf as WhatIfQuery}
 use Rattle.registry.specs.declared.rule.Refusal.{Refusal}
 use Rattle.registry.specs.declared.rule.Refusal.TheVariants.{Denied as Refused, Memory}
-use Rattle.desk.specs.ContentText.{IsContentText}
+use Rattle.contents.specs.ContentText.{IsContentText}
 use Rattle.sqlite.specs.Store.{Ghosts}
 use Rattle.desk.specs.Desk.{HoldsHistory}
 use Rattle.desk.specs.declared.desk.Desk.{Desk}

@@ -4,7 +4,6 @@ pub mod Resumed
 pub mod Run
 pub mod AsDone
 pub mod HolderAnswers
-pub mod ContentText
 pub mod DeskView
 pub mod Desk
 pub mod Prepared

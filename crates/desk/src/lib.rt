@@ -1,7 +1,6 @@
 //! The desk: its requests, and its replies to them.
 #![tactic(auto)]
 
-mod content;
 mod desk;
 pub mod laws;
 mod reply;

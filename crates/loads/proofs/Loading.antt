@@ -1,6 +1,6 @@
 -- What is loaded from the rows that queries found.
 use Rattle.std.proofs.Common.{◌≡◌, ℕ, ◌+◌, ◌<◌, ◌||◌, true, List, [], ◌∷◌, map, flat_map, take, length, get_or, slice_get, All, Option, Some, None, IsTrue, Result, Ok, Err, IfOk, refl, sym, ap, subst, ◌∙◌, arith, IsPermutation}
-use Rattle.std.specs.Prelude.{⊤, IsSorted}
+use Rattle.std.specs.Prelude.{⊤, IsSorted, is_some}
 use Rattle.std.specs.Global.{Vec}
 use Rattle.std.specs.List.{AllByRecursion}
 use Rattle.std.proofs.Math.Bool.{or-false}
@@ -103,6 +103,11 @@ none_in (x ∷ xs) same = absurd (let e = length_permutation _ _ same in cc)
 pub first_counters : (o : Option Rows) (xs : List Counters) → IsPermutation (items_if_any counters_of_rows o) xs → slice_get xs 0 ≡ counters_if_any o
 first_counters None xs same = rw (none_in xs same) refl
 first_counters (Some r) xs same = rw (one_permutation (record { granted = r.granted; created = r.created }) xs same) refl
+
+-- there are counters where the holder is registered
+pub counted : (o : Option Rows) → is_some (counters_if_any o) ≡ is_some o
+counted None = refl
+counted (Some r) = refl
 
 abbrev pub CountersFit : Counters → Type 0
 CountersFit c = IsCount c.granted × IsCount c.created

@@ -1,5 +1,5 @@
 -- What is loaded of the rows that the tables hold.
-use Rattle.std.specs.Prelude.{◌≡◌, ◌≤◌, ◌==◌, ◌&&◌, ℕ, Bool, true, false, not, nat_le, List, map, filter, length, Option, Some, None, option_to_list, Contains, IfSome, IsPermutation, IsSortedByKey, IsTrue, ⊤}
+use Rattle.std.specs.Prelude.{◌≡◌, ◌≤◌, ◌==◌, ◌&&◌, ℕ, Bool, true, false, not, nat_le, List, map, filter, length, Option, Some, None, is_some, option_to_list, Contains, IfSome, IsPermutation, IsSortedByKey, IsTrue, ⊤}
 use Rattle.std.specs.List.{list_any}
 use Rattle.std.specs.Ordering.{nat_cmp}
 use Rattle.sqlite.specs.State.{State}
@@ -67,6 +67,12 @@ AreLoaded None None = ⊤
 AreLoaded None (Some loaded) = ⊥
 AreLoaded (Some r) None = ⊥
 AreLoaded (Some r) (Some loaded) = IsLoaded r loaded
+
+-- the addresses of a holder as maximal runs, where it is registered
+pub record AreHoldings (rows : Option Rows) (held : Option (List Span)) : Type 0 where
+  pub registered : is_some held ≡ is_some rows
+  pub maximal : IfSome held AreMaximal
+  pub runs : IfSome held (HaveSame (items_if_any (λ r. r.holdings) rows))
 
 -- the authorizations of a holder; none where it is not registered
 abbrev pub auths_held : Option Rows → List Auth

@@ -12,4 +12,4 @@ pub use across::some_overlap;
 pub use answers::{ForAmend, ForCreate, ForGrant, load_for_amend, load_for_create, load_for_grant};
 pub use below::is_taken;
 pub use exceptions::load_files;
-pub use load::{Numbered, load_numbered, load_rows, load_vrps};
+pub use load::{Numbered, is_registered, load_holdings, load_numbered, load_rows, load_vrps};

@@ -1,5 +1,5 @@
 //! What is loaded from the tables.
-ghost use Rattle.std.specs.Prelude.{◌≡◌, ◌≢◌, ◌↔◌, ◌==◌, ℕ, List, map, filter, option_to_list, All, AllPairs, Contains, Err, IfOk, IsPermutation, IsSorted};
+ghost use Rattle.std.specs.Prelude.{◌≡◌, ◌≢◌, ◌↔◌, ◌==◌, ℕ, List, map, filter, is_some, option_to_list, All, AllPairs, Contains, Err, IfOk, IsPermutation, IsSorted};
 ghost use Rattle.std.specs.declared.cmp.Ordering.{Ordering};
 ghost use Rattle.sqlite.specs.Given.{IsPlain};
 ghost use Rattle.sqlite.specs.Listing.{understood};
@@ -13,7 +13,7 @@ ghost use Rattle.registry.specs.Rows.{Rows};
 ghost use Rattle.registry.specs.RowsOfAll.{IsGivenOn};
 ghost use Rattle.registry.specs.Values.{FitIfAny};
 ghost use Rattle.registry.specs.Verdict.{auth_of_number};
-ghost use Rattle.loads.specs.Loads.{HaveSame, AreGrants, AreInOrder, AreLoaded, AreNumbered, AllGiveOn, IsOf, IsOfAll, IsOpenWith, auths_held};
+ghost use Rattle.loads.specs.Loads.{HaveSame, AreGrants, AreHoldings, AreInOrder, AreLoaded, AreNumbered, AllGiveOn, IsOf, IsOfAll, IsOpenWith, auths_held};
 ghost use Rattle.tables.specs.Tables.{OverDesk};
 ghost use Rattle.tables.specs.TablesHold.{items_if_any};
 ghost use Rattle.database.specs.Queries.{IsAsked, IsClean, IsReadyToAsk};
@@ -112,6 +112,62 @@ pub(crate) fn load_counters<S: Alter>(
 {
     let counters: Vec<Counters> = load_values(conn, alloc, holder)?;
     Ok(counters.first().copied())
+}
+
+/// Whether the holder is registered.
+pub fn is_registered<S: Alter>(
+    conn: &mut Connection<S>,
+    alloc: Global,
+    holder: &Name,
+) -> Result<bool, StoreFault>
+    requires { IsReadyToAsk S.Store conn.old }
+    ensures asked { IsAsked S.Store conn.old conn.new result }
+    ensures found { IsClean S.Store conn.new → IfOk result (λ registered.
+        IsOf (λ rows. registered ≡ is_some rows) holder.now (state S.Store conn.old)) }
+    ensures schema { IsClean S.Store conn.new → result ≡ Err StoreFault.Schema
+        → IsOpenWith (λ all. ¬ FitIfAny (all.of_holder holder.now)) (state S.Store conn.old) }
+{
+    let counters = load_counters(conn, alloc, holder)?;
+    Ok(counters.is_some())
+}
+
+/// The addresses of the holder; none where it is not registered.
+fn load_runs<S: Alter>(
+    conn: &mut Connection<S>,
+    alloc: Global,
+    holder: &Name,
+) -> Result<Holdings, StoreFault>
+    requires { IsReadyToAsk S.Store conn.old }
+    ensures asked { IsAsked S.Store conn.old conn.new result }
+    ensures found { IsClean S.Store conn.new → IfOk result (λ runs.
+        IsOf (λ rows. HaveSame (items_if_any (λ r. r.holdings) rows) runs)
+        holder.now (state S.Store conn.old)) }
+    ensures maximal { IfOk result AreMaximal }
+    ensures schema { IsClean S.Store conn.new → result ≡ Err StoreFault.Schema
+        → IsOpenWith (λ all. ¬ FitIfAny (all.of_holder holder.now)) (state S.Store conn.old) }
+{
+    let spans: Vec<Span> = load_values(conn, alloc, holder)?;
+    Ok(holdings_of(alloc, &spans)?)
+}
+
+/// The addresses of the holder, if it is registered.
+pub fn load_holdings<S: Alter>(
+    conn: &mut Connection<S>,
+    alloc: Global,
+    holder: &Name,
+) -> Result<Option<Holdings>, StoreFault>
+    requires { IsReadyToAsk S.Store conn.old }
+    ensures asked { IsAsked S.Store conn.old conn.new result }
+    ensures found { IsClean S.Store conn.new → IfOk result (λ held.
+        IsOf (λ rows. AreHoldings rows held) holder.now (state S.Store conn.old)) }
+    ensures schema { IsClean S.Store conn.new → result ≡ Err StoreFault.Schema
+        → IsOpenWith (λ all. ¬ FitIfAny (all.of_holder holder.now)) (state S.Store conn.old) }
+{
+    if !is_registered(conn, alloc, holder)? {
+        return Ok(None);
+    }
+    let runs = load_runs(conn, alloc, holder)?;
+    Ok(Some(runs))
 }
 
 /// The grants of the holder that are not revoked, by rising number.
@@ -225,11 +281,11 @@ pub fn load_rows<S: Alter>(
     let Some(Counters { granted, created }) = load_counters(conn, alloc, holder)? else {
         return Ok(None);
     };
-    let spans: Vec<Span> = load_values(conn, alloc, holder)?;
+    let holdings = load_runs(conn, alloc, holder)?;
     let grants = load_grants(conn, alloc, holder)?;
     let auths = load_auths(conn, alloc, holder)?;
     Ok(Some(HolderRows {
-        holdings: holdings_of(alloc, &spans)?,
+        holdings,
         grants,
         auths,
         granted,

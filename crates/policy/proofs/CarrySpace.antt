@@ -21,6 +21,7 @@ use Rattle.registry.specs.Resources.{resource_holder, is_held_by, HoldsPrefix, I
 use Rattle.registry.specs.Terms.{terms_overlap, grant_terms, grants_made, authorizations_made, authorization_terms, HeldSinceMade, Keeps, AreActive}
 use Rattle.registry.specs.Verdict.{IsLegal}
 use Rattle.registry.specs.Rows.{Rows, RowsOf, RowsIfAny, edited, edited_if_any, Carries}
+use Rattle.policy.specs.steps.Delegation.{HasRuns}
 use Rattle.policy.specs.steps.Exchange.{Exchanges}
 use Rattle.registry.proofs.Names.{same_name-same, held_by_itself}
 use Rattle.registry.proofs.Kept.{Keeps-unique}
@@ -93,23 +94,23 @@ sparing v w ended edit x =
     subst PutsNoneBack (sym x.is) (subst (λ gone. P gone x.added.items) (sym x.removes) (subst (P (without_runs w v)) (sym x.adds) (none_back v w)))
 
 -- the receiver of a prefix, by a delegation or a transfer
-receiver-rows : (e : Entry) (before : History) (h : List ℕ) (p : Prefix) (spans : List Span) (ended : Vec ℕ) (edit : Edit) (v rows : Rows)
+receiver-rows : (e : Entry) (before : History) (h : List ℕ) (p : Prefix) (spans : List Span) (ended : Vec ℕ) (edit : Edit) (v : List Span) (rows : Rows)
     → ((a : Address) → resource_holder (e ∷ before) a ≡ cond (has_address p a) (Some h) (resource_holder before a))
-    → Exchanges v.holdings spans ended edit → AddsAddresses v.holdings spans (has_address p)
+    → Exchanges v spans ended edit → AddsAddresses v spans (has_address p)
     → ended.items ≡ []
     → grant_terms (e ∷ before) h ≡ grant_terms before h → grants_made (e ∷ before) h ≡ grants_made before h
     → authorization_terms (e ∷ before) h ≡ authorization_terms before h → authorizations_made (e ∷ before) h ≡ authorizations_made before h
-    → RowsOf before h v → RowsOf before h rows → RowsOf (e ∷ before) h (edited edit rows)
+    → HasRuns before h v → RowsOf before h rows → RowsOf (e ∷ before) h (edited edit rows)
 receiver-rows e before h p spans ended edit v rows receives x united none grants granted terms created had are =
     let holdings = λ (a : Address).
-    let at : (b : Bool) → (spans_have v.holdings a || b) ≡ is_held_by h (cond b (Some h) (resource_holder before a)) =
-    λ b. elim b as (λ b. (spans_have v.holdings a || b) ≡ is_held_by h (cond b (Some h) (resource_holder before a)))
-    [ true ↦ or-true (spans_have v.holdings a) ∙ sym (held_by_itself h) | false ↦ or-false (spans_have v.holdings a) ∙ had.holdings a ] in
+    let at : (b : Bool) → (spans_have v a || b) ≡ is_held_by h (cond b (Some h) (resource_holder before a)) =
+    λ b. elim b as (λ b. (spans_have v a || b) ≡ is_held_by h (cond b (Some h) (resource_holder before a)))
+    [ true ↦ or-true (spans_have v a) ∙ sym (held_by_itself h) | false ↦ or-false (spans_have v a) ∙ had a ] in
     united a ∙ at (has_address p a) ∙ ap (is_held_by h) (sym (receives a)) in
     let keeps : LosesNothing e before h = λ a is.
     receives a ∙ elim (has_address p a) as (λ b. cond b (Some h) (resource_holder before a) ≡ Some h) [ true ↦ refl | false ↦ is ] in
     let runs = without_runs x.removed.items rows.holdings ++ x.added.items in
-    let new = exchanged v.holdings spans rows.holdings ended edit x are.apart (λ a. are.holdings a ∙ sym (had.holdings a)) in
+    let new = exchanged v spans rows.holdings ended edit x are.apart (λ a. are.holdings a ∙ sym (had a)) in
     subst (λ d. RowsOf (e ∷ before) h (edited d rows)) (sym x.is)
     (subst (λ (xs : List Auth). RowsOf (e ∷ before) h (record rows { holdings = runs; auths = xs })) (kept_all ended.items rows.auths none)
     (rows-gained e before h runs rows new.0 (λ a. new.1 a ∙ holdings a) keeps grants granted terms created are))
@@ -151,9 +152,9 @@ giver-rows e before h p spans ended edit v rows gives others x without numbers g
       created = are.created ∙ sym created;
     })
 
-pub carries-delegate : (before : History) (day : ℕ) (caller holder : List ℕ) (p : Prefix) (spans : List Span) (ended : Vec ℕ) (edit : Edit) (v : Rows)
-    → is_registered before holder ≡ true → IsFree before p → RowsOf before holder v
-    → Exchanges v.holdings spans ended edit → AddsAddresses v.holdings spans (has_address p) → ended.items ≡ []
+pub carries-delegate : (before : History) (day : ℕ) (caller holder : List ℕ) (p : Prefix) (spans : List Span) (ended : Vec ℕ) (edit : Edit) (v : List Span)
+    → is_registered before holder ≡ true → IsFree before p → HasRuns before holder v
+    → Exchanges v spans ended edit → AddsAddresses v spans (has_address p) → ended.items ≡ []
     → Carries (Holders (record { holder = holder; edit = edit }) None) before (record { day = day; caller = caller; command = Delegate holder p } ∷ before)
 carries-delegate before day caller holder p spans ended edit v registered free had x united none =
     let e : Entry = record { day = day; caller = caller; command = Delegate holder p } in
@@ -196,7 +197,7 @@ carries-transfer before day caller giver taker p less more ended none edit_giver
     (λ a. elim (has_address p a) as (λ b. is_held_by giver (cond b (Some taker) (resource_holder before a)) ≡ cond b false (is_held_by giver (resource_holder before a))) [ true ↦ differ | false ↦ refl ])
     (λ a f. cond-false _ _ _ f)
     x without numbers refl refl refl refl had_v are)
-    (λ rows are. receiver-rows e before taker p more none edit_taker w rows (λ a. refl) y united nothing refl refl refl refl had_w are)
+    (λ rows are. receiver-rows e before taker p more none edit_taker w.holdings rows (λ a. refl) y united nothing refl refl refl refl had_w.holdings are)
     (λ h not_giver not_taker a. elim (cases_Bool (has_address p a)) [
       | inl t ↦ ap (is_held_by h) (cond-true _ _ _ t) ∙ not_taker ∙ sym not_giver ∙ ap (is_held_by h) (sym (holds a t))
       | inr f ↦ ap (is_held_by h) (cond-false _ _ _ f)

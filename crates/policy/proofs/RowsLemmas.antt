@@ -1,6 +1,7 @@
 -- What the given rows say of the holder.
 use Rattle.std.proofs.Common.{◌≡◌, ℕ, Bool, true, false, List, [], Option, Some, None, refl, sym, ap, ◌∙◌, subst, Bor, option_copied, is_some, IsSomeAnd, inl, inr}
 use Rattle.std.specs.List.{list_any}
+use Rattle.std.specs.Prelude.{option_map, MatchBool}
 use Rattle.std.proofs.lemmas.Bool.{cases_Bool, false≢true}
 use Rattle.charters.specs.declared.charter.Charter.{Charter}
 use Rattle.registry.specs.declared.rows.HolderRows.{HolderRows}
@@ -11,13 +12,24 @@ use Rattle.registry.specs.declared.authorization.Auth.{Auth}
 use Rattle.registry.specs.declared.grant.Granted.{Granted}
 use Rattle.registry.specs.Terms.{grant_terms, authorization_terms, HeldSinceMade, Keeps, OfActive}
 use Rattle.registry.specs.Verdict.{IsLegal, auth_of_number, OfNumber}
+use Rattle.addr.specs.declared.prefix.Prefix.{Prefix}
+use Rattle.registry.specs.Resources.{IsFree}
+use Rattle.policy.specs.steps.Delegation.{AnswersDelegate}
 use Rattle.registry.proofs.Kept.{Keeps-unique}
 use Rattle.registry.proofs.Unregistered.{has_nothing}
 
-pub unregistered : (history : History) (h : List ℕ) (rows : Option (Bor HolderRows)) → is_some rows ≡ false
-    → RowsIfAny history h (rows_if_any (option_copied rows)) → is_registered history h ≡ false
-unregistered history h None none are = are
-unregistered history h (Some r) none are = absurd (false≢true (sym none))
+-- there are rows exactly where the holder is registered
+pub registered-with_rows : (history : History) (h : List ℕ) (rows : Option (Bor HolderRows))
+    → RowsIfAny history h (rows_if_any (option_copied rows)) → is_some rows ≡ is_registered history h
+registered-with_rows history h None are = sym are
+registered-with_rows history h (Some r) are = sym are.0
+
+-- what a delegation is judged on, of the rows
+pub delegation-answers : (history : History) (h : List ℕ) (p : Prefix) (rows : Option (Bor HolderRows)) (taken : Bool)
+    → RowsIfAny history h (rows_if_any (option_copied rows)) → MatchBool taken (IsFree history p → ⊥) (IsFree history p)
+    → AnswersDelegate history h p (option_map (λ (r : Rows). r.holdings) (rows_if_any (option_copied rows))) taken
+delegation-answers history h p None taken are free = record { registered = sym are; holdings = tt; free = free }
+delegation-answers history h p (Some r) taken are free = record { registered = sym are.0; holdings = are.1.holdings; free = free }
 
 -- the grants of the rows are those of the history: without rows none were made
 pub grants-are : (charter : Charter) (history : History) (h : List ℕ) (rows : Option (Bor HolderRows)) → IsLegal charter history

@@ -1,6 +1,6 @@
 //! Parts of rules, each a test of the rows.
 
-ghost use Rattle.std.specs.Prelude.{◌≡◌, ℕ, ◌<◌, ◌==◌, ◌&&◌, not, length, List, true, false, ◌↔◌, IsTrue, Some, ◌≤◌, option_copied, IfOk, MatchResult};
+ghost use Rattle.std.specs.Prelude.{◌≡◌, ℕ, ◌<◌, ◌==◌, ◌&&◌, not, length, List, true, false, ◌↔◌, IsTrue, Some, ◌≤◌, option_copied, option_map, IfOk, MatchResult};
 ghost use Rattle.std.specs.List.{list_all, list_any};
 ghost use Rattle.registry.specs.declared.limits.TheConstants.{MOST_GRANTS, MOST_AUTHORIZATIONS, LAST_NUMBER};
 ghost use Rattle.addr.specs.Spans.{span_covers};
@@ -45,6 +45,17 @@ pub(crate) fn grants_of(rows: Option<&HolderRows>) -> &[Granted]
     match rows {
         Some(rows) => &rows.grants,
         None => &[],
+    }
+}
+
+/// The addresses of the rows, where there are rows.
+pub(crate) fn holdings_of(rows: Option<&HolderRows>) -> Option<&Holdings>
+    ensures { option_copied result
+        ≡ option_map (λ r. r.holdings) (rows_if_any (option_copied rows.entry)) }
+{
+    match rows {
+        Some(rows) => Some(&rows.holdings),
+        None => None,
     }
 }
 

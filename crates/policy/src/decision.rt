@@ -2,15 +2,12 @@
 
 ghost use Rattle.std.specs.Prelude.{◌≡◌, ℕ, true, false, None, Err, IsTrue, option_copied, MatchBool, IfOk, map, filter};
 ghost use Rattle.std.specs.Global.{Vec};
-ghost use Rattle.addr.specs.Address.{has_address};
-ghost use Rattle.addr.specs.Spans.{AddsAddresses, TakesAddresses};
 ghost use Rattle.charters.specs.declared.charter.Charter.{Charter as CharterValue};
 ghost use Rattle.registry.specs.History.{History, same_name};
 ghost use Rattle.registry.specs.Resources.{IsFree};
 ghost use Rattle.registry.specs.Terms.{terms_overlap};
 ghost use Rattle.registry.specs.Verdict.{IsLegal};
 ghost use Rattle.registry.specs.Rows.{rows_of, rows_if_any, RowsOf, RowsIfAny};
-ghost use Rattle.policy.specs.steps.Exchange.{Exchanges};
 ghost use Rattle.policy.specs.steps.Admission.{IsAdmitted};
 ghost use Rattle.registry.specs.Answer.{AnswersRows, JudgesRows, RowsOfNamed, IsAnswer, IsViewOf, is_transfer, takes_memory, holder_of, taker_of};
 ghost use Rattle.registry.specs.Edits.{HasEditsOf};
@@ -18,18 +15,21 @@ ghost use Rattle.registry.specs.Edits.{HasEditsOf};
 mod import;
 
 use crate::admission::{
-    auth_of_number, grants_of, holds, made_of, numbered_of, registered, require, rows_with_access,
+    auth_of_number, grants_of, holdings_of, holds, made_of, numbered_of, registered, require,
+    rows_with_access,
 };
 use crate::amendment::{Amendment, amend_found, is_found_shared};
 use crate::creation::{answers_of, create_answered};
+use crate::delegation::{delegate_answered, register_answered};
 use crate::granting::{GrantTerms, grant_counted, revoke_among};
 use crate::part::change_of;
+use crate::space::{exchange, with_prefix, without_prefix};
 use crate::withdrawal::withdraw_found;
 use crate::{
     Access, Auth, AuthTerms, Change, Charter, Command, Edit, HolderChange, HolderRows, Refusal,
     Rule, View,
 };
-use addr::{Day, Holdings, Name, Prefix};
+use addr::{Day, Name, Prefix};
 use import::decide_import;
 use slurm::SlurmSet;
 use std::alloc::{AllocError, Global};
@@ -47,35 +47,6 @@ struct Basis<'a> {
 struct Holder<'a> {
     name: &'a Name,
     rows: Option<&'a HolderRows>,
-}
-
-/// The holdings with the prefix.
-fn with_prefix(holdings: &Holdings, prefix: &Prefix) -> Result<Holdings, AllocError>
-    ensures { IfOk result (λ more. AddsAddresses holdings.now more (has_address prefix.now)) }
-{
-    let mut more = holdings.clone()?;
-    more.add(prefix)?;
-    Ok(more)
-}
-
-/// The holdings without the prefix.
-fn without_prefix(holdings: &Holdings, prefix: &Prefix) -> Result<Holdings, AllocError>
-    ensures { IfOk result (λ less. TakesAddresses holdings.now less (has_address prefix.now)) }
-{
-    let mut less = holdings.clone()?;
-    less.take(prefix)?;
-    Ok(less)
-}
-
-/// The edit from one holder's runs to others, which ends the authorizations of these numbers.
-fn exchange(before: &Holdings, after: &Holdings, ended: Vec<u32>) -> Result<Edit, AllocError>
-    ensures { IfOk result (Exchanges before.now after.now ended) }
-{
-    Ok(Edit::Hold {
-        removed: before.without_runs(after)?,
-        added: after.without_runs(before)?,
-        ended,
-    })
 }
 
 /// The numbers of the authorizations that share an address with the prefix.
@@ -101,31 +72,12 @@ fn decide_register(basis: Basis<'_>, holder: Holder<'_>) -> Result<Change, Rule>
         (Command.Register holder.entry.name.now) result }
     ensures shape { IfOk result (HasEditsOf (Command.Register holder.entry.name.now)) }
 {
-    require(basis.charter.is_operator(basis.caller), Rule::Operator)?;
-    require(holder.rows.is_none(), Rule::Fresh)?;
-    Ok(change_of(holder.name, Edit::Register))
-}
-
-/// The rows of the holder, where all rules of a delegation hold.
-fn rows_for_delegation<'a>(
-    charter: &Charter,
-    caller: &Name,
-    holder: Holder<'a>,
-    taken: bool,
-    prefix: &Prefix,
-) -> Result<&'a HolderRows, Rule>
-    ensures { (history : History) (day : ℕ)
-        → RowsIfAny history holder.entry.name.now (rows_if_any (option_copied holder.entry.rows))
-        → MatchBool taken (IsFree history prefix.now → ⊥) (IsFree history prefix.now)
-        → IsAdmitted charter.now history day caller.now
-        (Command.Delegate holder.entry.name.now prefix.now)
-        (λ rows. RowsOf history holder.entry.name.now (rows_of rows.now)) result }
-{
-    require(charter.is_operator(caller), Rule::Operator)?;
-    let rows = registered(holder.rows)?;
-    require(charter.has_in_pool(prefix), Rule::Pool)?;
-    require(!taken, Rule::Free)?;
-    Ok(rows)
+    register_answered(
+        basis.charter,
+        holder.name,
+        holder.rows.is_some(),
+        basis.caller,
+    )
 }
 
 /// Decides a delegation.
@@ -143,10 +95,15 @@ fn decide_delegate(
         (Command.Delegate holder.entry.name.now prefix.now) result }
     ensures shape { IfOk result (HasEditsOf (Command.Delegate holder.entry.name.now prefix.now)) }
 {
-    let rows = rows_for_delegation(basis.charter, basis.caller, holder, taken, prefix)?;
-    let more = with_prefix(&rows.holdings, prefix)?;
-    let edit = exchange(&rows.holdings, &more, Vec::new(alloc))?;
-    Ok(change_of(holder.name, edit))
+    delegate_answered(
+        alloc,
+        basis.charter,
+        holder.name,
+        holdings_of(holder.rows),
+        taken,
+        basis.caller,
+        prefix,
+    )
 }
 
 /// The rows of the holder, where all rules of a reclaim hold.

@@ -6,15 +6,18 @@ mod admission;
 mod amendment;
 mod creation;
 mod decision;
+mod delegation;
 mod granting;
 mod part;
 mod sight;
+mod space;
 mod what_if;
 mod withdrawal;
 
 pub use amendment::{Amendment, amend_found};
 pub use creation::create_answered;
 pub use decision::{decide, decide_two};
+pub use delegation::{delegate_answered, register_answered};
 pub use granting::{GrantTerms, grant_counted, revoke_among};
 pub use registry::{
     Access, Auth, AuthTerms, Change, Charter, CharterFault, Command, CreateAnswers, Edit, Granted,

@@ -35,8 +35,8 @@ use Rattle.registry.proofs.Names.{held_by_itself, is_held_by-true}
 use Rattle.registry.proofs.Numbers.{Numbered}
 use Rattle.histories.proofs.SharedVrps.{share_vrp-flips}
 use Rattle.tables.specs.TablesHold.{items_if_any}
-use Rattle.loads.specs.Loads.{AreInOrder, HasRun, auths_held, created_if_any, made_if_any, some_gives}
-use Rattle.store.specs.Laws.{LoadsAmendOfHistories, LoadsCreateOfHistories, LoadsGrantOfHistories, LoadsNumberOfHistories, LoadsRowsOfHistories, RunsOfHistoriesAreApart}
+use Rattle.loads.specs.Loads.{AreInOrder, HasRun, HaveSame, auths_held, created_if_any, made_if_any, some_gives}
+use Rattle.store.specs.Laws.{LoadsAmendOfHistories, LoadsCreateOfHistories, LoadsGrantOfHistories, LoadsHoldingsOfHistories, LoadsNumberOfHistories, LoadsRowsOfHistories, RowsOfTheRegistered, RunsOfHistoriesAreApart}
 
 module _ {X : Type 0} (number : X → ℕ) where
   -- the numbers rise, from above one number up to another
@@ -185,6 +185,23 @@ loads_grant have_nothing charter history h rows loaded legal of are = record {
   grants = grants_in_order history h (items_if_any (λ r. r.grants) rows) loaded.grants.items (is_held have_nothing charter history h rows legal of).grants are.grants;
   counter = made_loaded history h rows loaded.made of are.made;
 }
+
+pub rows_registered : RowsOfTheRegistered
+rows_registered history h None unregistered = sym unregistered
+rows_registered history h (Some r) registered = sym registered.0
+
+pub loads_holdings : UnregisteredHaveNothing → LoadsHoldingsOfHistories
+loads_holdings have_nothing charter history h rows held legal of are =
+    let holds = is_held have_nothing charter history h rows legal of in (
+      are.registered ∙ rows_registered history h rows of,
+      each held are.runs holds.holdings,
+    )
+  where
+    each : (held : Option (List Span)) → IfSome held (HaveSame (items_if_any (λ r. r.holdings) rows))
+        → ((a : Address) → spans_have (items_if_any (λ r. r.holdings) rows) a ≡ is_held_by h (resource_holder history a))
+        → IfSome held (λ runs. (a : Address) → spans_have runs a ≡ is_held_by h (resource_holder history a))
+    each None same holdings = tt
+    each (Some runs) same holdings = λ a. same a ∙ holdings a
 
 -- no more are active than were made
 no_more : (low : ℕ) (xs : List Auth) (high : ℕ) → Numbered low xs high → low + length xs ≤ high

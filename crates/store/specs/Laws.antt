@@ -1,9 +1,12 @@
 -- What follows for the rows of a history.
-use Rattle.std.specs.Prelude.{◌≡◌, ℕ, List, Option, IsTrue}
+use Rattle.std.specs.Prelude.{◌≡◌, ℕ, List, Option, is_some, IfSome, IsTrue}
 use Rattle.std.specs.List.{AllByRecursion}
 use Rattle.sqlite_trees.specs.Tree.{Trees}
 use Rattle.sqlite_trees.specs.declared.memory.MemStore.{MemStore}
+use Rattle.addr.specs.Address.{Address}
 use Rattle.addr.specs.Name.{is_name}
+use Rattle.addr.specs.Spans.{spans_have}
+use Rattle.addr.specs.declared.span.Span.{Span}
 use Rattle.charters.specs.CharterSets.{IsCharter}
 use Rattle.sqlite.specs.Effect.{Database}
 use Rattle.sqlite.specs.Held.{Held, state}
@@ -12,7 +15,8 @@ use Rattle.charters.specs.declared.charter.Charter.{Charter}
 use Rattle.registry.specs.declared.authorization.AuthTerms.{AuthTerms}
 use Rattle.registry.specs.declared.rows.HolderRows.{HolderRows}
 use Rattle.registry.specs.Answer.{AnswersAmend, AnswersCreate, AnswersGrant, AnswersNumber}
-use Rattle.registry.specs.History.{History}
+use Rattle.registry.specs.History.{History, is_registered}
+use Rattle.registry.specs.Resources.{resource_holder, is_held_by}
 use Rattle.registry.specs.Rows.{Rows, rows_if_any, RowsIfAny}
 use Rattle.registry.specs.RowsOfAll.{AllRows, HasRows}
 use Rattle.registry.specs.Values.{HistoryFits, FitIfAny, FilesFit}
@@ -28,7 +32,7 @@ use Rattle.loads.specs.declared.answers.ForAmend.{ForAmend}
 use Rattle.loads.specs.declared.answers.ForCreate.{ForCreate}
 use Rattle.loads.specs.declared.answers.ForGrant.{ForGrant}
 use Rattle.loads.specs.declared.load.Numbered.{Numbered}
-use Rattle.loads.specs.Loads.{AreLoaded, AreNumbered, IsForAmend, IsForCreate, IsForGrant, AllGiveOn, AreRunsApart}
+use Rattle.loads.specs.Loads.{AreHoldings, AreLoaded, AreNumbered, IsForAmend, IsForCreate, IsForGrant, AllGiveOn, AreRunsApart}
 use Rattle.store.specs.StoreRows.{AreInRange, StoreView, connection_state, Holds}
 
 -- The rows of a holder after a history, as they are loaded, are its rows after the history.
@@ -68,6 +72,20 @@ LoadsAmendOfHistories =
     (charter : Charter) (history : History) (h : List ℕ) (n : ℕ) (maxes : List ℕ) (rows : Option Rows) (loaded : ForAmend)
     → IsLegal charter history → RowsIfAny history h rows → IsForAmend n maxes rows loaded
     → AnswersAmend history h n maxes loaded.numbered.grants.items loaded.numbered.auth loaded.is_shared
+
+-- The rows of a history are of the holders that are registered after it.
+abbrev pub RowsOfTheRegistered : Type 0
+RowsOfTheRegistered =
+    (history : History) (h : List ℕ) (rows : Option Rows)
+    → RowsIfAny history h rows → is_some rows ≡ is_registered history h
+
+-- After a legal history the addresses that are loaded are those of a holder that is registered.
+abbrev pub LoadsHoldingsOfHistories : Type 0
+LoadsHoldingsOfHistories =
+    (charter : Charter) (history : History) (h : List ℕ) (rows : Option Rows) (held : Option (List Span))
+    → IsLegal charter history → RowsIfAny history h rows → AreHoldings rows held
+    → (is_some held ≡ is_registered history h)
+    × IfSome held (λ runs. (a : Address) → spans_have runs a ≡ is_held_by h (resource_holder history a))
 
 -- The rows of a legal history whose values are those of their types fit, so that no load of a holder
 -- finds a row that shows none.

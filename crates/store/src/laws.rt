@@ -2,10 +2,11 @@
 //! laws of `histories` and `tables`.
 ghost use Rattle.store.specs.Laws.{AuthsOfHistoriesGive, FilesOfHistoriesFit, HistoriesRead};
 ghost use Rattle.store.specs.Laws.{LoadsAmendOfHistories, LoadsCreateOfHistories};
-ghost use Rattle.store.specs.Laws.{LoadsGrantOfHistories, LoadsNumberOfHistories};
-ghost use Rattle.store.specs.Laws.{LoadsRowsOfHistories, MemoryHoldsRows, MemoryIsHonest};
-ghost use Rattle.store.specs.Laws.{MemoryStaysOpen, OldHistoriesRead, OldTablesThatReadAreOurs};
-ghost use Rattle.store.specs.Laws.{RowsInRangeGive, RowsOfHistoriesFit, RowsThatReadFit};
+ghost use Rattle.store.specs.Laws.{LoadsGrantOfHistories, LoadsHoldingsOfHistories};
+ghost use Rattle.store.specs.Laws.{LoadsNumberOfHistories, LoadsRowsOfHistories};
+ghost use Rattle.store.specs.Laws.{MemoryHoldsRows, MemoryIsHonest, MemoryStaysOpen};
+ghost use Rattle.store.specs.Laws.{OldHistoriesRead, OldTablesThatReadAreOurs, RowsInRangeGive};
+ghost use Rattle.store.specs.Laws.{RowsOfHistoriesFit, RowsOfTheRegistered, RowsThatReadFit};
 ghost use Rattle.store.specs.Laws.{RunsOfHistoriesAreApart, TablesThatReadAreOurs};
 
 /// Where the tables hold the rows of a history, what is loaded of a holder are its rows after that
@@ -47,6 +48,15 @@ pub fn create_of_a_history()
 /// And so is what is loaded of a holder for an amendment.
 pub fn amend_of_a_history()
     ensures { LoadsAmendOfHistories }
+{
+    registry::laws::unregistered_have_nothing();
+}
+
+/// The rows of a history are of the holders that are registered after it, and the addresses that
+/// are loaded of such a holder after a legal history are those that it holds.
+pub fn holdings_of_a_history()
+    ensures registered { RowsOfTheRegistered }
+    ensures holdings { LoadsHoldingsOfHistories }
 {
     registry::laws::unregistered_have_nothing();
 }

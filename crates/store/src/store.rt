@@ -10,12 +10,13 @@ ghost use Rattle.database.specs.Opening.{IsOfAnotherSchema};
 ghost use Rattle.store.specs.steps.Commits.{CommitsChange, MayCommit};
 ghost use Rattle.making.specs.Statements.{IfCommitted, IfRolledBack, CommitsAtMost};
 
-use addr::{Day, Name, Prefix, Vrp};
+use addr::{Day, Holdings, Name, Prefix, Vrp};
 use database::{StoreFault, make_tables, open_tables};
 use edits::make_change;
 use loads::{
-    ForAmend, ForCreate, ForGrant, Numbered, is_taken, load_files, load_for_amend, load_for_create,
-    load_for_grant, load_numbered, load_rows, load_vrps, some_overlap,
+    ForAmend, ForCreate, ForGrant, Numbered, is_registered, is_taken, load_files, load_for_amend,
+    load_for_create, load_for_grant, load_holdings, load_numbered, load_rows, load_vrps,
+    some_overlap,
 };
 use registry::{AuthTerms, Change, Charter, HolderRows};
 use slurm::Slurm;
@@ -143,12 +144,12 @@ impl<S: Alter + Drop> Store<S> {
 }
 
 impl<S: Alter> Store<S> {
-    ghost use Rattle.std.specs.Prelude.{Option, AllPairs, Contains};
+    ghost use Rattle.std.specs.Prelude.{Option, AllPairs, Contains, is_some};
     ghost use Rattle.addr.specs.declared.vrp.Vrp.{Vrp};
     ghost use Rattle.registry.specs.RowsOfAll.{IsTaken, IsGivenOn};
     ghost use Rattle.registry.specs.Values.{FitIfAny, FilesFit};
     ghost use Rattle.store.specs.Given.{GivenOnce};
-    ghost use Rattle.loads.specs.Loads.{AllGiveOn, AreFilesOf, AreLoaded, AreNumbered};
+    ghost use Rattle.loads.specs.Loads.{AllGiveOn, AreFilesOf, AreHoldings, AreLoaded, AreNumbered};
     ghost use Rattle.loads.specs.Loads.{AreRunsApart, IsForAmend, IsForCreate, IsForGrant};
     ghost use Rattle.store.specs.StoreRows.{connection_state, Holds, IsRead, OfHeldRows};
     ghost use Rattle.making.specs.Databases.{IsDeskWhileOpen};
@@ -239,6 +240,33 @@ impl<S: Alter> Store<S> {
             → OfHeldRows S.Store self.old (λ rows. ¬ FitIfAny (rows.of_holder holder.now))) }
     {
         load_for_amend(&mut self.conn, alloc, holder, number, maxes)
+    }
+
+    /// Whether the holder is registered.
+    pub fn is_registered(&mut self, alloc: Global, holder: &Name) -> Result<bool, StoreFault>
+        ensures read { IsRead S.Store self.old self.new }
+        ensures found { IfClean S.Store self.new (IfOk result (λ registered.
+            OfHeldRows S.Store self.old
+            (λ rows. registered ≡ is_some (rows.of_holder holder.now)))) }
+        ensures schema { IfClean S.Store self.new (result ≡ Err StoreFault.Schema
+            → OfHeldRows S.Store self.old (λ rows. ¬ FitIfAny (rows.of_holder holder.now))) }
+    {
+        is_registered(&mut self.conn, alloc, holder)
+    }
+
+    /// The addresses of the holder; none where it is not registered.
+    pub fn load_holdings(
+        &mut self,
+        alloc: Global,
+        holder: &Name,
+    ) -> Result<Option<Holdings>, StoreFault>
+        ensures read { IsRead S.Store self.old self.new }
+        ensures found { IfClean S.Store self.new (IfOk result (λ held.
+            OfHeldRows S.Store self.old (λ rows. AreHoldings (rows.of_holder holder.now) held))) }
+        ensures schema { IfClean S.Store self.new (result ≡ Err StoreFault.Schema
+            → OfHeldRows S.Store self.old (λ rows. ¬ FitIfAny (rows.of_holder holder.now))) }
+    {
+        load_holdings(&mut self.conn, alloc, holder)
     }
 
     /// The rows of two holders; of equal names the same rows twice.

@@ -8,7 +8,7 @@ ghost use Rattle.desk.specs.steps.Accepting.{Decides};
 use super::Desk;
 use super::following::Decided;
 use crate::Reply;
-use addr::{Day, Name};
+use addr::{Day, Name, Prefix};
 use policy::{Amendment, GrantTerms};
 use registry::{Auth, AuthTerms};
 use sqlite::Alter;
@@ -26,6 +26,61 @@ fn listed(alloc: Global, auth: Option<Auth>) -> Result<Vec<Auth>, AllocError>
 }
 
 impl<S: Alter> Desk<S> {
+    /// What a registration does, judged on whether the holder is registered.
+    pub(super) fn register(&mut self, caller: &Name, holder: &Name) -> Result<Decided, Reply>
+        ensures read { IsRead S.Store self.old.store self.new.store }
+        ensures same { self.new.kept ≡ self.old.kept }
+        ensures decides { (day : ℕ) → Decides S.Store day caller.now (Command.Register holder.now)
+            self.old self.new result }
+    {
+        store::laws::holdings_of_a_history();
+        let registered = self.store.is_registered(self.alloc, holder)?;
+        let charter = self.store.charter();
+        let change = policy::register_answered(charter, holder, registered, caller)?;
+        Ok(Decided {
+            change,
+            first: None,
+            second: None,
+        })
+    }
+
+    /// What a delegation does, judged on the holder's addresses and on whether some address of the
+    /// prefix is held. It ends nothing.
+    pub(super) fn delegate(
+        &mut self,
+        caller: &Name,
+        holder: &Name,
+        prefix: &Prefix,
+    ) -> Result<Decided, Reply>
+        ensures read { IsRead S.Store self.old.store self.new.store }
+        ensures same { self.new.kept ≡ self.old.kept }
+        ensures decides { (day : ℕ) → Decides S.Store day caller.now
+            (Command.Delegate holder.now prefix.now) self.old self.new result }
+    {
+        store::laws::holdings_of_a_history();
+        store::laws::runs_of_histories_are_apart();
+        let alloc = self.alloc;
+        // All runs, though few are beside the prefix: the edit is made of the maximal runs that
+        // the holder has before and after.
+        let held = self.store.load_holdings(alloc, holder)?;
+        let taken = self.store.is_taken(prefix)?;
+        let charter = self.store.charter();
+        let change = policy::delegate_answered(
+            alloc,
+            charter,
+            holder,
+            held.as_ref(),
+            taken,
+            caller,
+            prefix,
+        )?;
+        Ok(Decided {
+            change,
+            first: Some(Vec::new(alloc)),
+            second: None,
+        })
+    }
+
     /// What a grant does, judged on the grants and on how many were made. It ends nothing.
     pub(super) fn grant(
         &mut self,

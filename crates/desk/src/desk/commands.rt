@@ -1,6 +1,6 @@
 //! Commands: judged on the rows, then made.
 ghost use Rattle.std.specs.Prelude.{◌≡◌, true, false, option_copied, option_map, IfOk, IfSome};
-ghost use Rattle.registry.specs.Answer.{holder_of, IsViewOf, RowsOfNamed, ReportsTaken};
+ghost use Rattle.registry.specs.Answer.{RowsOfNamed};
 ghost use Rattle.registry.specs.Rows.{rows_if_any, RowsIfAny};
 ghost use Rattle.loads.specs.Loads.{AreLoaded};
 ghost use Rattle.store.specs.StoreRows.{IfClean, IsRead, OfHeldRows};
@@ -112,6 +112,8 @@ impl<S: Alter> Desk<S> {
                     second: auths_of(second),
                 })
             }
+            Command::Register { holder } => self.register(caller, holder),
+            Command::Delegate { holder, prefix } => self.delegate(caller, holder, prefix),
             Command::Grant {
                 holder,
                 name,
@@ -137,7 +139,12 @@ impl<S: Alter> Desk<S> {
                 until,
             } => self.amend(day, caller, holder, *number, maxes, *until),
             _ => {
-                let view = self.view(command)?;
+                let holder = self.load_named(command.holder())?;
+                // Only a delegation asks whether some address is held.
+                let view = View {
+                    holder,
+                    taken: false,
+                };
                 let charter = self.store.charter();
                 let change = policy::decide(self.alloc, charter, &view, day, caller, command)?;
                 Ok(Decided {
@@ -169,21 +176,6 @@ impl<S: Alter> Desk<S> {
         self.store.load_two(self.alloc, giver, taker)
     }
 
-    /// What the command is judged on.
-    fn view(&mut self, command: &Command) -> Result<View, StoreFault>
-        ensures read { IsRead S.Store self.old.store self.new.store }
-        ensures same { self.new.kept ≡ self.old.kept }
-        ensures view { IfOk result (λ view. OfRows S.Store self.old self.new (λ history.
-            IsViewOf history command.now view)) }
-        ensures loaded { IfClean S.Store self.new.store (IfOk result (λ view.
-            OfHeldRows S.Store self.old.store (λ rows. IfSome (holder_of command.now)
-            (λ holder. AreLoaded (rows.of_holder holder) view.holder)))) }
-    {
-        let holder = self.load_named(command.holder())?;
-        let taken = self.is_taken(command)?;
-        Ok(View { holder, taken })
-    }
-
     /// The rows of the holder, where the command names one.
     fn load_named(&mut self, holder: Option<&Name>) -> Result<Option<HolderRows>, StoreFault>
         ensures read { IsRead S.Store self.old.store self.new.store }
@@ -197,20 +189,6 @@ impl<S: Alter> Desk<S> {
         match holder {
             Some(holder) => self.load(holder),
             None => Ok(None),
-        }
-    }
-
-    /// Whether some address of a delegation's prefix is held; not looked up for another command.
-    fn is_taken(&mut self, command: &Command) -> Result<bool, StoreFault>
-        ensures read { IsRead S.Store self.old.store self.new.store }
-        ensures same { self.new.kept ≡ self.old.kept }
-        ensures taken { IfOk result (λ taken. OfRows S.Store self.old self.new (λ history.
-            ReportsTaken history command.now taken)) }
-    {
-        store::laws::runs_of_histories_are_apart();
-        match command {
-            Command::Delegate { prefix, .. } => self.store.is_taken(prefix),
-            _ => Ok(false),
         }
     }
 }

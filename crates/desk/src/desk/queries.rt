@@ -8,9 +8,9 @@ ghost use Rattle.desk.specs.steps.Following.{reply_of};
 ghost use Rattle.desk.specs.Desk.{charter_of, HoldsHistory, OfHistories, OfRows};
 
 use super::Desk;
-use crate::content::content_text;
 use crate::{Reply, Vrps};
 use addr::{Day, Name, Route};
+use contents::content_text;
 use kept::{gather, judge};
 use registry::{Auth, Query};
 use sqlite::Alter;

@@ -1,39 +1,8 @@
-use Rattle.std.proofs.Common.{sym, ap, subst, refl}
-use Rattle.std.proofs.lemmas.Result.{err_from_is_err_and}
-use Rattle.registry.specs.declared.command.Command.TheVariants.{Delegate}
-use Rattle.registry.specs.Answer.{edit_number, IsAccepted}
-use Rattle.registry.specs.Rows.{rows_of}
-use Rattle.policy.proofs.CarrySpace.{sparing, carries-delegate}
+use Rattle.policy.proofs.RowsLemmas.{delegation-answers}
 use Rattle.policy.proofs.decision.decide_delegate.Goals as goal
-
-pub returns-in_err-rows-clause-answer : goal.returns-in_err-rows-clause-answer
-returns-in_err-rows-clause-answer c history legal are taken =
-    let refused = err_from_is_err_and c.from_residual.result c.from_residual.ensures.1 in
-    rw (refused.1, refused.2) (c.in_err-rows.ensures history c.args.basis.day are taken, refl)
-
-pub returns-in_err-more-clause-answer : goal.returns-in_err-more-clause-answer
-returns-in_err-more-clause-answer c history legal are taken =
-    let refused = err_from_is_err_and c.from_residual-in_err-more.result c.from_residual-in_err-more.ensures.1 in
-    rw (refused.1, refused.2) (c.in_ok-rows.ensures history c.args.basis.day are taken).0
-
-pub returns-in_err-edit-clause-answer : goal.returns-in_err-edit-clause-answer
-returns-in_err-edit-clause-answer c history legal are taken =
-    let refused = err_from_is_err_and c.from_residual-in_err-edit.result c.from_residual-in_err-edit.ensures.1 in
-    rw (refused.1, refused.2) (c.in_ok-rows.ensures history c.args.basis.day are taken).0
 
 pub returns-clause-answer : goal.returns-clause-answer
 returns-clause-answer c history legal are taken =
     let a = c.args in
-    let h = a.holder.name.now in
-    let p = a.prefix.now in
-    let had = c.in_ok-rows.ensures history a.basis.day are taken in
-    let rules = had.0.1 in
-    subst (IsAccepted a.basis.charter.now history a.basis.day a.basis.caller.now (Delegate h p)) (sym c.change_of.ensures) (record {
-      after = _;
-      leaves = (had.0, refl);
-      numbered = ap edit_number c.in_ok-edit.ensures.is;
-      carries = carries-delegate history a.basis.day a.basis.caller.now h p c.in_ok-more.more c.new.result c.in_ok-edit.edit (rows_of c.in_ok-rows.rows.now)
-          rules.0 rules.1.1.0 had.1 c.in_ok-edit.ensures c.in_ok-more.ensures c.new.ensures.items;
-      sparing = (sparing _ _ _ _ c.in_ok-edit.ensures, tt);
-      of_command = (refl, tt);
-    })
+    let of = delegation-answers history a.holder.name.now a.prefix.now a.holder.rows a.taken are taken in
+    c.delegate_answered.ensures.answer history a.basis.day legal (rw c.holdings_of.ensures of.registered) (rw c.holdings_of.ensures of.holdings) taken

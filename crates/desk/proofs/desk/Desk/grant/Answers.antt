@@ -1,7 +1,7 @@
 use Rattle.std.proofs.Common.{◌≡◌, None, Some, refl, subst, ◌∙◌}
 use Rattle.charters.specs.declared.charter.Charter.{Charter}
 use Rattle.desk.proofs.DeskLemmas.{refuses}
-use Rattle.desk.proofs.FollowLemmas.{enough_to_grant}
+use Rattle.desk.proofs.FollowLemmas.{enough_of_none}
 use Rattle.desk.proofs.KeptLemmas.{kept_read}
 use Rattle.registry.specs.Answer.{IsAccepted}
 use Rattle.registry.specs.Verdict.{Verdict}
@@ -42,7 +42,7 @@ returns-clause-decides g c =
     let same : c.charter-charter.result.now ≡ old.charter = c.charter-charter.ensures ∙ c.load_for_grant.ensures.read.charter in
     rw (← c.self.view_is) (record {
       shape = change.shape;
-      enough = λ clean rows holds. enough_to_grant a.holder.now a.terms.now.caller a.terms.now.role a.terms.now.scope a.terms.now.until c.in_ok-change.change c.new.result rows change.shape c.new.ensures.items;
+      enough = λ clean rows holds. enough_of_none (Grant a.holder.now a.terms.now.caller a.terms.now.role a.terms.now.scope a.terms.now.until) c.in_ok-change.change c.new.result rows refl change.shape c.new.ensures.items;
       answer = λ clean history legal held.
           let grants = law old.charter history a.holder.now (held.0.of_holder a.holder.now) c.in_ok-loaded.loaded legal (held.1.holders a.holder.now) (c.in_ok-loaded.ensures.found clean held.0 held.2) in
           subst (λ (k : Charter). IsAccepted k history a.day a.caller.now (Grant a.holder.now a.terms.now.caller a.terms.now.role a.terms.now.scope a.terms.now.until) c.in_ok-change.change) same

@@ -17,7 +17,7 @@ use Rattle.roa.specs.RoaContent.{RouteOriginAttestation, IsContent, IsLowestFaul
 use Rattle.roa.specs.declared.content.ContentFault.{ContentFault}
 use Rattle.roa.specs.declared.content.ContentFault.TheVariants.{Empty, TooMany, MaxLength, Repeated}
 use Rattle.roa.specs.declared.content.Entry.{Entry}
-use Rattle.desk.specs.ContentText.{content_entry, content_of}
+use Rattle.contents.specs.ContentText.{content_entry, content_of}
 
 -- entries that rise by prefix rise as those of a content
 entries_rise : (es : List RoaPrefix) → Rise es → Rises (map content_entry es)

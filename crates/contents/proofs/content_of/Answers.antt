@@ -1,5 +1,5 @@
-use Rattle.desk.proofs.ContentLemmas.{content_found}
-use Rattle.desk.proofs.content.content_of.Goals as goal
+use Rattle.contents.proofs.ContentLemmas.{content_found}
+use Rattle.contents.proofs.content_of.Goals as goal
 
 pub returns-clause-some : goal.returns-clause-some
 returns-clause-some c =

@@ -1,8 +1,10 @@
-//! The ROA content of an authorization (RFC 9582).
+//! The ROA content of an authorization (RFC 9582), as a text.
+#![tactic(auto)]
+
 ghost use Rattle.std.specs.Prelude.{◌≡◌, ◌↔◌, true, map, IsSome, IfSome, IfOk};
 ghost use Rattle.std.specs.String.{string_bytes};
 ghost use Rattle.registry.specs.Verdict.{fit_lengths};
-ghost use Rattle.desk.specs.ContentText.{content_entry, content_of, IsContentText};
+ghost use Rattle.contents.specs.ContentText.{content_entry, content_of, IsContentText};
 
 use registry::{Auth, RoaPrefix};
 use roa::{Content, Entry, encode};
@@ -41,7 +43,7 @@ fn content_of(alloc: Global, auth: &Auth) -> Result<Option<Content>, AllocError>
 
 /// The octets of the authorization's ROA content in lower-case hex; `None` where a maxLength is out
 /// of range, which no history has.
-pub(crate) fn content_text(alloc: Global, auth: &Auth) -> Result<Option<String>, AllocError>
+pub fn content_text(alloc: Global, auth: &Auth) -> Result<Option<String>, AllocError>
     ensures some { IfOk result (λ found.
         IsSome found ↔ (fit_lengths auth.now.entries ≡ true)) }
     ensures text { IfOk result (λ found.
