@@ -1,6 +1,7 @@
 pub mod DeskReplies
 pub mod HttpLemmas
 pub mod LineSplits
+pub mod PieceLemmas
 pub mod ReplyLemmas
 pub mod ScriptAlong
 pub mod ScriptLemmas

@@ -3,6 +3,7 @@
 
 mod http;
 mod lines;
+mod pieces;
 mod reply;
 mod script;
 mod session;

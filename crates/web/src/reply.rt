@@ -6,6 +6,7 @@ ghost use Rattle.web.specs.ReplyText.{content_text, denied_text, done_text, impo
 pub(crate) mod items;
 mod list;
 
+use crate::pieces::Pieces;
 use addr::digits;
 use arrayvec::ArrayString;
 use desk::Reply;
@@ -29,10 +30,10 @@ pub fn write_reply<D: Drain>(reply: &Reply, drain: &mut D) -> Result<(), Failed>
         ),
         Reply::Shown(auth) => write_shown(auth, drain),
         Reply::Content(text) => write_content(text.as_str(), drain),
-        Reply::Listed(auths) => write_list(b"{\"listed\":[", auths.as_slice(), drain),
-        Reply::Payloads(vrps) => write_list(b"{\"payloads\":[", vrps.as_slice(), drain),
-        Reply::Answers(states) => write_list(b"{\"answers\":[", states.as_slice(), drain),
-        Reply::Report(states) => write_list(b"{\"report\":[", states.as_slice(), drain),
+        Reply::Listed(auths) => write_list("{\"listed\":[", auths.as_slice(), drain),
+        Reply::Payloads(vrps) => write_list("{\"payloads\":[", vrps.as_slice(), drain),
+        Reply::Answers(states) => write_list("{\"answers\":[", states.as_slice(), drain),
+        Reply::Report(states) => write_list("{\"report\":[", states.as_slice(), drain),
         Reply::Denied(rule, row) => write_all(drain, denied_text(*rule, *row).as_str().as_bytes()),
         Reply::Unavailable => write_all(drain, unavailable_text().as_str().as_bytes()),
     }
@@ -88,10 +89,10 @@ fn write_shown<D: Drain>(auth: &Auth, drain: &mut D) -> Result<(), Failed>
         (AppendsBeginning (D.written drain.old) (D.written drain.new) (shown_text auth.now)) }
     ensures failed { OnErr result (D.has_failed drain.new ≡ true) }
 {
-    write_all(drain, b"{\"shown\":")?;
-    auth.write(true, drain)?;
-    write_all(drain, b"}\n")?;
-    Ok(())
+    let mut pieces = Pieces::begin(drain, "{\"shown\":");
+    auth.add_to(true, &mut pieces);
+    pieces.add("}\n");
+    pieces.finish()
 }
 
 /// Writes a content, given in hex.

@@ -6,17 +6,16 @@ ghost use Rattle.desk.specs.declared.reply.Reply.TheVariants.{Payloads};
 ghost use Rattle.payload.specs.VrpSet as set;
 ghost use Rattle.streams.specs.Streams.{AppendsBeginning};
 ghost use Rattle.web.specs.ReplyText.{line_text};
+ghost use Rattle.web.specs.steps.PieceWriting.{HasAdded};
 ghost use Rattle.web.specs.steps.VrpCounting.{counted_none, counted_then, HasCounted};
-ghost use Rattle.web.specs.steps.VrpWriting.{csv_lines, items_none, items_then, lines_none, lines_then, HasAdded, HasListed};
+ghost use Rattle.web.specs.steps.VrpWriting.{csv_lines, items_none, items_then, lines_none, lines_then, HasListed};
 
-mod pieces;
-
+use crate::pieces::Pieces;
 use crate::reply::items::vrp_item;
 use addr::Vrp;
 use arrayvec::ArrayString;
 use csv_records::payload_line;
 use payload::{PayloadIndex, Sink, Stop};
-use pieces::Pieces;
 use streams::{Drain, Failed};
 
 /// The length of CSV lines, until it is over what a `u64` counts.
@@ -101,20 +100,25 @@ pub(crate) fn write_csv<I: PayloadIndex, D: Drain>(
         (beginning.now ++ csv_text payload_header payload_row (set.items (I.vrps index.now)))) }
     ensures failed { OnErr result (D.has_failed drain.new ≡ true) }
 {
-    let mut piece = ArrayString::new();
-    piece.push_str(beginning);
-    piece.push_str(header());
+    let opening = csv_opening(beginning);
     let mut lines = Lines {
-        pieces: Pieces {
-            drain,
-            piece,
-            has_failed: false,
-        },
+        pieces: Pieces::begin(drain, opening.as_str()),
     };
     match index.visit(&mut lines) {
-        Ok(()) => lines.pieces.close(""),
+        Ok(()) => lines.pieces.finish(),
         Err(Stop) => Err(Failed),
     }
+}
+
+/// This beginning and the first line of the CSV.
+fn csv_opening(beginning: &str) -> ArrayString<512>
+    requires { length beginning.now ≤ 256 }
+    ensures { result.bytes ≡ beginning.now ++ csv_line payload_header }
+{
+    let mut text = ArrayString::new();
+    text.push_str(beginning);
+    text.push_str(header());
+    text
 }
 
 /// Writes VRPs as items of a JSON list.
@@ -154,18 +158,15 @@ pub(crate) fn write_line<I: PayloadIndex, D: Drain>(index: &I, drain: &mut D) ->
         (line_text (Payloads (set.items (I.vrps index.now))))) }
     ensures failed { OnErr result (D.has_failed drain.new ≡ true) }
 {
-    let mut piece = ArrayString::new();
-    piece.push_str("{\"payloads\":[");
     let mut items = Items {
-        pieces: Pieces {
-            drain,
-            piece,
-            has_failed: false,
-        },
+        pieces: Pieces::begin(drain, "{\"payloads\":["),
         is_first: true,
     };
     match index.visit(&mut items) {
-        Ok(()) => items.pieces.close("]}\n"),
+        Ok(()) => {
+            items.pieces.add("]}\n");
+            items.pieces.finish()
+        }
         Err(Stop) => Err(Failed),
     }
 }

@@ -1,69 +1,66 @@
 //! What replies list and show, item by item.
-ghost use Rattle.std.specs.Prelude.{◌≡◌, ◌++◌, ◌≤◌, ℕ, List, true, length, OnOk, OnErr};
+ghost use Rattle.std.specs.Prelude.{◌≡◌, ◌++◌, ◌≤◌, ℕ, List, length};
 ghost use Rattle.addr.specs.PrefixText.{spelling};
-ghost use Rattle.streams.specs.Streams.{AppendsBeginning};
 ghost use Rattle.web.specs.ReplyText.{auth_end, auth_start, auth_text, entries_list, entries_text, entry_text, prefix_members, quoted_state, states_text, vrp_text};
+ghost use Rattle.web.specs.steps.PieceWriting.{HasAdded};
 ghost use Rattle.web.specs.steps.ReplyItems.{auth_item, item_after, list_closing, list_opening, separator};
 
-use super::list::write_items;
+use super::list::add_items;
+use crate::pieces::Pieces;
 use addr::{Prefix, Vrp, digits};
 use arrayvec::ArrayString;
 use csv_records::day_text;
 use payload::Validity;
 use registry::{Auth, RoaPrefix};
-use streams::{Drain, Failed, write_all};
+use streams::Drain;
 
-/// An item of a list. Each write may be a call of the system, so an item of bounded length is
-/// written in one, with the comma before it.
+/// An item of a list.
 pub(super) trait Item {
     ghost text: { Self → List ℕ };
 
-    /// Writes the item, behind a comma where it is not the first of its list.
-    fn write<D: Drain>(&self, is_first: bool, drain: &mut D) -> Result<(), Failed>
-        ensures ok { OnOk result (D.written drain.new
-            ≡ D.written drain.old ++ item_after is_first (text self.now)) }
-        ensures err { OnErr result (AppendsBeginning (D.written drain.old) (D.written drain.new)
-            (item_after is_first (text self.now))) }
-        ensures failed { OnErr result (D.has_failed drain.new ≡ true) };
+    /// Adds the item, behind a comma where it is not the first of its list.
+    fn add_to<D: Drain>(&self, is_first: bool, pieces: &mut Pieces<'_, D>)
+        ensures { HasAdded D.written D.has_failed pieces.old
+            (item_after is_first (text self.now)) pieces.new };
 }
 
 impl Item for Auth {
     ghost text = { auth_text };
 
-    fn write<D: Drain>(&self, is_first: bool, drain: &mut D) -> Result<(), Failed> {
-        write_auth(is_first, self, self.entries.as_slice(), drain)
+    fn add_to<D: Drain>(&self, is_first: bool, pieces: &mut Pieces<'_, D>) {
+        add_auth(is_first, self, self.entries.as_slice(), pieces);
     }
 }
 
 impl Item for RoaPrefix {
     ghost text = { entry_text };
 
-    fn write<D: Drain>(&self, is_first: bool, drain: &mut D) -> Result<(), Failed> {
+    fn add_to<D: Drain>(&self, is_first: bool, pieces: &mut Pieces<'_, D>) {
         let mut text: ArrayString<256> = ArrayString::new();
         text.push_str(separator(is_first));
         text.push_str("{");
         text.push_str(prefix_members(&self.prefix, self.max).as_str());
         text.push_str("}");
-        write_all(drain, text.as_str().as_bytes())
+        pieces.add(text.as_str());
     }
 }
 
 impl Item for Vrp {
     ghost text = { vrp_text };
 
-    fn write<D: Drain>(&self, is_first: bool, drain: &mut D) -> Result<(), Failed> {
-        write_all(drain, vrp_item(is_first, self).as_str().as_bytes())
+    fn add_to<D: Drain>(&self, is_first: bool, pieces: &mut Pieces<'_, D>) {
+        pieces.add(vrp_item(is_first, self).as_str());
     }
 }
 
 impl Item for Validity {
     ghost text = { quoted_state };
 
-    fn write<D: Drain>(&self, is_first: bool, drain: &mut D) -> Result<(), Failed> {
+    fn add_to<D: Drain>(&self, is_first: bool, pieces: &mut Pieces<'_, D>) {
         let mut text: ArrayString<256> = ArrayString::new();
         text.push_str(separator(is_first));
         text.push_str(state_text(self));
-        write_all(drain, text.as_str().as_bytes())
+        pieces.add(text.as_str());
     }
 }
 
@@ -71,7 +68,7 @@ impl Item for Validity {
 impl Item for (Validity, Validity) {
     ghost text = { states_text };
 
-    fn write<D: Drain>(&self, is_first: bool, drain: &mut D) -> Result<(), Failed> {
+    fn add_to<D: Drain>(&self, is_first: bool, pieces: &mut Pieces<'_, D>) {
         let (now, after) = self;
         let mut text: ArrayString<256> = ArrayString::new();
         text.push_str(separator(is_first));
@@ -80,30 +77,24 @@ impl Item for (Validity, Validity) {
         text.push_str(",");
         text.push_str(state_text(after));
         text.push_str("]");
-        write_all(drain, text.as_str().as_bytes())
+        pieces.add(text.as_str());
     }
 }
 
-/// Writes an authorization of these entries, behind a comma where it is not the first of its list.
+/// Adds an authorization of these entries, behind a comma where it is not the first of its list.
 #[tactic(auto, using(crate::proofs::ReplyLemmas::several_entries))]
-fn write_auth<D: Drain>(
+fn add_auth<D: Drain>(
     is_first: bool,
     auth: &Auth,
     entries: &[RoaPrefix],
-    drain: &mut D,
-) -> Result<(), Failed>
-    ensures ok { OnOk result (D.written drain.new ≡ D.written drain.old
-        ++ auth_item is_first auth.now (entries_text entries.now)) }
-    ensures err { OnErr result (AppendsBeginning (D.written drain.old) (D.written drain.new)
-        (auth_item is_first auth.now (entries_text entries.now))) }
-    ensures failed { OnErr result (D.has_failed drain.new ≡ true) }
+    pieces: &mut Pieces<'_, D>,
+)
+    ensures { HasAdded D.written D.has_failed pieces.old
+        (auth_item is_first auth.now (entries_text entries.now)) pieces.new }
 {
     match entries {
-        [entry] => write_all(
-            drain,
-            one_entry_item(is_first, auth, entry).as_str().as_bytes(),
-        ),
-        _ => write_auth_list(is_first, auth, entries, drain),
+        [entry] => pieces.add(one_entry_item(is_first, auth, entry).as_str()),
+        _ => add_auth_list(is_first, auth, entries, pieces),
     }
 }
 
@@ -119,24 +110,20 @@ fn one_entry_item(is_first: bool, auth: &Auth, entry: &RoaPrefix) -> ArrayString
     text
 }
 
-/// Writes an authorization with the list of these entries, one by one, since they are too many for
+/// Adds an authorization with the list of these entries, one by one, since they are too many for
 /// one text of bounded length.
-fn write_auth_list<D: Drain>(
+fn add_auth_list<D: Drain>(
     is_first: bool,
     auth: &Auth,
     entries: &[RoaPrefix],
-    drain: &mut D,
-) -> Result<(), Failed>
-    ensures ok { OnOk result (D.written drain.new ≡ D.written drain.old
-        ++ auth_item is_first auth.now (entries_list entries.now)) }
-    ensures err { OnErr result (AppendsBeginning (D.written drain.old) (D.written drain.new)
-        (auth_item is_first auth.now (entries_list entries.now))) }
-    ensures failed { OnErr result (D.has_failed drain.new ≡ true) }
+    pieces: &mut Pieces<'_, D>,
+)
+    ensures { HasAdded D.written D.has_failed pieces.old
+        (auth_item is_first auth.now (entries_list entries.now)) pieces.new }
 {
-    write_all(drain, list_opening(is_first, auth).as_str().as_bytes())?;
-    write_items(entries, drain)?;
-    write_all(drain, list_closing(auth).as_str().as_bytes())?;
-    Ok(())
+    pieces.add(list_opening(is_first, auth).as_str());
+    add_items(entries, pieces);
+    pieces.add(list_closing(auth).as_str());
 }
 
 /// What stands before the list of an authorization's entries.

@@ -1,25 +1,18 @@
-use Rattle.std.proofs.Common.{◌++◌, map}
+use Rattle.std.proofs.Common.{rules, ap, map}
 use Rattle.std.specs.Prelude.{codes}
-use Rattle.streams.proofs.StreamLemmas.{on-err}
-use Rattle.web.specs.ReplyText.{comma_joined}
-use Rattle.web.proofs.ReplyLemmas.{AppendsBeginning-after, AppendsBeginning-longer}
+use Rattle.std.specs.Result.{OnErr}
+use Rattle.streams.specs.Streams.{AppendsBeginning}
+use Rattle.web.specs.ReplyText.{comma_joined, list_text}
+use Rattle.web.proofs.PieceLemmas.{closed-err}
 use Rattle.web.proofs.reply.list.write_list.Goals as goal
 
-pub returns-in_err-write_all-clause-err : goal.returns-in_err-write_all-clause-err
-returns-in_err-write_all-clause-err g c =
-    let items = comma_joined (map g.T.Item.text c.args.items.now) in
+pub returns-clause-err : goal.returns-clause-err
+returns-clause-err g c =
     let old = g.D.Drain.written c.args.drain.now in
-    let new = g.D.Drain.written c.write_all.new.drain in
-    on-err c.from_residual.result _
-    (AppendsBeginning-longer old new (c.args.opening.now ++ items) (codes "]}\n")
-    (AppendsBeginning-longer old new c.args.opening.now items c.in_err-write_all.ensures.err))
-
-pub returns-in_err-write_items-clause-err : goal.returns-in_err-write_items-clause-err
-returns-in_err-write_items-clause-err g c =
-    let items = comma_joined (map g.T.Item.text c.args.items.now) in
-    let old = g.D.Drain.written c.args.drain.now in
-    let new = g.D.Drain.written c.write_items.new.drain in
-    on-err c.from_residual-in_err-write_items.result _
-    (AppendsBeginning-longer old new (c.args.opening.now ++ items) (codes "]}\n")
-    (AppendsBeginning-after old (g.D.Drain.written c.write_all.new.drain) new c.args.opening.now items
-    c.in_ok-write_all.ensures.ok c.in_err-write_items.ensures.err))
+    let texts = map g.T.Item.text c.args.items.now in
+    let begins : OnErr c.finish.result (AppendsBeginning old (g.D.Drain.written c.finish.new.self.drain.now) (list_text c.args.opening.now texts)) =
+    closed-err g.D.Drain.written g.D.Drain.has_failed c.begin-pieces.result c.add_items.new.pieces c.add.new.self c.finish.new.self
+    old c.args.opening.now (comma_joined texts) (codes "]}\n") c.finish.result
+    (ap (λ d. g.D.Drain.written d.now) c.begin-pieces.ensures.drain) c.begin-pieces.ensures.piece
+    c.add_items.ensures c.add.ensures c.finish.ensures.sent in
+    search rules
