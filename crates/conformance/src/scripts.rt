@@ -17,13 +17,13 @@ use web::{Device, read_line_request, run_script, write_reply};
 
 mod amendments;
 mod authorizations;
-mod contents;
 pub(crate) mod exceptions;
 mod grants;
 mod imports;
 mod other_holders;
 mod repeats;
 mod resources;
+mod roa_contents;
 mod several_prefixes;
 mod slurm_sets;
 mod vrps;
@@ -302,7 +302,7 @@ fn scripts_have_their_replies(rt: HostRuntime) -> Result<(), Fail> {
     assert_all(&rt, rt.alloc(), amendments::SCRIPTS)?;
     assert_all(&rt, rt.alloc(), several_prefixes::SCRIPTS)?;
     assert_all(&rt, rt.alloc(), slurm_sets::SCRIPTS)?;
-    assert_all(&rt, rt.alloc(), contents::SCRIPTS)?;
+    assert_all(&rt, rt.alloc(), roa_contents::SCRIPTS)?;
     assert_all(&rt, rt.alloc(), imports::SCRIPTS)?;
     assert_all(&rt, rt.alloc(), what_if::SCRIPTS)?;
     assert_all(&rt, rt.alloc(), vrps::SCRIPTS)?;
