@@ -220,6 +220,10 @@ class Page:
         return self.run("return [...document.querySelectorAll(arguments[0])].map((row) => row.innerText)",
                         f"#{name} tbody tr")
 
+    def rows(self, name):
+        """As `table`, once there is a row: a list that is sorted anew is empty for a moment."""
+        return WebDriverWait(self.driver, 20).until(lambda _: self.table(name))
+
     def open(self, holder="alpha"):
         self.page("authorizations")
         self.put(holder=holder)
@@ -412,7 +416,7 @@ def check_list(page):
     page.wait("count", "5 authorizations")
     page.driver.find_element(By.XPATH, "//thead//button[starts-with(., 'Last day')]").click()
     page.driver.find_element(By.XPATH, "//thead//button[starts-with(., 'Last day')]").click()
-    expect("the list is sorted by the last day", page.table("auths")[0].split()[0], "5")
+    expect("the list is sorted by the last day", page.rows("auths")[0].split()[0], "5")
     page.driver.find_element(By.XPATH, "//thead//button[starts-with(., 'Number')]").click()
     page.put(filter_state="to come")
     page.wait("count", "1 of 5")
