@@ -1,16 +1,17 @@
 -- The digits of a number in a base, texts that are cut at a byte, and short numbers.
-use Rattle.std.proofs.Common.{◌≡◌, ◌⊎◌, ℕ, zero, suc, ◌+◌, ◌*◌, ◌/◌, ◌%◌, ◌^◌, ◌<◌, ◌≤◌, true, false, ◌==◌, List, [], ◌∷◌, ◌++◌, length, get_or, take, drop, set, Option, Some, None, decimal, lit≤, lit<, refl, ap, inl, inr, arith, add-one, one-add, append_assoc, ne_eqb, eq-eqb, le-leb, lt-ltb, option_map}
+use Rattle.std.proofs.Common.{◌≡◌, ◌⊎◌, ℕ, zero, suc, ◌+◌, ◌*◌, ◌/◌, ◌%◌, ◌^◌, ◌<◌, ◌≤◌, true, false, ◌==◌, List, [], ◌∷◌, ◌++◌, length, get_or, take, drop, set, Option, Some, None, decimal, lit≤, lit<, refl, ap, inl, inr, arith, add-one, one-add, cond, nat_le, append_assoc, ne_eqb, eq-eqb, le-leb, lt-ltb, option_map}
 use Rattle.std.proofs.Math.Nat.{pow-zero, pow-suc, pow-le-pow_right, div-lt_iff_lt-mul}
-use Rattle.std.proofs.lemmas.Bool.{cases_Bool, cases_lt, or_parts, or_from, le-ltb, and_parts, leb-true, ltb-true}
+use Rattle.std.proofs.lemmas.Bool.{cases_Bool, cases_lt, or_parts, or_from, le-ltb, lt-leb, and_parts, leb-true, ltb-true}
 use Rattle.std.proofs.lemmas.Option.{cond_some}
 use Rattle.std.proofs.lemmas.Int.Digits.{number_push, digits_value-lt}
 use Rattle.std.proofs.lemmas.List.{length_push, drop-set}
-use Rattle.std.proofs.lemmas.Fmt.{decimal_digit, decimal_step}
+use Rattle.std.proofs.lemmas.Fmt.{decimal_digit, decimal_step, length-decimal-le}
 use Rattle.std.specs.Char.{digit_value, is_digit}
 use Rattle.std.specs.List.{list_all, list_any, position, position_or_len}
 use Rattle.std.specs.Str.Parse.{AllDigits, digits_value}
 use Rattle.std.specs.Int.Digits.{number_from_digits, AllBelowBase}
 use Rattle.std.specs.Net.Text.{dotted_text}
+use Rattle.addr.specs.Digits.{in_three_digits}
 use Rattle.addr.specs.PrefixText.{digits_in, cut_at, short_number}
 
 -- ---- digits in a base
@@ -88,6 +89,48 @@ pub decimal_three : (n : ℕ) → 100 ≤ n → n < 1000 → decimal n ≡ (48 +
 decimal_three n low high =
     let first : n / 10 / 10 % 10 ≡ n / 100 = omega arith in
     rw (decimal_step n (omega arith) (omega arith), decimal_two (n / 10) (omega arith) (omega arith), first)
+
+-- below 1000, by what is left of the hundreds
+pub decimal_short_one : (n : ℕ) → n < 10 → decimal n ≡ cond (nat_le 100 n) ((48 + n / 100) ∷ []) [] ++ (48 + n % 100 % 10) ∷ []
+decimal_short_one n small =
+    let below : n < 100 = omega arith in
+    let ones : n % 100 % 10 ≡ n % 10 = omega arith in
+    rw (lt-leb 100 n below, ones, decimal_one n small)
+
+pub decimal_short_more :
+    (n : ℕ) → 10 ≤ n → n < 1000 → decimal n
+    ≡ cond (nat_le 100 n) ((48 + n / 100) ∷ []) [] ++ (48 + n % 100 / 10) ∷ (48 + n % 100 % 10) ∷ []
+decimal_short_more n more small =
+    let tens : n % 100 / 10 ≡ n / 10 % 10 = omega arith in
+    let ones : n % 100 % 10 ≡ n % 10 = omega arith in
+    elim (cases_lt n 100) [
+      | inl below ↦ rw (lt-leb 100 n below, tens, ones, decimal_two n more below)
+      | inr above ↦ rw (le-leb 100 n above, tens, ones, decimal_three n above small)
+    ]
+
+pub decimal_thousands : (n : ℕ) → 1000 ≤ n → n < 2 ^ 64 → decimal n ≡ decimal (n / 1000) ++ in_three_digits (n % 1000)
+decimal_thousands n low high =
+    let hundreds : 10 ≤ n / 10 = omega arith in
+    let thousands : 10 ≤ n / 10 / 10 = omega arith in
+    let front : n / 10 / 10 / 10 ≡ n / 1000 = omega arith in
+    let first : n / 10 / 10 % 10 ≡ n % 1000 / 100 = omega arith in
+    let second : n / 10 % 10 ≡ n % 1000 % 100 / 10 = omega arith in
+    let third : n % 10 ≡ n % 1000 % 100 % 10 = omega arith in
+    rw (
+      decimal_step n (omega arith) high,
+      decimal_step (n / 10) hundreds (omega arith),
+      decimal_step (n / 10 / 10) thousands (omega arith),
+      front,
+      first,
+      second,
+      third,
+    ) (simp append_assoc)
+
+pub length_decimal : (n : ℕ) → n < 2 ^ 64 → length (decimal n) ≤ 20
+length_decimal n high = length-decimal-le 20 n (lit< tt) (omega arith) high
+
+pub length_thousands : (n : ℕ) → n < 2 ^ 64 → length (decimal (n / 1000)) ≤ 17
+length_thousands n high = length-decimal-le 17 (n / 1000) (lit< tt) (omega arith) (omega arith)
 
 -- ---- cutting at a byte
 

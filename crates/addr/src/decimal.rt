@@ -1,21 +1,60 @@
 //! Numbers as decimal digits.
-ghost use Rattle.std.specs.Prelude.{◌≡◌, ℕ, ◌^◌, ◌<◌, ◌≤◌, MatchOption};
+ghost use Rattle.std.specs.Prelude.{◌≡◌, ℕ, ◌+◌, ◌^◌, ◌<◌, ◌≤◌, ◌++◌, MatchOption};
 ghost use Rattle.std.specs.Fmt.{decimal};
 ghost use Rattle.arrayvec.specs.ArrayString.{array_string_len};
-ghost use Rattle.addr.specs.Digits.{number_in};
+ghost use Rattle.addr.specs.Digits.{in_three_digits, number_in};
 
+use crate::ascii::{push_ascii, push_ascii_if};
 use arrayvec::ArrayString;
-use itoa::Buffer;
 
 /// The decimal digits of `number`, without leading zeros.
 pub fn digits(number: u64) -> ArrayString<20>
     ensures text { result.bytes ≡ decimal number }
     ensures len { array_string_len result ≤ 20 }
 {
-    let mut buffer = Buffer::new();
     let mut text = ArrayString::new();
-    text.push_str(buffer.format(number));
+    push_digits(&mut text, number);
     text
+}
+
+/// Appends the decimal digits of `number`, without leading zeros.
+pub fn push_digits<const N: usize>(text: &mut ArrayString<N>, number: u64)
+    requires room { array_string_len text.old + 20 ≤ N }
+    ensures bytes { text.new.bytes ≡ text.old.bytes ++ decimal number }
+    ensures len { array_string_len text.new ≤ array_string_len text.old + 20 }
+{
+    if number < 1000 {
+        push_short(text, number as u16);
+    } else {
+        push_digits(text, number / 1000);
+        push_three_digits(text, (number % 1000) as u16);
+    }
+}
+
+/// Appends the decimal digits of a number below 1000, without leading zeros.
+pub(crate) fn push_short<const N: usize>(text: &mut ArrayString<N>, number: u16)
+    requires small { number < 1000 }
+    requires room { array_string_len text.old + 3 ≤ N }
+    ensures bytes { text.new.bytes ≡ text.old.bytes ++ decimal number }
+    ensures len { array_string_len text.new ≤ array_string_len text.old + 3 }
+{
+    let last_two = number % 100;
+    push_ascii_if(text, b'0' + (number / 100) as u8, number >= 100);
+    if number >= 10 {
+        push_ascii(text, b'0' + (last_two / 10) as u8);
+    }
+    push_ascii(text, b'0' + (last_two % 10) as u8);
+}
+
+fn push_three_digits<const N: usize>(text: &mut ArrayString<N>, number: u16)
+    requires small { number < 1000 }
+    requires room { array_string_len text.old + 3 ≤ N }
+    ensures { text.new.bytes ≡ text.old.bytes ++ in_three_digits number }
+{
+    let last_two = number % 100;
+    push_ascii(text, b'0' + (number / 100) as u8);
+    push_ascii(text, b'0' + (last_two / 10) as u8);
+    push_ascii(text, b'0' + (last_two % 10) as u8);
 }
 
 /// The number below 2^64 whose decimal digits `text` is, without leading zeros; `None` for any

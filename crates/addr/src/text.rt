@@ -1,7 +1,8 @@
 //! The texts of prefixes, as `192.0.2.0/24` and `2001:db8::/32`.
-ghost use Rattle.std.specs.Prelude.{◌≡◌, ◌↔◌, Some, Ok, IfErr};
+ghost use Rattle.std.specs.Prelude.{◌≡◌, ◌+◌, ◌≤◌, ◌↔◌, ◌++◌, Some, Ok, IfErr};
 ghost use Rattle.std.specs.Result.{result_ok};
-ghost use Rattle.addr.specs.PrefixText.{prefix_fault_number, prefix_text_fault, spelled_prefix, Spells};
+ghost use Rattle.addr.specs.PrefixText.{prefix_fault_number, prefix_text_fault, spelled_prefix, spelling, Spells};
+ghost use Rattle.arrayvec.specs.ArrayString.{array_string_len};
 ghost use Rattle.addr.specs.declared.prefix.Prefix.{Prefix};
 
 use crate::{Family, Prefix};
@@ -12,7 +13,7 @@ mod read;
 mod write;
 
 use read::read_prefix;
-use write::write_spelling;
+use write::push_spelling;
 
 /// Why a text is not the one spelling of a prefix. Of several faults the first counts.
 #[derive(Clone, Copy, Debug, PartialEq, Eq, Error)]
@@ -68,6 +69,17 @@ impl Prefix {
     pub fn write_to(&self, text: &mut ArrayString<48>)
         ensures { Spells self.now text.new.bytes }
     {
-        write_spelling(text, self.family, self.first, u16::from(self.length));
+        text.clear();
+        self.push_to(text);
+    }
+
+    /// Appends the one spelling.
+    pub fn push_to<const N: usize>(&self, text: &mut ArrayString<N>)
+        requires room { array_string_len text.old + 48 ≤ N }
+        ensures bytes { text.new.bytes ≡ text.old.bytes
+            ++ spelling self.now.family self.now.first self.now.length }
+        ensures len { array_string_len text.new ≤ array_string_len text.old + 48 }
+    {
+        push_spelling(text, self.family, self.first, u16::from(self.length));
     }
 }

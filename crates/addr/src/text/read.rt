@@ -5,7 +5,7 @@ ghost use Rattle.std.specs.Int.Digits.{number_from_digits};
 ghost use Rattle.addr.specs.Family.{width};
 ghost use Rattle.addr.specs.PrefixText.{cut_at, dotted_address, loose, loose_address, loose_groups, octet, prefix_text_fault, short_number, Spells};
 
-use super::write::write_spelling;
+use super::write::push_spelling;
 use super::{PrefixFault, PrefixParts};
 use crate::{Family, Prefix};
 use arrayvec::ArrayString;
@@ -124,8 +124,8 @@ pub(super) fn read_prefix(text: &[u8]) -> Result<Prefix, PrefixFault>
         (λ fault. prefix_text_fault text.now ≡ Some fault) }
 {
     let parts = read_loosely(text).ok_or(PrefixFault::Shape)?;
-    let mut spelling = ArrayString::new();
-    write_spelling(&mut spelling, parts.family, parts.address, parts.length);
+    let mut spelling = ArrayString::<48>::new();
+    push_spelling(&mut spelling, parts.family, parts.address, parts.length);
     if spelling.as_str().as_bytes() != text {
         return Err(PrefixFault::Spelling);
     }

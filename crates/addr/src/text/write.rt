@@ -1,5 +1,5 @@
 //! Writing the one spelling.
-ghost use Rattle.std.specs.Prelude.{◌≡◌, ◌+◌, ◌*◌, ◌<◌, ◌≤◌, ◌++◌, length, decimal};
+ghost use Rattle.std.specs.Prelude.{◌≡◌, ◌+◌, ◌*◌, ◌<◌, ◌≤◌, ◌++◌, length};
 ghost use Rattle.std.specs.Char.{digit_char};
 ghost use Rattle.arrayvec.specs.ArrayString.{array_string_len};
 ghost use Rattle.std.specs.Net.Text.{groups_text, hex, longest_zero_run, ipv4_text, hex_groups_text};
@@ -7,26 +7,8 @@ ghost use Rattle.addr.specs.PrefixText.{digits_in, groups_of, octets_of, spellin
 
 use crate::Family;
 use crate::ascii::push_ascii;
+use crate::decimal::push_short;
 use arrayvec::ArrayString;
-
-/// `255.255.255.255/999`, and eight groups of four digits with seven colons, `/` and three digits, fit.
-type Buffer = ArrayString<48>;
-
-#[tactic(auto, using(crate::proofs::PrefixTextLemmas::decimal_one, crate::proofs::PrefixTextLemmas::decimal_two, crate::proofs::PrefixTextLemmas::decimal_three))]
-fn push_decimal(text: &mut Buffer, number: u16)
-    requires small { number < 1000 }
-    requires room { array_string_len text.old + 3 ≤ 48 }
-    ensures bytes { text.new.bytes ≡ text.old.bytes ++ decimal number }
-    ensures len { array_string_len text.new ≤ array_string_len text.old + 3 }
-{
-    if number >= 100 {
-        push_ascii(text, b'0' + (number / 100) as u8);
-    }
-    if number >= 10 {
-        push_ascii(text, b'0' + (number / 10 % 10) as u8);
-    }
-    push_ascii(text, b'0' + (number % 10) as u8);
-}
 
 fn hex_digit(digit: u16) -> u8
     requires { digit < 16 }
@@ -41,8 +23,8 @@ fn hex_digit(digit: u16) -> u8
 }
 
 #[tactic(auto, unfolding(std::specs::Net::Text::hex))]
-fn push_group(text: &mut Buffer, group: u16)
-    requires { array_string_len text.old + 4 ≤ 48 }
+fn push_group<const N: usize>(text: &mut ArrayString<N>, group: u16)
+    requires { array_string_len text.old + 4 ≤ N }
     ensures bytes { text.new.bytes ≡ text.old.bytes ++ hex group }
     ensures len { array_string_len text.new ≤ array_string_len text.old + 4 }
 {
@@ -59,8 +41,8 @@ fn push_group(text: &mut Buffer, group: u16)
 }
 
 /// Groups with a colon between them.
-fn push_groups(text: &mut Buffer, groups: &[u16])
-    requires { array_string_len text.old + 5 * length groups.now ≤ 48 }
+fn push_groups<const N: usize>(text: &mut ArrayString<N>, groups: &[u16])
+    requires { array_string_len text.old + 5 * length groups.now ≤ N }
     ensures bytes { text.new.bytes ≡ text.old.bytes ++ groups_text groups.now }
     ensures len { array_string_len text.new ≤ array_string_len text.old + 5 * length groups.now }
 {
@@ -101,25 +83,26 @@ fn write_digits(mut number: u128, base: u128, digits: &mut [u16])
     }
 }
 
-fn push_dotted(text: &mut Buffer, address: u128)
-    requires { array_string_len text.old + 15 ≤ 48 }
+#[tactic(auto, using(crate::proofs::PrefixTextLemmas::octet_small))]
+fn push_dotted<const N: usize>(text: &mut ArrayString<N>, address: u128)
+    requires { array_string_len text.old + 15 ≤ N }
     ensures bytes { text.new.bytes ≡ text.old.bytes ++ ipv4_text (octets_of address) }
     ensures len { array_string_len text.new ≤ array_string_len text.old + 15 }
 {
     let mut octets = [0; 4];
     write_digits(address, 0x100, &mut octets);
-    push_decimal(text, octets[0]);
+    push_short(text, octets[0]);
     push_ascii(text, b'.');
-    push_decimal(text, octets[1]);
+    push_short(text, octets[1]);
     push_ascii(text, b'.');
-    push_decimal(text, octets[2]);
+    push_short(text, octets[2]);
     push_ascii(text, b'.');
-    push_decimal(text, octets[3]);
+    push_short(text, octets[3]);
 }
 
 #[tactic(auto, unfolding(std::specs::Net::Text::hex_groups_text), using(crate::proofs::PrefixTextLemmas::length_digits_in))]
-fn push_hex_groups(text: &mut Buffer, address: u128)
-    requires { array_string_len text.old + 40 ≤ 48 }
+fn push_hex_groups<const N: usize>(text: &mut ArrayString<N>, address: u128)
+    requires { array_string_len text.old + 40 ≤ N }
     ensures bytes { text.new.bytes ≡ text.old.bytes ++ hex_groups_text (groups_of address) }
     ensures len { array_string_len text.new ≤ array_string_len text.old + 40 }
 {
@@ -136,17 +119,23 @@ fn push_hex_groups(text: &mut Buffer, address: u128)
     push_groups(text, &groups[start + len..]);
 }
 
-/// Puts the one spelling in place of what `text` held.
+/// Appends the one spelling: at most eight groups of four digits with seven colons, `/` and three digits.
 #[tactic(auto, unfolding(crate::specs::PrefixText::spelling))]
-pub(super) fn write_spelling(text: &mut Buffer, family: Family, address: u128, length: u16)
-    requires { length < 1000 }
-    ensures { text.new.bytes ≡ spelling family address length }
+pub(super) fn push_spelling<const N: usize>(
+    text: &mut ArrayString<N>,
+    family: Family,
+    address: u128,
+    length: u16,
+)
+    requires small { length < 1000 }
+    requires room { array_string_len text.old + 48 ≤ N }
+    ensures bytes { text.new.bytes ≡ text.old.bytes ++ spelling family address length }
+    ensures len { array_string_len text.new ≤ array_string_len text.old + 48 }
 {
-    text.clear();
     match family {
         Family::V4 => push_dotted(text, address),
         Family::V6 => push_hex_groups(text, address),
     }
     push_ascii(text, b'/');
-    push_decimal(text, length);
+    push_short(text, length);
 }
