@@ -1,10 +1,11 @@
 //! The rows that the desk exports as CSV: a header and a line for each.
-ghost use Rattle.std.specs.Prelude.{◌≡◌, ◌++◌, map, IfOk, OnOk};
+ghost use Rattle.std.specs.Prelude.{◌≡◌, ◌+◌, ◌≤◌, ◌++◌, map, IfOk, OnOk};
 ghost use Rattle.std.specs.List.{flat_map};
 ghost use Rattle.addr.specs.Day.{day_text};
+ghost use Rattle.arrayvec.specs.ArrayString.{array_string_len};
 ghost use Rattle.csv_records.specs.Lines.{csv_line, csv_text, entry_row, fields_text, list_header, list_rows, payload_header, payload_row, vrp_fields};
 
-use addr::{Asn, Day, Prefix, Vrp, digits};
+use addr::{Asn, Day, Prefix, Vrp, push_digits};
 use arrayvec::ArrayString;
 use registry::{Auth, RoaPrefix};
 use std::alloc::{AllocError, Global};
@@ -14,7 +15,7 @@ pub fn payload_line(vrp: &Vrp) -> ArrayString<160>
     ensures { result.bytes ≡ csv_line (payload_row vrp.now) }
 {
     let mut text = ArrayString::new();
-    text.push_str(vrp_fields(vrp.asn, &vrp.prefix, vrp.max).as_str());
+    push_vrp_fields(&mut text, vrp.asn, &vrp.prefix, vrp.max);
     text.push_str("\n");
     text
 }
@@ -60,9 +61,9 @@ fn entry_line(auth: &Auth, entry: &RoaPrefix) -> ArrayString<160>
     ensures { result.bytes ≡ csv_line (entry_row auth.now entry.now) }
 {
     let mut text = ArrayString::new();
-    text.push_str(digits(u64::from(auth.number)).as_str());
+    push_digits(&mut text, u64::from(auth.number));
     text.push_str(",");
-    text.push_str(vrp_fields(auth.asn, &entry.prefix, entry.max).as_str());
+    push_vrp_fields(&mut text, auth.asn, &entry.prefix, entry.max);
     text.push_str(",");
     text.push_str(day_text(auth.from).as_str());
     text.push_str(",");
@@ -71,20 +72,19 @@ fn entry_line(auth: &Auth, entry: &RoaPrefix) -> ArrayString<160>
     text
 }
 
-/// The fields that VRPs and authorizations share.
-fn vrp_fields(asn: Asn, prefix: &Prefix, max: u8) -> ArrayString<100>
-    ensures { result.bytes ≡ fields_text (vrp_fields asn prefix.now max) }
+/// Appends the fields that VRPs and authorizations share.
+fn push_vrp_fields(text: &mut ArrayString<160>, asn: Asn, prefix: &Prefix, max: u8)
+    requires room { array_string_len text.old + 100 ≤ 160 }
+    ensures bytes { text.new.bytes
+        ≡ text.old.bytes ++ fields_text (vrp_fields asn prefix.now max) }
+    ensures len { array_string_len text.new ≤ array_string_len text.old + 100 }
 {
-    let mut spelling = ArrayString::new();
-    prefix.write_to(&mut spelling);
-    let mut text = ArrayString::new();
     text.push_str("AS");
-    text.push_str(digits(u64::from(asn.0)).as_str());
+    push_digits(text, u64::from(asn.0));
     text.push_str(",");
-    text.push_str(spelling.as_str());
+    prefix.push_to(text);
     text.push_str(",");
-    text.push_str(digits(u64::from(max)).as_str());
-    text
+    push_digits(text, u64::from(max));
 }
 
 /// A day as `YYYY-MM-DD`.
