@@ -1,5 +1,5 @@
 -- The digits of a number in a base, texts that are cut at a byte, and short numbers.
-use Rattle.std.proofs.Common.{◌≡◌, ◌⊎◌, ℕ, zero, suc, ◌+◌, ◌*◌, ◌/◌, ◌%◌, ◌^◌, ◌<◌, ◌≤◌, true, false, ◌==◌, List, [], ◌∷◌, ◌++◌, length, get_or, take, drop, set, Option, Some, None, decimal, lit≤, lit<, refl, ap, inl, inr, arith, add-one, one-add, cond, nat_le, append_assoc, ne_eqb, eq-eqb, le-leb, lt-ltb, option_map}
+use Rattle.std.proofs.Common.{◌≡◌, ◌⊎◌, ℕ, zero, suc, ◌+◌, ◌*◌, ◌/◌, ◌%◌, ◌^◌, ◌<◌, ◌≤◌, true, false, ◌==◌, List, [], ◌∷◌, ◌++◌, length, get_or, take, drop, set, Option, Some, None, decimal, lit≤, lit<, refl, ap, inl, inr, arith, add-one, one-add, cond, nat_le, append_assoc, length-append, ne_eqb, eq-eqb, le-leb, lt-ltb, option_map}
 use Rattle.std.proofs.Math.Nat.{pow-zero, pow-suc, pow-le-pow_right, div-lt_iff_lt-mul}
 use Rattle.std.proofs.lemmas.Bool.{cases_Bool, cases_lt, or_parts, or_from, le-ltb, lt-leb, and_parts, leb-true, ltb-true}
 use Rattle.std.proofs.lemmas.Option.{cond_some}
@@ -126,6 +126,9 @@ decimal_thousands n low high =
       third,
     ) (simp append_assoc)
 
+pub length_by_thousands : (n : ℕ) → 1000 ≤ n → n < 2 ^ 64 → length (decimal n) ≡ length (decimal (n / 1000)) + 3
+length_by_thousands n low high = rw (decimal_thousands n low high) (length-append (decimal (n / 1000)) (in_three_digits (n % 1000)))
+
 pub length_decimal : (n : ℕ) → n < 2 ^ 64 → length (decimal n) ≤ 20
 length_decimal n high = length-decimal-le 20 n (lit< tt) (omega arith) high
 
@@ -246,3 +249,6 @@ short_number_below text number e =
 -- the dots of an IPv4 address from the first on
 pub dotted_parts : (a b c d : ℕ) → dotted_text a b c d ≡ decimal a ++ 46 ∷ (decimal b ++ 46 ∷ (decimal c ++ 46 ∷ decimal d))
 dotted_parts a b c d = simp append_assoc
+
+pub length_dotted : (a b c d : ℕ) → length (dotted_text a b c d) ≡ length (decimal a) + length (decimal b) + (length (decimal c) + length (decimal d)) + 3
+length_dotted a b c d = simp length-append (omega arith)

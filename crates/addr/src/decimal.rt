@@ -1,5 +1,5 @@
 //! Numbers as decimal digits.
-ghost use Rattle.std.specs.Prelude.{◌≡◌, ℕ, ◌+◌, ◌^◌, ◌<◌, ◌≤◌, ◌++◌, MatchOption};
+ghost use Rattle.std.specs.Prelude.{◌≡◌, ℕ, ◌+◌, ◌^◌, ◌<◌, ◌≤◌, ◌++◌, length, MatchOption};
 ghost use Rattle.std.specs.Fmt.{decimal};
 ghost use Rattle.arrayvec.specs.ArrayString.{array_string_len};
 ghost use Rattle.addr.specs.Digits.{in_three_digits, number_in};
@@ -55,6 +55,35 @@ fn push_three_digits<const N: usize>(text: &mut ArrayString<N>, number: u16)
     push_ascii(text, b'0' + (number / 100) as u8);
     push_ascii(text, b'0' + (last_two / 10) as u8);
     push_ascii(text, b'0' + (last_two % 10) as u8);
+}
+
+/// How many decimal digits `number` has, without leading zeros.
+#[tactic(auto, using(crate::proofs::PrefixTextLemmas::length_by_thousands, crate::proofs::PrefixTextLemmas::length_decimal, crate::proofs::PrefixTextLemmas::length_thousands))]
+pub fn digits_length(number: u64) -> usize
+    ensures value { result ≡ length (decimal number) }
+    ensures few { result ≤ 20 }
+{
+    if number < 1000 {
+        short_length(number as u16)
+    } else {
+        digits_length(number / 1000) + 3
+    }
+}
+
+/// How many decimal digits a number below 1000 has.
+#[tactic(auto, using(crate::proofs::PrefixTextLemmas::decimal_one, crate::proofs::PrefixTextLemmas::decimal_two, crate::proofs::PrefixTextLemmas::decimal_three))]
+pub(crate) fn short_length(number: u16) -> usize
+    requires { number < 1000 }
+    ensures value { result ≡ length (decimal number) }
+    ensures few { result ≤ 3 }
+{
+    if number < 10 {
+        1
+    } else if number < 100 {
+        2
+    } else {
+        3
+    }
 }
 
 /// The number below 2^64 whose decimal digits `text` is, without leading zeros; `None` for any

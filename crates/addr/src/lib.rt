@@ -19,7 +19,7 @@ mod vrp;
 
 pub use asn::Asn;
 pub use day::Day;
-pub use decimal::{digits, number_from_text, push_digits};
+pub use decimal::{digits, digits_length, number_from_text, push_digits};
 pub use family::Family;
 pub use holdings::Holdings;
 pub use name::Name;

@@ -1,10 +1,11 @@
 //! The texts of prefixes, as `192.0.2.0/24` and `2001:db8::/32`.
-ghost use Rattle.std.specs.Prelude.{◌≡◌, ◌+◌, ◌≤◌, ◌↔◌, ◌++◌, Some, Ok, IfErr};
+ghost use Rattle.std.specs.Prelude.{◌≡◌, ◌+◌, ◌≤◌, ◌↔◌, ◌++◌, length, Some, Ok, IfErr};
 ghost use Rattle.std.specs.Result.{result_ok};
 ghost use Rattle.addr.specs.PrefixText.{prefix_fault_number, prefix_text_fault, spelled_prefix, spelling, Spells};
 ghost use Rattle.arrayvec.specs.ArrayString.{array_string_len};
 ghost use Rattle.addr.specs.declared.prefix.Prefix.{Prefix};
 
+use crate::decimal::short_length;
 use crate::{Family, Prefix};
 use arrayvec::ArrayString;
 use thiserror::Error;
@@ -13,7 +14,7 @@ mod read;
 mod write;
 
 use read::read_prefix;
-use write::push_spelling;
+use write::{dotted_length, push_spelling};
 
 /// Why a text is not the one spelling of a prefix. Of several faults the first counts.
 #[derive(Clone, Copy, Debug, PartialEq, Eq, Error)]
@@ -81,5 +82,22 @@ impl Prefix {
         ensures len { array_string_len text.new ≤ array_string_len text.old + 48 }
     {
         push_spelling(text, self.family, self.first, u16::from(self.length));
+    }
+
+    /// How many characters the one spelling has. That of IPv4 is not made for it.
+    #[tactic(auto, unfolding(crate::specs::PrefixText::spelling))]
+    pub fn text_length(&self) -> usize
+        ensures value { result
+            ≡ length (spelling self.now.family self.now.first self.now.length) }
+        ensures few { result ≤ 48 }
+    {
+        match self.family {
+            Family::V4 => dotted_length(self.first) + 1 + short_length(u16::from(self.length)),
+            Family::V6 => {
+                let mut text = ArrayString::<48>::new();
+                self.push_to(&mut text);
+                text.len()
+            }
+        }
     }
 }

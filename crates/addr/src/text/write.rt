@@ -7,7 +7,7 @@ ghost use Rattle.addr.specs.PrefixText.{digits_in, groups_of, octets_of, spellin
 
 use crate::Family;
 use crate::ascii::push_ascii;
-use crate::decimal::push_short;
+use crate::decimal::{push_short, short_length};
 use arrayvec::ArrayString;
 
 fn hex_digit(digit: u16) -> u8
@@ -98,6 +98,19 @@ fn push_dotted<const N: usize>(text: &mut ArrayString<N>, address: u128)
     push_short(text, octets[2]);
     push_ascii(text, b'.');
     push_short(text, octets[3]);
+}
+
+/// How many characters `push_dotted` appends.
+#[tactic(auto, using(crate::proofs::PrefixTextLemmas::octet_small, crate::proofs::PrefixTextLemmas::length_dotted))]
+pub(super) fn dotted_length(address: u128) -> usize
+    ensures value { result ≡ length (ipv4_text (octets_of address)) }
+    ensures few { result ≤ 15 }
+{
+    let mut octets = [0; 4];
+    write_digits(address, 0x100, &mut octets);
+    let front = short_length(octets[0]) + short_length(octets[1]);
+    let back = short_length(octets[2]) + short_length(octets[3]);
+    front + back + 3
 }
 
 #[tactic(auto, unfolding(std::specs::Net::Text::hex_groups_text), using(crate::proofs::PrefixTextLemmas::length_digits_in))]
