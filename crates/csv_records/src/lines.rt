@@ -1,11 +1,11 @@
 //! The rows that the desk exports as CSV: a header and a line for each.
-ghost use Rattle.std.specs.Prelude.{◌≡◌, ◌+◌, ◌≤◌, ◌++◌, map, IfOk, OnOk};
+ghost use Rattle.std.specs.Prelude.{◌≡◌, ◌+◌, ◌≤◌, ◌++◌, length, map, IfOk, OnOk};
 ghost use Rattle.std.specs.List.{flat_map};
 ghost use Rattle.addr.specs.Day.{day_text};
 ghost use Rattle.arrayvec.specs.ArrayString.{array_string_len};
 ghost use Rattle.csv_records.specs.Lines.{csv_line, csv_text, entry_row, fields_text, list_header, list_rows, payload_header, payload_row, vrp_fields};
 
-use addr::{Asn, Day, Prefix, Vrp, push_digits};
+use addr::{Asn, Day, Prefix, Vrp, digits_length, push_digits};
 use arrayvec::ArrayString;
 use registry::{Auth, RoaPrefix};
 use std::alloc::{AllocError, Global};
@@ -18,6 +18,15 @@ pub fn payload_line(vrp: &Vrp) -> ArrayString<160>
     push_vrp_fields(&mut text, vrp.asn, &vrp.prefix, vrp.max);
     text.push_str("\n");
     text
+}
+
+/// The length of a VRP's line, which is not made for it.
+pub fn payload_line_length(vrp: &Vrp) -> usize
+    ensures { result ≡ length (csv_line (payload_row vrp.now)) }
+{
+    let asn = "AS".len() + digits_length(u64::from(vrp.asn.0));
+    let max = digits_length(u64::from(vrp.max));
+    asn + ",".len() + vrp.prefix.text_length() + ",".len() + max + "\n".len()
 }
 
 /// VRPs with their header.
