@@ -1,14 +1,17 @@
 -- The two halves of a prefix, by the bit after its last.
-use Rattle.std.proofs.Common.{◌≡◌, ℕ, suc, ◌+◌, ◌-◌, ◌*◌, ◌/◌, ◌%◌, ◌^◌, ◌≤◌, ◌<◌, Bool, true, false, ◌==◌, refl, sym, ap, ◌∙◌, subst, arith, inl, inr}
+use Rattle.std.proofs.Common.{◌≡◌, ℕ, suc, ◌+◌, ◌-◌, ◌*◌, ◌/◌, ◌%◌, ◌^◌, ◌≤◌, ◌<◌, Bool, true, false, ◌==◌, List, [], ◌∷◌, length, refl, sym, ap, ◌∙◌, subst, arith, inl, inr}
 use Rattle.std.proofs.lemmas.Bool.{cases_lt, eq-eqb, ne_eqb}
+use Rattle.std.proofs.lemmas.List.{append-nil}
 use Rattle.std.proofs.lemmas.Nat.{one_shl, pow_pos, pow-add, pow_below, div-add-mod', div-mul-add}
-use Rattle.std.proofs.Math.Nat.{mul-add, add-mul, add-mul-mod_self_right}
+use Rattle.std.proofs.Math.Nat.{mul-add, add-mul, add-mul-mod_self_right, mod-eq_of_lt}
 use Rattle.addr.specs.Family.{width}
 use Rattle.addr.specs.Address.{bit_of, contains, last_of, same_prefix}
 use Rattle.addr.specs.declared.prefix.Prefix.{Prefix}
 use Rattle.addr.proofs.AddressLemmas.{below_widest, first_below, multiple-at_most, width_small}
 use Rattle.addr.proofs.PrefixOrderLemmas.{block-within, contains-ends, ends-contains}
-use Rattle.payload.specs.steps.Trie.{half_first}
+use Rattle.payload.specs.steps.Skipped.{number_of}
+use Rattle.payload.specs.steps.Tree.{Top, Tree, above, grown, tree}
+use Rattle.payload.specs.steps.Trie.{half_first, half_vrps, vrps_at, vrps_below}
 
 -- how many addresses half of the prefix has
 abbrev pub half_size : Prefix → ℕ
@@ -145,3 +148,46 @@ shifted-half p w room is = rw is (one_shl (width p.family - (p.length + 1)) 128 
 
 pub half-fits : (bit : Bool) (p : Prefix) (room : p.length < width p.family) → half_first bit p < 2 ^ 128
 half-fits bit p room = below_widest p.family (half_first bit p) (first_below (half bit p room))
+
+-- ---- the prefix to which a path of bits leads
+
+-- this first address and length are its
+pub record IsPast (p : Prefix) (path : List Bool) (first len : ℕ) : Type 0 where
+  pub small : first < 2 ^ 128
+  pub length_fits : len ≤ width p.family
+  pub aligned : first % 2 ^ (width p.family - len) ≡ 0
+  pub in_family : first + 2 ^ (width p.family - len) ≤ 2 ^ width p.family
+  pub vrps : (t : Top) → vrps_below p.family first len (tree t) ≡ vrps_at p (tree (grown path t))
+
+above-half : (bit : Bool) (p : Prefix) (t : Tree) → vrps_at p (tree (above bit t)) ≡ half_vrps bit p t
+above-half false p t = append-nil _
+above-half true p t = refl
+
+half-number : (bit : Bool) (p : Prefix) (path : List Bool) (len : ℕ) → len ≡ p.length + suc (length path) → len ≤ width p.family → p.first + number_of (bit ∷ path) * 2 ^ (width p.family - len) ≡ half_first bit p + number_of path * 2 ^ (width p.family - len)
+half-number false p path len long fits = refl
+half-number true p path len long fits =
+    let rest = width p.family - len in
+    let more : width p.family - (p.length + 1) ≡ length path + rest = omega arith in
+    omega (arith, ap (λ e. 2 ^ e) more, pow-add 2 (length path) rest, add-mul (2 ^ length path) (number_of path) (2 ^ rest))
+
+is-past : (path : List Bool) (p : Prefix) (first len : ℕ) → len ≡ p.length + length path → len ≤ width p.family → first ≡ p.first + number_of path * 2 ^ (width p.family - len) → IsPast p path first len
+is-past [] p first len long fits is =
+    let same : first ≡ p.first = omega (arith, is) in
+    let short : len ≡ p.length = omega arith in
+    rw (same, short) (record { small = below_widest p.family p.first (first_below p); length_fits = p.length_fits; aligned = p.aligned; in_family = p.in_family; vrps = λ t. refl })
+is-past (bit ∷ path) p first len long fits is =
+    let below = is-past path (half bit p (omega arith)) first len (omega arith) fits (is ∙ half-number bit p path len long fits) in
+    record {
+      small = below.small;
+      length_fits = fits;
+      aligned = below.aligned;
+      in_family = below.in_family;
+      vrps = λ t. below.vrps t ∙ sym (above-half bit p (tree (grown path t)));
+    }
+
+-- as a shift gives it
+pub past-shifted : (p : Prefix) (path : List Bool) (number w len : ℕ) → number ≡ number_of path → w ≡ width p.family → len ≡ p.length + length path → len ≤ width p.family → IsPast p path (p.first + (number * 2 ^ (w - len)) % 2 ^ 128) len
+past-shifted p path number w len is wide long fits =
+    let there = is-past path p _ len long fits refl in
+    let shift : (number_of path * 2 ^ (width p.family - len)) % 2 ^ 128 ≡ number_of path * 2 ^ (width p.family - len) = mod-eq_of_lt (omega (arith, there.small)) in
+    rw (is, wide, shift) there

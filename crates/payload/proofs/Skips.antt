@@ -1,11 +1,11 @@
 -- The lowest bits of a number as a path.
-use Rattle.std.proofs.Common.{◌≡◌, ℕ, zero, suc, ◌+◌, ◌-◌, ◌/◌, ◌%◌, ◌^◌, ◌≤◌, ◌<◌, Bool, ◌==◌, List, ◌∷◌, ◌++◌, length, take, drop, refl, sym, ap, ◌∙◌, arith}
-use Rattle.std.proofs.Math.Nat.{div-div-eq-div-mul}
+use Rattle.std.proofs.Common.{◌≡◌, ℕ, zero, suc, ◌+◌, ◌-◌, ◌*◌, ◌/◌, ◌%◌, ◌^◌, ◌≤◌, ◌<◌, Bool, ◌==◌, List, ◌∷◌, ◌++◌, length, take, drop, refl, sym, ap, ◌∙◌, arith}
+use Rattle.std.proofs.Math.Nat.{div-div-eq-div-mul, mod-lt}
 use Rattle.std.proofs.lemmas.List.{take_all}
-use Rattle.std.proofs.lemmas.Nat.{pow-add}
+use Rattle.std.proofs.lemmas.Nat.{mod-pow-add, pow-add}
 use Rattle.addr.specs.Family.{width}
 use Rattle.addr.specs.declared.prefix.Prefix.{Prefix}
-use Rattle.payload.specs.steps.Skipped.{common, low_bits}
+use Rattle.payload.specs.steps.Skipped.{common, low_bits, number_of}
 use Rattle.payload.specs.steps.Trie.{bits_from, last_bits}
 use Rattle.payload.proofs.Bits.{length-bits_from}
 use Rattle.payload.proofs.Grown.{common-front, common-most}
@@ -25,6 +25,20 @@ pub low_bits-next : (i m number : ℕ) → i < m → drop i (low_bits m number) 
 low_bits-next i m number within =
     drop-low_bits i m (suc (m - 1 - i)) number (omega arith)
     ∙ ap (λ rest. (number / 2 ^ (m - 1 - i) % 2 == 1) ∷ rest) (sym (drop-low_bits (i + 1) m (m - 1 - i) number (omega arith)))
+
+pub number-low_bits : (n number : ℕ) → number_of (low_bits n number) ≡ number % 2 ^ n
+number-low_bits zero number = omega arith
+number-low_bits (suc n) number =
+    let digit = number / 2 ^ n % 2 in
+    let more : suc n ≡ 1 + n = omega arith in
+    by (low_bits n number) digit (mod-lt (number / 2 ^ n) (omega arith))
+    ∙ (λ i. digit * 2 ^ length-low_bits n number i + number-low_bits n number i)
+    ∙ sym (ap (λ m. number % 2 ^ m) more ∙ mod-pow-add number 1 n)
+  where
+    by : (path : List Bool) (digit : ℕ) → digit < 2 → number_of ((digit == 1) ∷ path) ≡ digit * 2 ^ length path + number_of path
+    by path zero bit = omega arith
+    by path (suc zero) bit = omega arith
+    by path (suc (suc n)) bit = absurd (omega arith)
 
 -- a number's bits from bit k + n on are those of its quotient from bit n on
 shifted : (number k n e : ℕ) → e ≡ k + n → number / 2 ^ k / 2 ^ n ≡ number / 2 ^ e

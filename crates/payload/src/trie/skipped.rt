@@ -1,6 +1,6 @@
 //! The bits that a node of a trie skips.
 ghost use Rattle.std.specs.Prelude.{◌≡◌, ◌+◌, ◌≤◌, ◌<◌, suc, true, false, [], ◌∷◌, ◌++◌, length, take, drop};
-ghost use Rattle.payload.specs.steps.Skipped.{common};
+ghost use Rattle.payload.specs.steps.Skipped.{common, number_of};
 ghost use Rattle.payload.specs.steps.Trie.{bits_from};
 
 use addr::Prefix;
@@ -51,6 +51,13 @@ impl Skipped {
         ensures { result ≡ length self.now }
     {
         self.count
+    }
+
+    /// The number that the bits are, the last one lowest.
+    pub(crate) fn number(&self) -> u128
+        ensures { result ≡ number_of self.now }
+    {
+        self.bits % (1 << self.count)
     }
 
     /// The bit at place `i`.

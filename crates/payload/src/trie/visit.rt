@@ -86,11 +86,17 @@ fn past(prefix: &Prefix, skipped: &Skipped) -> Prefix
     ensures vrps { (t : Top)
         → vrps_at result (tree t) ≡ vrps_at prefix.now (tree (grown skipped.now t)) }
 {
-    let mut lower = *prefix;
-    for i in 0..skipped.count() {
-        lower = half(&lower, skipped.bit(i));
+    let count = skipped.count();
+    if count == 0 {
+        // The shift below might be by all 128 bits.
+        return *prefix;
     }
-    lower
+    let length = prefix.length + count;
+    Prefix {
+        family: prefix.family,
+        first: prefix.first + (skipped.number() << (prefix.family.width() - length)),
+        length,
+    }
 }
 
 /// The half of the prefix whose next bit is this one.
