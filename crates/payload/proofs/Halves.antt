@@ -2,12 +2,12 @@
 use Rattle.std.proofs.Common.{◌≡◌, ℕ, suc, ◌+◌, ◌-◌, ◌*◌, ◌/◌, ◌%◌, ◌^◌, ◌≤◌, ◌<◌, Bool, true, false, ◌==◌, List, [], ◌∷◌, length, refl, sym, ap, ◌∙◌, subst, arith, inl, inr}
 use Rattle.std.proofs.lemmas.Bool.{cases_lt, eq-eqb, ne_eqb}
 use Rattle.std.proofs.lemmas.List.{append-nil}
-use Rattle.std.proofs.lemmas.Nat.{one_shl, pow_pos, pow-add, pow_below, div-add-mod', div-mul-add}
+use Rattle.std.proofs.lemmas.Nat.{pow_pos, pow-add, pow_below, div-add-mod', div-mul-add}
 use Rattle.std.proofs.Math.Nat.{mul-add, add-mul, add-mul-mod_self_right, mod-eq_of_lt}
 use Rattle.addr.specs.Family.{width}
 use Rattle.addr.specs.Address.{bit_of, contains, last_of, same_prefix}
 use Rattle.addr.specs.declared.prefix.Prefix.{Prefix}
-use Rattle.addr.proofs.AddressLemmas.{below_widest, first_below, multiple-at_most, width_small}
+use Rattle.addr.proofs.AddressLemmas.{below_widest, first_below, multiple-at_most}
 use Rattle.addr.proofs.PrefixOrderLemmas.{block-within, contains-ends, ends-contains}
 use Rattle.payload.specs.steps.Skipped.{number_of}
 use Rattle.payload.specs.steps.Tree.{Top, Tree, above, grown, tree}
@@ -141,14 +141,6 @@ contains-same p q inside short =
     let sizes : 2 ^ (width p.family - p.length) ≡ 2 ^ (width q.family - q.length) = ap (λ e. 2 ^ e) (omega (arith, ap width ends.family)) in
     same_prefix p q ends.family (omega (arith, ends.first, ends.last, first-last p, first-last q)) lengths
 
--- ---- half of the addresses, as a shift gives it
-
-pub shifted-half : (p : Prefix) (w : ℕ) → p.length < width p.family → w ≡ width p.family → (1 * 2 ^ (w - (p.length + 1))) % 2 ^ 128 ≡ half_size p
-shifted-half p w room is = rw is (one_shl (width p.family - (p.length + 1)) 128 (omega (arith, width_small p.family)))
-
-pub half-fits : (bit : Bool) (p : Prefix) (room : p.length < width p.family) → half_first bit p < 2 ^ 128
-half-fits bit p room = below_widest p.family (half_first bit p) (first_below (half bit p room))
-
 -- ---- the prefix to which a path of bits leads
 
 -- this first address and length are its
@@ -159,7 +151,7 @@ pub record IsPast (p : Prefix) (path : List Bool) (first len : ℕ) : Type 0 whe
   pub in_family : first + 2 ^ (width p.family - len) ≤ 2 ^ width p.family
   pub vrps : (t : Top) → vrps_below p.family first len (tree t) ≡ vrps_at p (tree (grown path t))
 
-above-half : (bit : Bool) (p : Prefix) (t : Tree) → vrps_at p (tree (above bit t)) ≡ half_vrps bit p t
+pub above-half : (bit : Bool) (p : Prefix) (t : Tree) → vrps_at p (tree (above bit t)) ≡ half_vrps bit p t
 above-half false p t = append-nil _
 above-half true p t = refl
 

@@ -34,6 +34,16 @@ impl Skipped {
         Skipped { bits: 0, count: 0 }
     }
 
+    /// This bit alone.
+    pub(crate) fn one(bit: bool) -> Skipped
+        ensures { result ≡ bit ∷ [] }
+    {
+        Skipped {
+            bits: u128::from(bit),
+            count: 1,
+        }
+    }
+
     /// The bits of the prefix from `at` on.
     pub(crate) fn of(prefix: &Prefix, at: u8) -> Skipped
         requires below_root { 0 < at }

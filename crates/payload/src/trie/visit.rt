@@ -73,20 +73,20 @@ fn visit_below<S: Sink>(
     ensures stopped { OnErr result (S.has_stopped sink.new ≡ true) }
 {
     match child {
-        Some(node) => node.visit(&half(prefix, bit), sink),
+        Some(node) => node.visit(&past(prefix, &Skipped::one(bit)), sink),
         None => Ok(()),
     }
 }
 
-/// The prefix to which the skipped bits lead from this one.
-fn past(prefix: &Prefix, skipped: &Skipped) -> Prefix
-    requires { prefix.now.length + length skipped.now ≤ width prefix.now.family }
+/// The prefix to which the bits lead from this one.
+fn past(prefix: &Prefix, bits: &Skipped) -> Prefix
+    requires { prefix.now.length + length bits.now ≤ width prefix.now.family }
     ensures family { result.family ≡ prefix.now.family }
-    ensures length { result.length ≡ prefix.now.length + length skipped.now }
+    ensures length { result.length ≡ prefix.now.length + length bits.now }
     ensures vrps { (t : Top)
-        → vrps_at result (tree t) ≡ vrps_at prefix.now (tree (grown skipped.now t)) }
+        → vrps_at result (tree t) ≡ vrps_at prefix.now (tree (grown bits.now t)) }
 {
-    let count = skipped.count();
+    let count = bits.count();
     if count == 0 {
         // The shift below might be by all 128 bits.
         return *prefix;
@@ -94,27 +94,7 @@ fn past(prefix: &Prefix, skipped: &Skipped) -> Prefix
     let length = prefix.length + count;
     Prefix {
         family: prefix.family,
-        first: prefix.first + (skipped.number() << (prefix.family.width() - length)),
-        length,
-    }
-}
-
-/// The half of the prefix whose next bit is this one.
-fn half(prefix: &Prefix, bit: bool) -> Prefix
-    requires { prefix.now.length < width prefix.now.family }
-    ensures family { result.family ≡ prefix.now.family }
-    ensures first { result.first ≡ half_first bit prefix.now }
-    ensures length { result.length ≡ prefix.now.length + 1 }
-{
-    let length = prefix.length + 1;
-    let upper = if bit {
-        1u128 << (prefix.family.width() - length)
-    } else {
-        0
-    };
-    Prefix {
-        family: prefix.family,
-        first: prefix.first + upper,
+        first: prefix.first + (bits.number() << (prefix.family.width() - length)),
         length,
     }
 }

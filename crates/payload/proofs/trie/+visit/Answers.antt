@@ -1,11 +1,13 @@
-use Rattle.std.proofs.Common.{rules, refl, subst, sym}
+use Rattle.std.proofs.Common.{rules, refl, subst, sym, ◌∙◌}
 use Rattle.std.specs.List.{All}
 use Rattle.std.proofs.lemmas.Result.{on_err_weaker}
 use Rattle.addr.specs.Family.{width}
-use Rattle.payload.specs.steps.Tree.{IsPruned, tree}
+use Rattle.payload.specs.steps.Tree.{IsPruned, grown, tree}
 use Rattle.payload.specs.steps.Shrinks.{shrinks}
+use Rattle.payload.specs.steps.Trie.{vrps_at}
 use Rattle.payload.specs.steps.Branch.{top_of}
 use Rattle.payload.proofs.Grown.{pruned-past}
+use Rattle.payload.proofs.Halves.{above-half}
 use Rattle.payload.proofs.TrieVisits.{node-beginning, node-took, node-took_all}
 use Rattle.payload.proofs.TrieVrps.{HasLengths}
 use Rattle.payload.proofs.Visits.{beginning-later, beginning-longer, on-err}
@@ -53,3 +55,15 @@ node::Node::visit-visit-requires g t c =
     let below = pruned-past _ _ _ c.self.inside.skipped (top_of c.self.inside.branch) c.past.ensures.length pruned in
     let there = subst (λ f. IsPruned (width f) c.past.result.length (tree (top_of c.self.inside.branch))) (sym c.past.ensures.family) below in
     λ κs alive. (search (rules, shrinks c.self.inside), (search rules, there))
+
+pub visit::visit_below-returns-in-Some-clause-all : goal.visit::visit_below-returns-in-Some-clause-all
+visit::visit_below-returns-in-Some-clause-all g t c =
+    let node = c.in-Some.node.value in
+    let half = c.past.ensures.vrps node ∙ (λ i. vrps_at c.args.prefix.now (tree (grown (c.one.ensures i) node))) ∙ above-half c.args.bit c.args.prefix.now (tree node) in
+    rw (c.in-Some.is, sym half, ← c.deref.ensures) c.visit.ensures.all
+
+pub visit::visit_below-returns-in-Some-clause-beginning : goal.visit::visit_below-returns-in-Some-clause-beginning
+visit::visit_below-returns-in-Some-clause-beginning g t c =
+    let node = c.in-Some.node.value in
+    let half = c.past.ensures.vrps node ∙ (λ i. vrps_at c.args.prefix.now (tree (grown (c.one.ensures i) node))) ∙ above-half c.args.bit c.args.prefix.now (tree node) in
+    rw (c.in-Some.is, sym half, ← c.deref.ensures) c.visit.ensures.beginning
