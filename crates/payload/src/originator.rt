@@ -11,6 +11,16 @@ pub(crate) struct Originator {
     pub(crate) asn: Asn,
 }
 
+/// What a vector has in a place without one.
+impl Default for Originator {
+    fn default() -> Originator {
+        Originator {
+            max: 0,
+            asn: Asn(0),
+        }
+    }
+}
+
 impl Originator {
     ghost use Rattle.payload.specs.steps.Trie.{authorizes, originator_of};
 

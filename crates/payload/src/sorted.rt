@@ -1,10 +1,48 @@
 //! Vectors whose items rise, each once.
-ghost use Rattle.std.specs.Prelude.{◌≡◌, not, ◌&&◌, ◌||◌, IfOk, OnOk, OnErr};
+ghost use Rattle.std.specs.Prelude.{◌≡◌, ◌≤◌, ◌<◌, not, ◌&&◌, ◌||◌, length, insert, remove, IfOk, OnOk, OnErr};
 ghost use Rattle.std.specs.List.{list_any};
 ghost use Rattle.std.specs.Ordering.{eq_by_cmp};
 ghost use Rattle.payload.specs.Rising.{RiseBy};
 
+use crate::originator::Originator;
+use addr::Vrp;
+use smallvec::SmallVec;
 use std::alloc::AllocError;
+use std::convert::AsSlice;
+
+/// A vector of these items, wherever it keeps them.
+pub(crate) trait Items<T>: AsSlice<T> {
+    /// Puts the item at this place.
+    fn insert(&mut self, at: usize, item: T) -> Result<(), AllocError>
+        requires { at ≤ length (Self.items self.old) }
+        ensures ok { OnOk result (Self.items self.new ≡ insert (Self.items self.old) at item) }
+        ensures err { OnErr result (Self.items self.new ≡ Self.items self.old) };
+
+    /// Takes out the item at this place.
+    fn remove(&mut self, at: usize)
+        requires { at < length (Self.items self.old) }
+        ensures { Self.items self.new ≡ remove (Self.items self.old) at };
+}
+
+impl Items<Vrp> for Vec<Vrp> {
+    fn insert(&mut self, at: usize, item: Vrp) -> Result<(), AllocError> {
+        Ok(self.insert(at, item)?)
+    }
+
+    fn remove(&mut self, at: usize) {
+        self.remove(at);
+    }
+}
+
+impl Items<Originator> for SmallVec<Originator, 1> {
+    fn insert(&mut self, at: usize, item: Originator) -> Result<(), AllocError> {
+        Ok(self.insert(at, item)?)
+    }
+
+    fn remove(&mut self, at: usize) {
+        self.remove(at);
+    }
+}
 
 /// Whether the item is there.
 pub(crate) fn contains<T: Ord>(items: &[T], item: &T) -> bool
@@ -15,16 +53,16 @@ pub(crate) fn contains<T: Ord>(items: &[T], item: &T) -> bool
 }
 
 /// Puts the item in its place. Whether it is new.
-pub(crate) fn insert<T: Ord + Drop>(items: &mut Vec<T>, item: T) -> Result<bool, AllocError>
-    requires { RiseBy T.cmp items.old.items }
+pub(crate) fn insert<T: Ord + Drop, V: Items<T>>(items: &mut V, item: T) -> Result<bool, AllocError>
+    requires { RiseBy T.cmp (V.items items.old) }
     ensures new { IfOk result (λ is_new.
-        is_new ≡ not (list_any (eq_by_cmp T.cmp item) items.old.items)) }
-    ensures members { OnOk result ((x : T) → list_any (eq_by_cmp T.cmp x) items.new.items
-        ≡ (eq_by_cmp T.cmp x item || list_any (eq_by_cmp T.cmp x) items.old.items)) }
-    ensures err { OnErr result (items.new.items ≡ items.old.items) }
-    ensures rise { RiseBy T.cmp items.new.items }
+        is_new ≡ not (list_any (eq_by_cmp T.cmp item) (V.items items.old))) }
+    ensures members { OnOk result ((x : T) → list_any (eq_by_cmp T.cmp x) (V.items items.new)
+        ≡ (eq_by_cmp T.cmp x item || list_any (eq_by_cmp T.cmp x) (V.items items.old))) }
+    ensures err { OnErr result (V.items items.new ≡ V.items items.old) }
+    ensures rise { RiseBy T.cmp (V.items items.new) }
 {
-    match items.binary_search(&item) {
+    match items.as_slice().binary_search(&item) {
         Ok(_) => Ok(false),
         Err(at) => {
             items.insert(at, item)?;
@@ -34,14 +72,14 @@ pub(crate) fn insert<T: Ord + Drop>(items: &mut Vec<T>, item: T) -> Result<bool,
 }
 
 /// Takes the item out. Whether it was there.
-pub(crate) fn remove<T: Ord + Drop>(items: &mut Vec<T>, item: &T) -> bool
-    requires { RiseBy T.cmp items.old.items }
-    ensures found { result ≡ list_any (eq_by_cmp T.cmp item.now) items.old.items }
-    ensures members { (x : T) → list_any (eq_by_cmp T.cmp x) items.new.items
-        ≡ (not (eq_by_cmp T.cmp x item.now) && list_any (eq_by_cmp T.cmp x) items.old.items) }
-    ensures rise { RiseBy T.cmp items.new.items }
+pub(crate) fn remove<T: Ord + Drop, V: Items<T>>(items: &mut V, item: &T) -> bool
+    requires { RiseBy T.cmp (V.items items.old) }
+    ensures found { result ≡ list_any (eq_by_cmp T.cmp item.now) (V.items items.old) }
+    ensures members { (x : T) → list_any (eq_by_cmp T.cmp x) (V.items items.new)
+        ≡ (not (eq_by_cmp T.cmp x item.now) && list_any (eq_by_cmp T.cmp x) (V.items items.old)) }
+    ensures rise { RiseBy T.cmp (V.items items.new) }
 {
-    match items.binary_search(item) {
+    match items.as_slice().binary_search(item) {
         Ok(at) => {
             items.remove(at);
             true

@@ -10,6 +10,7 @@ use crate::sorted;
 use crate::trie::node::{Branch, Node};
 use crate::trie::skipped::Skipped;
 use addr::Vrp;
+use smallvec::SmallVec;
 use std::alloc::{AllocError, Global};
 use std::mem;
 
@@ -79,7 +80,7 @@ fn insert_below(
     match child {
         Some(node) => node.insert(alloc, vrp, at),
         None => {
-            *child = Some(Box::new(alloc, lone(alloc, vrp, at)?)?);
+            *child = Some(Box::new(alloc, lone(alloc, vrp, at))?);
             Ok(true)
         }
     }
@@ -111,20 +112,17 @@ fn cut(skipped: &mut Skipped, branch: &mut Branch, alloc: Global, n: u8) -> Resu
 }
 
 /// A node that skips the bits of the VRP's prefix from `at` on, with the VRP and no other.
-fn lone(alloc: Global, vrp: &Vrp, at: u8) -> Result<Node, AllocError>
+fn lone(alloc: Global, vrp: &Vrp, at: u8) -> Node
     requires below_root { 0 < at }
     requires within { at ≤ vrp.now.prefix.length }
-    ensures { IfOk result (λ node.
-        tree node ≡ chain (bits_from vrp.now.prefix at) (originator_of vrp.now)) }
+    ensures { tree result ≡ chain (bits_from vrp.now.prefix at) (originator_of vrp.now) }
 {
-    let mut originators = Vec::new(alloc);
-    originators.push(Originator::of(vrp))?;
-    Ok(Node {
+    Node {
         skipped: Skipped::of(&vrp.prefix, at),
         branch: Branch {
-            originators,
+            originators: SmallVec::from_buf(alloc, [Originator::of(vrp)]),
             zero: None,
             one: None,
         },
-    })
+    }
 }

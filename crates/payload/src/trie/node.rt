@@ -1,6 +1,7 @@
 //! The nodes of a trie.
 use crate::originator::Originator;
 use crate::trie::skipped::Skipped;
+use smallvec::SmallVec;
 use std::alloc::Global;
 use std::marker::Model;
 
@@ -17,11 +18,12 @@ pub(crate) struct Node {
 
 /// The originators of a prefix, and the nodes of longer prefixes by their next bit.
 ///
-/// It does not know its prefix: whoever goes down to it does.
+/// It does not know its prefix: whoever goes down to it does. Most prefixes have one originator,
+/// which lies in the node itself.
 #[cycle(node)]
 #[derive(Drop)]
 pub(crate) struct Branch {
-    pub(crate) originators: Vec<Originator>,
+    pub(crate) originators: SmallVec<Originator, 1>,
     pub(crate) zero: Option<Box<Node>>,
     pub(crate) one: Option<Box<Node>>,
 }
@@ -76,7 +78,7 @@ impl Branch {
         ensures { top_of result ≡ bare }
     {
         Branch {
-            originators: Vec::new(alloc),
+            originators: SmallVec::new(alloc),
             zero: None,
             one: None,
         }

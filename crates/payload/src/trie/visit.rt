@@ -43,7 +43,7 @@ impl Branch {
             sink.old sink.new) }
         ensures stopped { OnErr result (S.has_stopped sink.new ≡ true) }
     {
-        for originator in &self.originators {
+        for originator in self.originators.as_slice() {
             sink.take(&Vrp {
                 prefix: *prefix,
                 max: originator.max,

@@ -24,7 +24,7 @@ pub insert::insert_below-returns-in_ok-new-in-None-clause-ok : goal.insert::inse
 insert::insert_below-returns-in_ok-new-in-None-clause-ok t c =
     let path = bits_from c.args.vrp.now.prefix c.args.at in
     let o = originator_of c.args.vrp.now in
-    let new : tree c.in_ok-new-in-None.field-0.value ≡ chain path o = ap tree c.in_ok-new-in-None.ensures.ok ∙ c.in_ok-lone-in-None.ensures in
+    let new : tree c.in_ok-new-in-None.field-0.value ≡ chain path o = ap tree c.in_ok-new-in-None.ensures.ok ∙ c.lone.ensures in
     subst (IsInserted path o (subtree c.args.child.now)) (sym new) (rw c.in-None.is (inserted-chain path o))
 
 pub insert::insert_below-returns-in_ok-new-in-None-clause-pruned : goal.insert::insert_below-returns-in_ok-new-in-None-clause-pruned
@@ -32,7 +32,7 @@ insert::insert_below-returns-in_ok-new-in-None-clause-pruned t c =
     let v = c.args.vrp.now in
     let path = bits_from v.prefix c.args.at in
     let o = originator_of v in
-    let new : tree c.in_ok-new-in-None.field-0.value ≡ chain path o = ap tree c.in_ok-new-in-None.ensures.ok ∙ c.in_ok-lone-in-None.ensures in
+    let new : tree c.in_ok-new-in-None.field-0.value ≡ chain path o = ap tree c.in_ok-new-in-None.ensures.ok ∙ c.lone.ensures in
     subst (IsPruned (width v.prefix.family) c.args.at) (sym new)
     (pruned-chain (width v.prefix.family) c.args.at path o (omega (arith, length-bits_from v.prefix c.args.at, v.at_least_length, c.requires.within)) v.at_most_width)
 
@@ -40,7 +40,7 @@ pub insert::insert_below-returns-in_ok-new-in-None-clause-full : goal.insert::in
 insert::insert_below-returns-in_ok-new-in-None-clause-full t c =
     let path = bits_from c.args.vrp.now.prefix c.args.at in
     let o = originator_of c.args.vrp.now in
-    let new : tree c.in_ok-new-in-None.field-0.value ≡ chain path o = ap tree c.in_ok-new-in-None.ensures.ok ∙ c.in_ok-lone-in-None.ensures in
+    let new : tree c.in_ok-new-in-None.field-0.value ≡ chain path o = ap tree c.in_ok-new-in-None.ensures.ok ∙ c.lone.ensures in
     subst (λ t. is_bare t ≡ false) (sym new) (full-inserted path o Leaf (chain path o) (inserted-chain path o))
 
 pub node::Branch::insert-returns-then-at-vrp-clause-pruned : goal.node::Branch::insert-returns-then-at-vrp-clause-pruned

@@ -15,7 +15,7 @@ use Rattle.payload.proofs.trie.+visit.Goals as goal
 
 pub node::Branch::visit-loop-originator-preserved : goal.node::Branch::visit-loop-originator-preserved
 node::Branch::visit-loop-originator-preserved g t c =
-    let lengths : All (HasLengths c.args.prefix.now) c.deref-originator-items.result.now = rw c.deref-originator-items.ensures.value c.requires.0.lengths in
+    let lengths : All (HasLengths c.args.prefix.now) c.as_slice-originator-items.result.now = rw c.as_slice-originator-items.ensures c.requires.0.lengths in
     record {
       taken = λ fresh. node-took g.S.Sink.took g.met.S.Sink.took_then c.args.prefix.now _ _ _ _ _ _ _ lengths c.loop-originator-test.true refl refl (c.loop-originator.invariant.taken fresh) (c.take.ensures.took (c.loop-originator.invariant.goes_on fresh));
       goes_on = λ fresh. sym c.in_ok-take.ensures.stopped;
@@ -23,21 +23,21 @@ node::Branch::visit-loop-originator-preserved g t c =
 
 pub node::Branch::visit-returns-in_err-take-clause-beginning : goal.node::Branch::visit-returns-in_err-take-clause-beginning
 node::Branch::visit-returns-in_err-take-clause-beginning g t c =
-    let lengths : All (HasLengths c.args.prefix.now) c.deref-originator-items.result.now = rw c.deref-originator-items.ensures.value c.requires.0.lengths in
-    rw (← c.deref-originator-items.ensures.value)
+    let lengths : All (HasLengths c.args.prefix.now) c.as_slice-originator-items.result.now = rw c.as_slice-originator-items.ensures c.requires.0.lengths in
+    rw (← c.as_slice-originator-items.ensures)
     (on-err c.from_residual.result _ (λ fresh.
     node-beginning g.S.Sink.took g.met.S.Sink.took_then c.args.prefix.now _ _ _ _ _ _ _ _ lengths c.loop-originator-test.true refl refl (c.loop-originator.invariant.taken fresh) (c.take.ensures.took (c.loop-originator.invariant.goes_on fresh))))
 
 pub node::Branch::visit-returns-in_err-visit_below-clause-beginning : goal.node::Branch::visit-returns-in_err-visit_below-clause-beginning
 node::Branch::visit-returns-in_err-visit_below-clause-beginning g t c =
-    rw (← c.deref-originator-items.ensures.value)
+    rw (← c.as_slice-originator-items.ensures)
     (on-err c.from_residual-in_err-visit_below.result _ (λ fresh.
     beginning-later g.S.Sink.took g.met.S.Sink.took_then _ _ _ _ _ (node-took_all g.S.Sink.took c.args.prefix.now _ _ _ _ (c.loop-originator.invariant.taken fresh) c.loop-originator-test.false)
     (beginning-longer g.S.Sink.took _ _ _ _ (c.in_err-visit_below.ensures.beginning (c.loop-originator.invariant.goes_on fresh)))))
 
 pub node::Branch::visit-returns-clause-beginning : goal.node::Branch::visit-returns-clause-beginning
 node::Branch::visit-returns-clause-beginning g t c =
-    rw (← c.deref-originator-items.ensures.value)
+    rw (← c.as_slice-originator-items.ensures)
     (on_err_weaker c.visit_below-2.result (λ is fresh.
     let going = c.loop-originator.invariant.goes_on fresh in
     beginning-later g.S.Sink.took g.met.S.Sink.took_then _ _ _ _ _ (node-took_all g.S.Sink.took c.args.prefix.now _ _ _ _ (c.loop-originator.invariant.taken fresh) c.loop-originator-test.false)
