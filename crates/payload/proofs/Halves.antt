@@ -7,7 +7,7 @@ use Rattle.std.proofs.Math.Nat.{mul-add, add-mul, add-mul-mod_self_right, mod-eq
 use Rattle.addr.specs.Family.{width}
 use Rattle.addr.specs.Address.{bit_of, contains, last_of, same_prefix}
 use Rattle.addr.specs.declared.prefix.Prefix.{Prefix}
-use Rattle.addr.proofs.AddressLemmas.{below_widest, first_below, multiple-at_most}
+use Rattle.addr.proofs.AddressLemmas.{below_widest, multiple-at_most}
 use Rattle.addr.proofs.PrefixOrderLemmas.{block-within, contains-ends, ends-contains}
 use Rattle.payload.specs.steps.Skipped.{number_of}
 use Rattle.payload.specs.steps.Tree.{Top, Tree, above, grown, tree}
@@ -145,8 +145,6 @@ contains-same p q inside short =
 
 -- this first address and length are its
 pub record IsPast (p : Prefix) (path : List Bool) (first len : ℕ) : Type 0 where
-  pub small : first < 2 ^ 128
-  pub length_fits : len ≤ width p.family
   pub aligned : first % 2 ^ (width p.family - len) ≡ 0
   pub in_family : first + 2 ^ (width p.family - len) ≤ 2 ^ width p.family
   pub vrps : (t : Top) → vrps_below p.family first len (tree t) ≡ vrps_at p (tree (grown path t))
@@ -166,20 +164,18 @@ is-past : (path : List Bool) (p : Prefix) (first len : ℕ) → len ≡ p.length
 is-past [] p first len long fits is =
     let same : first ≡ p.first = omega (arith, is) in
     let short : len ≡ p.length = omega arith in
-    rw (same, short) (record { small = below_widest p.family p.first (first_below p); length_fits = p.length_fits; aligned = p.aligned; in_family = p.in_family; vrps = λ t. refl })
+    rw (same, short) (record { aligned = p.aligned; in_family = p.in_family; vrps = λ t. refl })
 is-past (bit ∷ path) p first len long fits is =
     let below = is-past path (half bit p (omega arith)) first len (omega arith) fits (is ∙ half-number bit p path len long fits) in
-    record {
-      small = below.small;
-      length_fits = fits;
-      aligned = below.aligned;
-      in_family = below.in_family;
-      vrps = λ t. below.vrps t ∙ sym (above-half bit p (tree (grown path t)));
-    }
+    record { aligned = below.aligned; in_family = below.in_family; vrps = λ t. below.vrps t ∙ sym (above-half bit p (tree (grown path t))) }
+
+-- it is an address
+pub past-small : (p : Prefix) (path : List Bool) (first len : ℕ) → IsPast p path first len → first < 2 ^ 128
+past-small p path first len there = below_widest p.family first (omega (arith, there.in_family, pow_pos (width p.family - len)))
 
 -- as a shift gives it
 pub past-shifted : (p : Prefix) (path : List Bool) (number w len : ℕ) → number ≡ number_of path → w ≡ width p.family → len ≡ p.length + length path → len ≤ width p.family → IsPast p path (p.first + (number * 2 ^ (w - len)) % 2 ^ 128) len
 past-shifted p path number w len is wide long fits =
     let there = is-past path p _ len long fits refl in
-    let shift : (number_of path * 2 ^ (width p.family - len)) % 2 ^ 128 ≡ number_of path * 2 ^ (width p.family - len) = mod-eq_of_lt (omega (arith, there.small)) in
+    let shift : (number_of path * 2 ^ (width p.family - len)) % 2 ^ 128 ≡ number_of path * 2 ^ (width p.family - len) = mod-eq_of_lt (omega (arith, past-small p path _ len there)) in
     rw (is, wide, shift) there

@@ -14,10 +14,11 @@ pub length-low_bits : (n number : ℕ) → length (low_bits n number) ≡ n
 length-low_bits zero number = refl
 length-low_bits (suc n) number = ap suc (length-low_bits n number)
 
+pub size_of : (n number : ℕ) (path : List Bool) → low_bits n number ≡ path → length path ≡ n
+size_of n number path is = ap length (sym is) ∙ length-low_bits n number
+
 pub drop-low_bits : (k m n number : ℕ) → m ≡ k + n → drop k (low_bits m number) ≡ low_bits n number
-drop-low_bits zero m n number is =
-    let same : m ≡ n = omega arith in
-    ap (λ k. low_bits k number) same
+drop-low_bits zero m n number is = let same : m ≡ n = omega arith in ap (λ k. low_bits k number) same
 drop-low_bits (suc k) zero n number is = absurd (omega arith)
 drop-low_bits (suc k) (suc m) n number is = drop-low_bits k m n number (omega arith)
 
@@ -60,9 +61,7 @@ last-low_bits p (suc n) within =
 -- ---- bits in common with those of a prefix
 
 drop-last_bits : (p : Prefix) (k m n : ℕ) → m ≡ k + n → drop k (last_bits p m) ≡ last_bits p n
-drop-last_bits p zero m n is =
-    let same : m ≡ n = omega arith in
-    ap (last_bits p) same
+drop-last_bits p zero m n is = let same : m ≡ n = omega arith in ap (last_bits p) same
 drop-last_bits p (suc k) zero n is = absurd (omega arith)
 drop-last_bits p (suc k) (suc m) n is = drop-last_bits p k m n (omega arith)
 

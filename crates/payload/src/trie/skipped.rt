@@ -57,6 +57,7 @@ impl Skipped {
     }
 
     /// How many bits there are.
+    #[tactic(auto, using(crate::proofs::Skips::size_of))]
     pub(crate) fn count(&self) -> u8
         ensures { result ≡ length self.now }
     {
@@ -71,6 +72,7 @@ impl Skipped {
     }
 
     /// The bit at place `i`.
+    #[tactic(auto, using(crate::proofs::Skips::size_of))]
     pub(crate) fn bit(&self, i: u8) -> bool
         requires { i < length self.now }
         ensures { drop i self.now ≡ result ∷ drop (i + 1) self.now }
@@ -79,6 +81,7 @@ impl Skipped {
     }
 
     /// The first `n` bits.
+    #[tactic(auto, using(crate::proofs::Skips::size_of))]
     pub(crate) fn first(&self, n: u8) -> Skipped
         requires { n ≤ length self.now }
         ensures { result ≡ take n self.now }
@@ -90,6 +93,7 @@ impl Skipped {
     }
 
     /// The bits after the first `n`.
+    #[tactic(auto, using(crate::proofs::Skips::size_of))]
     pub(crate) fn after(&self, n: u8) -> Skipped
         requires { n ≤ length self.now }
         ensures { result ≡ drop n self.now }
@@ -101,6 +105,7 @@ impl Skipped {
     }
 
     /// How many of the bits the prefix has from `at` on, up to the first that it has not.
+    #[tactic(auto, using(crate::proofs::Skips::size_of))]
     pub(crate) fn shared(&self, prefix: &Prefix, at: u8) -> u8
         requires { at ≤ prefix.now.length }
         ensures common { result ≡ common self.now (bits_from prefix.now at) }

@@ -1,4 +1,4 @@
-use Rattle.std.proofs.Common.{rules, ◌+◌, ◌<◌, ◌∙◌, length, false, sym, arith}
+use Rattle.std.proofs.Common.{rules, ◌<◌, ◌∙◌, length, false, sym, arith}
 use Rattle.std.proofs.lemmas.Bool.{ne_eqb}
 use Rattle.payload.specs.steps.Shrinks.{shrinks}
 use Rattle.payload.specs.steps.Branch.{top_of}
@@ -23,14 +23,12 @@ node::Node::contains-contains-requires t c =
 
 pub node::Node::contains-returns-then-shared-count : goal.node::Node::contains-returns-then-shared-count
 node::Node::contains-returns-then-shared-count t c =
-    let v = c.args.vrp.now in
     rw (c.shared-shared.ensures.all (omega (arith, c.if-shared-count.true, c.count.ensures)), ← c.self.view_is)
-    (c.contains.ensures ∙ sym (has-grown c.self.inside.skipped (bits_from v.prefix (c.args.at + c.shared-shared.result)) (originator_of v) (top_of c.self.inside.branch)))
+    (c.contains.ensures ∙ sym (has-grown c.self.inside.skipped _ (originator_of c.args.vrp.now) (top_of c.self.inside.branch)))
 
 pub node::Node::contains-returns-else-shared-count : goal.node::Node::contains-returns-else-shared-count
 node::Node::contains-returns-else-shared-count t c =
     let path = c.self.inside.skipped in
     let bits = bits_from c.args.vrp.now.prefix c.args.at in
-    let other = c.if-shared-count.false in
-    let apart : common path bits < length path = grind (arith, c.shared-shared.ensures.common, c.count.ensures, other, common-least path bits) in
-    rw (← c.self.view_is) (ne_eqb _ _ other ∙ sym (has-apart path bits (originator_of c.args.vrp.now) (top_of c.self.inside.branch) apart))
+    let apart : common path bits < length path = grind (arith, c.shared-shared.ensures.common, c.count.ensures, c.if-shared-count.false, common-least path bits) in
+    rw (← c.self.view_is) (ne_eqb _ _ c.if-shared-count.false ∙ sym (has-apart path bits (originator_of c.args.vrp.now) (top_of c.self.inside.branch) apart))

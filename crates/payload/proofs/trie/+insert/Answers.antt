@@ -4,7 +4,7 @@ use Rattle.std.proofs.lemmas.Result.{on_ok_weaker}
 use Rattle.addr.specs.Family.{width}
 use Rattle.payload.specs.steps.Branch.{top_of}
 use Rattle.payload.specs.steps.Shrinks.{shrinks}
-use Rattle.payload.specs.steps.Tree.{grown, weight, Leaf, IsInserted, IsPruned, is_bare, chain, subtree, tree}
+use Rattle.payload.specs.steps.Tree.{grown, weight, Leaf, IsPruned, is_bare, tree}
 use Rattle.payload.specs.steps.Trie.{bits_from, originator_of}
 use Rattle.payload.proofs.Grown.{has-grown, pruned-after, pruned-chain, pruned-past}
 use Rattle.payload.proofs.Skips.{common-some}
@@ -22,34 +22,24 @@ insert::insert_below-returns-in_ok-new-in-None-clause-new t c =
 
 pub insert::insert_below-returns-in_ok-new-in-None-clause-ok : goal.insert::insert_below-returns-in_ok-new-in-None-clause-ok
 insert::insert_below-returns-in_ok-new-in-None-clause-ok t c =
-    let path = bits_from c.args.vrp.now.prefix c.args.at in
-    let o = originator_of c.args.vrp.now in
-    let new : tree c.in_ok-new-in-None.field-0.value ≡ chain path o = ap tree c.in_ok-new-in-None.ensures.ok ∙ c.lone.ensures in
-    subst (IsInserted path o (subtree c.args.child.now)) (sym new) (rw c.in-None.is (inserted-chain path o))
+    rw (c.in-None.is, c.in_ok-new-in-None.ensures.ok, c.lone.ensures) (inserted-chain _ _)
 
 pub insert::insert_below-returns-in_ok-new-in-None-clause-pruned : goal.insert::insert_below-returns-in_ok-new-in-None-clause-pruned
 insert::insert_below-returns-in_ok-new-in-None-clause-pruned t c =
     let v = c.args.vrp.now in
-    let path = bits_from v.prefix c.args.at in
-    let o = originator_of v in
-    let new : tree c.in_ok-new-in-None.field-0.value ≡ chain path o = ap tree c.in_ok-new-in-None.ensures.ok ∙ c.lone.ensures in
-    subst (IsPruned (width v.prefix.family) c.args.at) (sym new)
-    (pruned-chain (width v.prefix.family) c.args.at path o (omega (arith, length-bits_from v.prefix c.args.at, v.at_least_length, c.requires.within)) v.at_most_width)
+    rw c.in_ok-new-in-None.ensures.ok (subst (IsPruned (width v.prefix.family) c.args.at) (sym c.lone.ensures)
+    (pruned-chain _ _ _ _ (omega (arith, length-bits_from v.prefix c.args.at, v.at_least_length, c.requires.within)) v.at_most_width))
 
 pub insert::insert_below-returns-in_ok-new-in-None-clause-full : goal.insert::insert_below-returns-in_ok-new-in-None-clause-full
 insert::insert_below-returns-in_ok-new-in-None-clause-full t c =
-    let path = bits_from c.args.vrp.now.prefix c.args.at in
-    let o = originator_of c.args.vrp.now in
-    let new : tree c.in_ok-new-in-None.field-0.value ≡ chain path o = ap tree c.in_ok-new-in-None.ensures.ok ∙ c.lone.ensures in
-    subst (λ t. is_bare t ≡ false) (sym new) (full-inserted path o Leaf (chain path o) (inserted-chain path o))
+    rw c.in_ok-new-in-None.ensures.ok (subst (λ t. is_bare t ≡ false) (sym c.lone.ensures) (full-inserted _ _ Leaf _ (inserted-chain _ _)))
 
 pub node::Branch::insert-returns-then-at-vrp-clause-pruned : goal.node::Branch::insert-returns-then-at-vrp-clause-pruned
 node::Branch::insert-returns-then-at-vrp-clause-pruned t c =
     let v = c.args.vrp.now in
-    let old = c.requires.pruned in
     let low : c.args.at ≤ c.of.result.max = rw c.of.ensures (omega (arith, c.if-at-vrp.true, v.at_least_length)) in
     let high : c.of.result.max ≤ width v.prefix.family = rw c.of.ensures v.at_most_width in
-    (originators-after c.insert.result _ _ _ _ c.of.result old.0 low high c.insert.ensures.rise c.insert.ensures.members c.insert.ensures.err, old.1, old.2)
+    (originators-after c.insert.result _ _ _ _ c.of.result c.requires.pruned.0 low high c.insert.ensures.rise c.insert.ensures.members c.insert.ensures.err, c.requires.pruned.1, c.requires.pruned.2)
 
 pub node::Branch::insert-returns-then-bit-clause-new : goal.node::Branch::insert-returns-then-bit-clause-new
 node::Branch::insert-returns-then-bit-clause-new t c =
@@ -79,22 +69,17 @@ node::Node::insert-insert-requires t c =
 
 pub node::Node::insert-returns-clause-new : goal.node::Node::insert-returns-clause-new
 node::Node::insert-returns-clause-new t c =
-    let p = c.args.vrp.now.prefix in
-    let rest = bits_from p (c.args.at + c.shared-shared.result) in
-    rw (common-some p c.args.at c.shared-shared.result c.self.inside.skipped c.requires.within (sym c.shared-shared.ensures.common), sym c.in_ok-cut.ensures.first, sym (c.in_ok-cut.ensures.same ∙ c.self.view_is))
-    (subst (λ b. IfOk c.insert.result (λ is_new. is_new ≡ not b)) (sym (has-grown c.cut.new.skipped rest (originator_of c.args.vrp.now) (top_of c.cut.new.branch))) c.insert.ensures.new)
+    rw (common-some c.args.vrp.now.prefix c.args.at c.shared-shared.result c.self.inside.skipped c.requires.within (sym c.shared-shared.ensures.common), sym c.in_ok-cut.ensures.first, sym (c.in_ok-cut.ensures.same ∙ c.self.view_is))
+    (subst (λ b. IfOk c.insert.result (λ is_new. is_new ≡ not b)) (sym (has-grown c.cut.new.skipped _ (originator_of c.args.vrp.now) (top_of c.cut.new.branch))) c.insert.ensures.new)
 
 pub node::Node::insert-returns-clause-ok : goal.node::Node::insert-returns-clause-ok
 node::Node::insert-returns-clause-ok t c =
-    let p = c.args.vrp.now.prefix in
-    let rest = bits_from p (c.args.at + c.shared-shared.result) in
-    rw (common-some p c.args.at c.shared-shared.result c.self.inside.skipped c.requires.within (sym c.shared-shared.ensures.common), sym c.in_ok-cut.ensures.first, sym (c.in_ok-cut.ensures.same ∙ c.self.view_is))
-    (on_ok_weaker c.insert.result (changed-grown (λ is had. is || had) (λ had. refl) c.cut.new.skipped rest (originator_of c.args.vrp.now) (top_of c.cut.new.branch) (top_of c.insert.new.self)) c.insert.ensures.ok)
+    rw (common-some c.args.vrp.now.prefix c.args.at c.shared-shared.result c.self.inside.skipped c.requires.within (sym c.shared-shared.ensures.common), sym c.in_ok-cut.ensures.first, sym (c.in_ok-cut.ensures.same ∙ c.self.view_is))
+    (on_ok_weaker c.insert.result (changed-grown (λ is had. is || had) (λ had. refl) c.cut.new.skipped _ (originator_of c.args.vrp.now) (top_of c.cut.new.branch) (top_of c.insert.new.self)) c.insert.ensures.ok)
 
 pub node::Node::insert-returns-clause-pruned : goal.node::Node::insert-returns-clause-pruned
 node::Node::insert-returns-clause-pruned t c =
-    let old = top_of c.cut.new.branch in
     let long : c.args.at + c.shared-shared.result ≡ c.args.at + length c.cut.new.skipped =
     rw c.in_ok-cut.ensures.first (ap (λ n. c.args.at + n) (sym (length-take-le c.shared-shared.result c.self.inside.skipped c.shared-shared.ensures.most))) in
     let pruned = rw (sym (c.in_ok-cut.ensures.same ∙ c.self.view_is)) at c.requires.pruned in
-    pruned-after c.insert.result _ _ _ c.cut.new.skipped (bits_from c.args.vrp.now.prefix (c.args.at + c.shared-shared.result)) (originator_of c.args.vrp.now) old (top_of c.insert.new.self) long pruned c.insert.ensures.pruned c.insert.ensures.ok c.insert.ensures.err
+    pruned-after c.insert.result _ _ _ c.cut.new.skipped (bits_from c.args.vrp.now.prefix (c.args.at + c.shared-shared.result)) (originator_of c.args.vrp.now) (top_of c.cut.new.branch) (top_of c.insert.new.self) long pruned c.insert.ensures.pruned c.insert.ensures.ok c.insert.ensures.err

@@ -10,8 +10,7 @@ use Rattle.payload.proofs.trie.+remove.Goals as goal
 
 pub node::Branch::remove-returns-then-at-vrp-clause-pruned : goal.node::Branch::remove-returns-then-at-vrp-clause-pruned
 node::Branch::remove-returns-then-at-vrp-clause-pruned t c =
-    let old = c.requires.pruned in
-    (originators-removed _ _ _ _ _ old.0 c.remove.ensures.rise c.remove.ensures.members, old.1, old.2)
+    (originators-removed _ _ _ _ _ c.requires.pruned.0 c.remove.ensures.rise c.remove.ensures.members, c.requires.pruned.1, c.requires.pruned.2)
 
 pub node::Branch::remove-returns-then-bit-clause-rest : goal.node::Branch::remove-returns-then-bit-clause-rest
 node::Branch::remove-returns-then-bit-clause-rest t c =

@@ -10,31 +10,27 @@ use Rattle.payload.proofs.trie.+validity.Goals as goal
 
 pub node::Branch::validity-returns-then-bit-clause-state : goal.node::Branch::validity-returns-then-bit-clause-state
 node::Branch::validity-returns-then-bit-clause-state t c =
-    let rest = bits_from c.args.route.now.prefix (c.args.at + 1) in
     rw (bits_from-next c.args.route.now.prefix c.args.at true (omega arith) c.if-bit.ensures)
     (c.validity_below.ensures.state ∙ rw (c.unmatched-state.ensures, c.deref-2.ensures)
-    (walked-next c.args.route.now (state_of c.args.above) true rest c.args.self.now.originators.items (subtree c.args.self.now.zero) (subtree c.args.self.now.one) (rw c.deref.ensures at (sym c.if-some_authorizes.ensures))))
+    (walked-next c.args.route.now (state_of c.args.above) true _ c.args.self.now.originators.items (subtree c.args.self.now.zero) (subtree c.args.self.now.one) (rw c.deref.ensures at (sym c.if-some_authorizes.ensures))))
 
 pub node::Branch::validity-returns-then-bit-clause-count : goal.node::Branch::validity-returns-then-bit-clause-count
 node::Branch::validity-returns-then-bit-clause-count t c =
-    let rest = bits_from c.args.route.now.prefix (c.args.at + 1) in
     rw (bits_from-next c.args.route.now.prefix c.args.at true (omega arith) c.if-bit.ensures)
     (c.validity_below.ensures.count
-    ∙ nodes-next c.args.route.now true rest c.args.self.now.originators.items (subtree c.args.self.now.zero) (subtree c.args.self.now.one) c.args.count (rw c.deref.ensures at (sym c.if-some_authorizes.ensures)))
+    ∙ nodes-next c.args.route.now true _ c.args.self.now.originators.items (subtree c.args.self.now.zero) (subtree c.args.self.now.one) c.args.count (rw c.deref.ensures at (sym c.if-some_authorizes.ensures)))
 
 pub node::Branch::validity-returns-else-bit-clause-state : goal.node::Branch::validity-returns-else-bit-clause-state
 node::Branch::validity-returns-else-bit-clause-state t c =
-    let rest = bits_from c.args.route.now.prefix (c.args.at + 1) in
     rw (bits_from-next c.args.route.now.prefix c.args.at false (omega arith) c.if-bit.ensures)
     (c.validity_below-else-bit.ensures.state ∙ rw (c.unmatched-state.ensures, c.deref-2.ensures)
-    (walked-next c.args.route.now (state_of c.args.above) false rest c.args.self.now.originators.items (subtree c.args.self.now.zero) (subtree c.args.self.now.one) (rw c.deref.ensures at (sym c.if-some_authorizes.ensures))))
+    (walked-next c.args.route.now (state_of c.args.above) false _ c.args.self.now.originators.items (subtree c.args.self.now.zero) (subtree c.args.self.now.one) (rw c.deref.ensures at (sym c.if-some_authorizes.ensures))))
 
 pub node::Branch::validity-returns-else-bit-clause-count : goal.node::Branch::validity-returns-else-bit-clause-count
 node::Branch::validity-returns-else-bit-clause-count t c =
-    let rest = bits_from c.args.route.now.prefix (c.args.at + 1) in
     rw (bits_from-next c.args.route.now.prefix c.args.at false (omega arith) c.if-bit.ensures)
     (c.validity_below-else-bit.ensures.count
-    ∙ nodes-next c.args.route.now false rest c.args.self.now.originators.items (subtree c.args.self.now.zero) (subtree c.args.self.now.one) c.args.count (rw c.deref.ensures at (sym c.if-some_authorizes.ensures)))
+    ∙ nodes-next c.args.route.now false _ c.args.self.now.originators.items (subtree c.args.self.now.zero) (subtree c.args.self.now.one) c.args.count (rw c.deref.ensures at (sym c.if-some_authorizes.ensures)))
 
 pub validity::validity_below-returns-in-None-clause-state : goal.validity::validity_below-returns-in-None-clause-state
 validity::validity_below-returns-in-None-clause-state t c = rw c.in-None.is (walked-leaf c.args.route.now (state_of c.args.above) (bits_from c.args.route.now.prefix c.args.at))

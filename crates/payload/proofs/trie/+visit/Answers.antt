@@ -58,12 +58,10 @@ node::Node::visit-visit-requires g t c =
 
 pub visit::visit_below-returns-in-Some-clause-all : goal.visit::visit_below-returns-in-Some-clause-all
 visit::visit_below-returns-in-Some-clause-all g t c =
-    let node = c.in-Some.node.value in
-    let half = c.past.ensures.vrps node ∙ (λ i. vrps_at c.args.prefix.now (tree (grown (c.one.ensures i) node))) ∙ above-half c.args.bit c.args.prefix.now (tree node) in
+    let half = c.past.ensures.vrps c.in-Some.node.value ∙ (λ i. vrps_at c.args.prefix.now (tree (grown (c.one.ensures i) c.in-Some.node.value))) ∙ above-half c.args.bit c.args.prefix.now _ in
     rw (c.in-Some.is, sym half, ← c.deref.ensures) c.visit.ensures.all
 
 pub visit::visit_below-returns-in-Some-clause-beginning : goal.visit::visit_below-returns-in-Some-clause-beginning
 visit::visit_below-returns-in-Some-clause-beginning g t c =
-    let node = c.in-Some.node.value in
-    let half = c.past.ensures.vrps node ∙ (λ i. vrps_at c.args.prefix.now (tree (grown (c.one.ensures i) node))) ∙ above-half c.args.bit c.args.prefix.now (tree node) in
+    let half = c.past.ensures.vrps c.in-Some.node.value ∙ (λ i. vrps_at c.args.prefix.now (tree (grown (c.one.ensures i) c.in-Some.node.value))) ∙ above-half c.args.bit c.args.prefix.now _ in
     rw (c.in-Some.is, sym half, ← c.deref.ensures) c.visit.ensures.beginning

@@ -14,9 +14,8 @@ returns-in-V4-clause-new c =
 
 pub returns-in-V4-clause-ok : goal.returns-in-V4-clause-ok
 returns-in-V4-clause-ok c =
-    let pruned = subst (λ f. IsPruned (width f) 0 (tree c.insert.new.self)) c.in-V4.is c.insert.ensures.pruned in
     on_ok_weaker c.insert.result
-    (λ is. members-insert c.args.self.now (trie_vrps (tree c.self.inside.four) (tree c.self.inside.six)) _ c.args.vrp c.self.view_is (changed-four (λ is had. is || had) (λ had. refl) c.args.vrp (tree c.self.inside.four) (tree c.insert.new.self) (tree c.self.inside.six) c.self.invariant.0 pruned c.self.invariant.1 c.in-V4.is is))
+    (λ is. members-insert c.args.self.now (trie_vrps (tree c.self.inside.four) (tree c.self.inside.six)) _ c.args.vrp c.self.view_is (changed-four (λ is had. is || had) (λ had. refl) c.args.vrp (tree c.self.inside.four) (tree c.insert.new.self) (tree c.self.inside.six) c.self.invariant.0 (subst (λ f. IsPruned (width f) 0 (tree c.insert.new.self)) c.in-V4.is c.insert.ensures.pruned) c.self.invariant.1 c.in-V4.is is))
     c.insert.ensures.ok
 
 pub returns-in-V6-clause-new : goal.returns-in-V6-clause-new
@@ -26,7 +25,6 @@ returns-in-V6-clause-new c =
 
 pub returns-in-V6-clause-ok : goal.returns-in-V6-clause-ok
 returns-in-V6-clause-ok c =
-    let pruned = subst (λ f. IsPruned (width f) 0 (tree c.insert-in-V6.new.self)) c.in-V6.is c.insert-in-V6.ensures.pruned in
     on_ok_weaker c.insert-in-V6.result
-    (λ is. members-insert c.args.self.now (trie_vrps (tree c.self.inside.four) (tree c.self.inside.six)) _ c.args.vrp c.self.view_is (changed-six (λ is had. is || had) (λ had. refl) c.args.vrp (tree c.self.inside.four) (tree c.self.inside.six) (tree c.insert-in-V6.new.self) c.self.invariant.0 c.self.invariant.1 pruned c.in-V6.is is))
+    (λ is. members-insert c.args.self.now (trie_vrps (tree c.self.inside.four) (tree c.self.inside.six)) _ c.args.vrp c.self.view_is (changed-six (λ is had. is || had) (λ had. refl) c.args.vrp (tree c.self.inside.four) (tree c.self.inside.six) (tree c.insert-in-V6.new.self) c.self.invariant.0 c.self.invariant.1 (subst (λ f. IsPruned (width f) 0 (tree c.insert-in-V6.new.self)) c.in-V6.is c.insert-in-V6.ensures.pruned) c.in-V6.is is))
     c.insert-in-V6.ensures.ok

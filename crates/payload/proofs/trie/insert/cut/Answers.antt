@@ -1,4 +1,4 @@
-use Rattle.std.proofs.Common.{◌≡◌, ◌+◌, true, false, drop, ap, ◌∙◌}
+use Rattle.std.proofs.Common.{◌≡◌, true, false, ap, ◌∙◌}
 use Rattle.payload.specs.steps.Branch.{top_of}
 use Rattle.payload.specs.steps.Tree.{bare, grown, tree}
 use Rattle.payload.proofs.Grown.{grown-cut}
@@ -6,14 +6,12 @@ use Rattle.payload.proofs.trie.insert.cut.Goals as goal
 
 pub returns-then-bit-clause-same : goal.returns-then-bit-clause-same
 returns-then-bit-clause-same c =
-    let path = c.args.skipped.now in
     let left : top_of c.replace.new.dest ≡ bare = ap top_of c.replace.ensures.after ∙ c.new-3.ensures in
     (λ i. grown (c.first.ensures i) (record { originators = (left i).originators; zero = (left i).zero; one = tree (grown (c.after.ensures i) (top_of (c.replace.ensures.value i))) }))
-    ∙ grown-cut path c.args.n true (drop (c.args.n + 1) path) (top_of c.args.branch.now) c.if-bit.ensures
+    ∙ grown-cut c.args.skipped.now c.args.n true _ (top_of c.args.branch.now) c.if-bit.ensures
 
 pub returns-else-bit-clause-same : goal.returns-else-bit-clause-same
 returns-else-bit-clause-same c =
-    let path = c.args.skipped.now in
     let left : top_of c.replace.new.dest ≡ bare = ap top_of c.replace.ensures.after ∙ c.new-3.ensures in
     (λ i. grown (c.first.ensures i) (record { originators = (left i).originators; zero = tree (grown (c.after.ensures i) (top_of (c.replace.ensures.value i))); one = (left i).one }))
-    ∙ grown-cut path c.args.n false (drop (c.args.n + 1) path) (top_of c.args.branch.now) c.if-bit.ensures
+    ∙ grown-cut c.args.skipped.now c.args.n false _ (top_of c.args.branch.now) c.if-bit.ensures
