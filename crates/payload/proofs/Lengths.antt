@@ -13,7 +13,7 @@ use Rattle.addr.specs.declared.family.Family.{Family}
 use Rattle.addr.specs.declared.vrp.Vrp.{Vrp}
 use Rattle.addr.proofs.OrderLemmas.{vrp_order}
 use Rattle.payload.proofs.Sets.{is_vrp}
-use Rattle.payload.proofs.SortedItems.{All-inserted, All-removed}
+use Rattle.sorted_items.proofs.Places.{All-inserted, All-removed}
 use Rattle.payload.specs.declared.shortest.Shortest.{Shortest}
 use Rattle.payload.specs.steps.Shortest.{shortest_in, AreNoShorter}
 

@@ -1,5 +1,4 @@
 pub mod Bits
-pub mod Dedup
 pub mod Depths
 pub mod Fronts
 pub mod Grown
@@ -10,7 +9,6 @@ pub mod Places
 pub mod Prefixes
 pub mod Sets
 pub mod Skips
-pub mod SortedItems
 pub mod Trees
 pub mod TrieOrder
 pub mod TrieStates

@@ -7,7 +7,8 @@ use Rattle.std.proofs.lemmas.Map.Keys.{Less-from_sorted}
 use Rattle.addr.specs.declared.vrp.Vrp.{Vrp}
 use Rattle.addr.specs.Order.{vrp_cmp}
 use Rattle.addr.proofs.OrderLemmas.{derived_vrp_cmp, derived_vrp_order}
-use Rattle.payload.specs.Rising.{AreRising, RiseBy}
+use Rattle.payload.specs.Rising.{AreRising}
+use Rattle.sorted_items.specs.Rising.{RiseBy}
 use Rattle.payload.specs.VrpSet as set
 use Rattle.payload.proofs.Sets.{is_vrp, contains-from_list, items-from_list, same_from_list}
 

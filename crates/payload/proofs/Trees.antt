@@ -8,10 +8,10 @@ use Rattle.std.specs.Ordering.{eq_by_cmp, is_eq}
 use Rattle.std.specs.declared.cmp.Ordering.TheVariants.{Equal}
 use Rattle.std.proofs.lemmas.Cmp.{tied_itself}
 use Rattle.addr.proofs.OrderLemmas.{both_equal}
-use Rattle.payload.specs.Rising.{RiseBy}
+use Rattle.sorted_items.specs.Rising.{RiseBy}
 use Rattle.payload.specs.declared.originator.Originator.{Originator}
 use Rattle.payload.specs.steps.Tree.{Tree, Leaf, Fork, Top, tree, AreOriginators, IsInserted, IsRemoved, grown, has, is_bare, is_place, chain, originator_cmp, same_originator}
-use Rattle.payload.proofs.SortedItems.{All-inserted, All-removed}
+use Rattle.sorted_items.proofs.Places.{All-inserted, All-removed}
 
 abbrev pub is_originator : Originator → Originator → Bool
 is_originator o q = eq_by_cmp originator_cmp o q

@@ -14,7 +14,8 @@ use Rattle.addr.specs.declared.family.Family.TheVariants.{V4, V6}
 use Rattle.addr.specs.declared.prefix.Prefix.{Prefix}
 use Rattle.addr.specs.declared.vrp.Vrp.{Vrp}
 use Rattle.addr.proofs.OrderLemmas.{prefix_order}
-use Rattle.payload.specs.Rising.{AreRising, RiseBy}
+use Rattle.payload.specs.Rising.{AreRising}
+use Rattle.sorted_items.specs.Rising.{RiseBy}
 use Rattle.payload.specs.declared.originator.Originator.{Originator}
 use Rattle.payload.specs.steps.Tree.{Tree, Leaf, Fork, IsPruned, originator_cmp}
 use Rattle.payload.specs.steps.Trie.{half_vrps, node_vrps, vrps_at}

@@ -7,7 +7,6 @@ mod originator;
 mod search;
 mod shortest;
 mod sink;
-mod sorted;
 mod trie;
 mod validity;
 

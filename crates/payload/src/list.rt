@@ -1,13 +1,11 @@
 //! Such a set in a sorted vector.
 ghost use Rattle.std.specs.Prelude.{◌≡◌};
-ghost use Rattle.std.specs.List.{list_any};
-ghost use Rattle.std.specs.List.Sorted.{IsStrictlySortedBy};
-ghost use Rattle.std.specs.Ordering.{eq_by_cmp};
 ghost use Rattle.payload.specs.VrpSet as set;
 
 use crate::shortest::Shortest;
-use crate::{PayloadIndex, Sink, Stop, Validity, search, sorted};
+use crate::{PayloadIndex, Sink, Stop, Validity, search};
 use addr::{Route, Vrp};
+use sorted_items::sort_and_dedup;
 use std::alloc::{AllocError, Global};
 use std::marker::Model;
 
@@ -44,6 +42,17 @@ impl ListIndex {
     }
 }
 
+impl Clone for ListIndex {
+    ghost is_clone = { λ index copy. copy ≡ index };
+
+    fn clone(&self) -> Result<ListIndex, AllocError> {
+        Ok(ListIndex {
+            vrps: self.vrps.clone()?,
+            shortest: self.shortest,
+        })
+    }
+}
+
 impl From<Vec<Vrp>> for ListIndex {
     ghost from_gives = { λ vrps index. index ≡ set.from_list vrps.items };
 
@@ -55,32 +64,21 @@ impl From<Vec<Vrp>> for ListIndex {
     }
 }
 
-/// Sorts the items, and keeps one of those that compare alike.
-fn sort_and_dedup<T: Ord + Drop>(items: &mut Vec<T>)
-    ensures rising { IsStrictlySortedBy T.cmp items.new.items }
-    ensures members { (x : T)
-        → list_any (eq_by_cmp T.cmp x) items.new.items
-        ≡ list_any (eq_by_cmp T.cmp x) items.old.items }
-{
-    items.sort_unstable();
-    items.dedup();
-}
-
 impl PayloadIndex for ListIndex {
     ghost vrps = { λ index. index };
 
     fn insert(&mut self, vrp: Vrp) -> Result<bool, AllocError> {
-        let is_new = sorted::insert(&mut self.vrps, vrp)?;
+        let is_new = sorted_items::insert(&mut self.vrps, vrp)?;
         self.shortest = self.shortest.with(&vrp.prefix);
         Ok(is_new)
     }
 
     fn remove(&mut self, vrp: &Vrp) -> bool {
-        sorted::remove(&mut self.vrps, vrp)
+        sorted_items::remove(&mut self.vrps, vrp)
     }
 
     fn contains(&self, vrp: &Vrp) -> bool {
-        sorted::contains(&self.vrps, vrp)
+        sorted_items::contains(&self.vrps, vrp)
     }
 
     fn validity(&self, route: &Route) -> Validity {

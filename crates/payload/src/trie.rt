@@ -7,6 +7,7 @@ ghost use Rattle.payload.specs.VrpSet as set;
 ghost use Rattle.payload.specs.steps.Trie.{whole};
 
 mod contains;
+mod copied;
 mod insert;
 mod node;
 mod remove;
@@ -77,6 +78,18 @@ impl Trie {
             Family::V4 => self.four.validity(route, 0, Validity::NotFound, 0),
             Family::V6 => self.six.validity(route, 0, Validity::NotFound, 0),
         }
+    }
+}
+
+impl Clone for Trie {
+    ghost is_clone = { λ trie copy. copy ≡ trie };
+
+    fn clone(&self) -> Result<Trie, AllocError> {
+        Ok(Trie {
+            alloc: self.alloc,
+            four: self.four.copied(self.alloc)?,
+            six: self.six.copied(self.alloc)?,
+        })
     }
 }
 

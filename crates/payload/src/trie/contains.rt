@@ -6,7 +6,6 @@ ghost use Rattle.payload.specs.steps.Tree.{IsPruned, has, subtree, tree};
 ghost use Rattle.payload.specs.steps.Trie.{bits_from, originator_of};
 
 use crate::originator::Originator;
-use crate::sorted;
 use crate::trie::node::{Branch, Node};
 use addr::Vrp;
 
@@ -34,7 +33,7 @@ impl Branch {
             ≡ has (bits_from vrp.now.prefix at) (originator_of vrp.now) (tree (top_of self.now)) }
     {
         if at == vrp.prefix.length {
-            sorted::contains(&self.originators, &Originator::of(vrp))
+            sorted_items::contains(&self.originators, &Originator::of(vrp))
         } else if vrp.prefix.bit(at) {
             contains_below(&self.one, vrp, at + 1)
         } else {

@@ -6,7 +6,6 @@ ghost use Rattle.payload.specs.steps.Tree.{IsPruned, IsRemoved, has, is_bare, su
 ghost use Rattle.payload.specs.steps.Trie.{bits_from, originator_of};
 
 use crate::originator::Originator;
-use crate::sorted;
 use crate::trie::node::{Branch, Node};
 use crate::trie::skipped::Skipped;
 use addr::Vrp;
@@ -48,7 +47,7 @@ impl Branch {
         ensures pruned { IsPruned (width vrp.now.prefix.family) at (tree (top_of self.new)) }
     {
         if at == vrp.prefix.length {
-            sorted::remove(&mut self.originators, &Originator::of(vrp))
+            sorted_items::remove(&mut self.originators, &Originator::of(vrp))
         } else if vrp.prefix.bit(at) {
             remove_below(&mut self.one, vrp, at + 1)
         } else {

@@ -4,8 +4,8 @@ use Rattle.std.proofs.lemmas.List.Kept.{IsStrictlySortedBy-dedup}
 use Rattle.std.proofs.lemmas.List.Sorted.{list_any-IsPermutation}
 use Rattle.std.specs.List.{list_any}
 use Rattle.std.specs.Ordering.{eq_by_cmp}
-use Rattle.payload.proofs.Dedup.{any-dedup}
-use Rattle.payload.proofs.list.sort_and_dedup.Goals as goal
+use Rattle.sorted_items.proofs.Dedup.{any-dedup}
+use Rattle.sorted_items.proofs.sort_and_dedup.Goals as goal
 
 pub returns-clause-rising : goal.returns-clause-rising
 returns-clause-rising g c =

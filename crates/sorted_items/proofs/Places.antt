@@ -12,7 +12,7 @@ use Rattle.std.proofs.lemmas.List.Edits.{length-insert, get_or-insert_below, get
 use Rattle.std.proofs.lemmas.List.Folds.{list_any_none, list_any_at}
 use Rattle.std.proofs.lemmas.List.Sorted.{searchable_from_sorted, IsPermutation-insert, IsPermutation-remove, list_any-IsPermutation}
 use Rattle.std.proofs.lemmas.List.Elements.{All-head, All-tail}
-use Rattle.payload.specs.Rising.{RiseBy}
+use Rattle.sorted_items.specs.Rising.{RiseBy}
 
 module _ {X : Type 0} {cmp : X → X → Ordering} (total : IsTotalOrder cmp) where
   abbrev is : X → X → Bool

@@ -1,6 +1,6 @@
 use Rattle.std.proofs.Common.{ap, not, sym}
-use Rattle.payload.proofs.SortedItems.{found, found-members, absent, insert-rises, insert-members}
-use Rattle.payload.proofs.sorted.insert.Goals as goal
+use Rattle.sorted_items.proofs.Places.{found, found-members, absent, insert-rises, insert-members}
+use Rattle.sorted_items.proofs.insert.Goals as goal
 
 pub returns-in-Ok-clause-new : goal.returns-in-Ok-clause-new
 returns-in-Ok-clause-new g c =

@@ -1,8 +1,8 @@
 use Rattle.std.proofs.Common.{◌≡◌, sym}
 use Rattle.std.specs.declared.cmp.Ordering.TheVariants.{Less}
 use Rattle.std.proofs.lemmas.List.Quantifiers.{all_pairs_remove}
-use Rattle.payload.proofs.SortedItems.{absent, absent-members, found, remove-members}
-use Rattle.payload.proofs.sorted.remove.Goals as goal
+use Rattle.sorted_items.proofs.Places.{absent, absent-members, found, remove-members}
+use Rattle.sorted_items.proofs.remove.Goals as goal
 
 pub returns-in-Ok-clause-members : goal.returns-in-Ok-clause-members
 returns-in-Ok-clause-members g c =

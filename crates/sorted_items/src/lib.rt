@@ -1,17 +1,19 @@
 //! Vectors whose items rise, each once.
+#![tactic(auto)]
+
 ghost use Rattle.std.specs.Prelude.{◌≡◌, ◌≤◌, ◌<◌, not, ◌&&◌, ◌||◌, length, insert, remove, IfOk, OnOk, OnErr};
 ghost use Rattle.std.specs.List.{list_any};
+ghost use Rattle.std.specs.List.Sorted.{IsStrictlySortedBy};
 ghost use Rattle.std.specs.Ordering.{eq_by_cmp};
-ghost use Rattle.payload.specs.Rising.{RiseBy};
+ghost use Rattle.sorted_items.specs.Rising.{RiseBy};
 
-use crate::originator::Originator;
-use addr::Vrp;
 use smallvec::SmallVec;
-use std::alloc::AllocError;
+use std::alloc::{AllocError, Global};
 use std::convert::AsSlice;
+use std::default::MadeWith;
 
 /// A vector of these items, wherever it keeps them.
-pub(crate) trait Items<T>: AsSlice<T> {
+pub trait Items<T>: AsSlice<T> {
     /// Puts the item at this place.
     fn insert(&mut self, at: usize, item: T) -> Result<(), AllocError>
         requires { at ≤ length (Self.items self.old) }
@@ -24,8 +26,8 @@ pub(crate) trait Items<T>: AsSlice<T> {
         ensures { Self.items self.new ≡ remove (Self.items self.old) at };
 }
 
-impl Items<Vrp> for Vec<Vrp> {
-    fn insert(&mut self, at: usize, item: Vrp) -> Result<(), AllocError> {
+impl<T: Drop> Items<T> for Vec<T> {
+    fn insert(&mut self, at: usize, item: T) -> Result<(), AllocError> {
         Ok(self.insert(at, item)?)
     }
 
@@ -34,8 +36,8 @@ impl Items<Vrp> for Vec<Vrp> {
     }
 }
 
-impl Items<Originator> for SmallVec<Originator, 1> {
-    fn insert(&mut self, at: usize, item: Originator) -> Result<(), AllocError> {
+impl<T: MadeWith<Global> + Drop, const N: usize> Items<T> for SmallVec<T, N> {
+    fn insert(&mut self, at: usize, item: T) -> Result<(), AllocError> {
         Ok(self.insert(at, item)?)
     }
 
@@ -45,7 +47,7 @@ impl Items<Originator> for SmallVec<Originator, 1> {
 }
 
 /// Whether the item is there.
-pub(crate) fn contains<T: Ord>(items: &[T], item: &T) -> bool
+pub fn contains<T: Ord>(items: &[T], item: &T) -> bool
     requires { RiseBy T.cmp items.now }
     ensures { result ≡ list_any (eq_by_cmp T.cmp item.now) items.now }
 {
@@ -53,7 +55,7 @@ pub(crate) fn contains<T: Ord>(items: &[T], item: &T) -> bool
 }
 
 /// Puts the item in its place. Whether it is new.
-pub(crate) fn insert<T: Ord + Drop, V: Items<T>>(items: &mut V, item: T) -> Result<bool, AllocError>
+pub fn insert<T: Ord + Drop, V: Items<T>>(items: &mut V, item: T) -> Result<bool, AllocError>
     requires { RiseBy T.cmp (V.items items.old) }
     ensures new { IfOk result (λ is_new.
         is_new ≡ not (list_any (eq_by_cmp T.cmp item) (V.items items.old))) }
@@ -72,7 +74,7 @@ pub(crate) fn insert<T: Ord + Drop, V: Items<T>>(items: &mut V, item: T) -> Resu
 }
 
 /// Takes the item out. Whether it was there.
-pub(crate) fn remove<T: Ord + Drop, V: Items<T>>(items: &mut V, item: &T) -> bool
+pub fn remove<T: Ord + Drop, V: Items<T>>(items: &mut V, item: &T) -> bool
     requires { RiseBy T.cmp (V.items items.old) }
     ensures found { result ≡ list_any (eq_by_cmp T.cmp item.now) (V.items items.old) }
     ensures members { (x : T) → list_any (eq_by_cmp T.cmp x) (V.items items.new)
@@ -86,4 +88,15 @@ pub(crate) fn remove<T: Ord + Drop, V: Items<T>>(items: &mut V, item: &T) -> boo
         }
         Err(_) => false,
     }
+}
+
+/// Sorts the items, and keeps one of those that compare alike.
+pub fn sort_and_dedup<T: Ord + Drop>(items: &mut Vec<T>)
+    ensures rising { IsStrictlySortedBy T.cmp items.new.items }
+    ensures members { (x : T)
+        → list_any (eq_by_cmp T.cmp x) items.new.items
+        ≡ list_any (eq_by_cmp T.cmp x) items.old.items }
+{
+    items.sort_unstable();
+    items.dedup();
 }

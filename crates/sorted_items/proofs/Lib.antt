@@ -1,0 +1,2 @@
+mod Dedup
+pub mod Places
