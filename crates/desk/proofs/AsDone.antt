@@ -11,7 +11,8 @@ use Rattle.registry.specs.declared.command.Command.{Command}
 use Rattle.registry.specs.declared.command.Proposed.{Proposed}
 use Rattle.registry.specs.declared.command.Proposed.TheVariants.{Create as ProposedCreate, Withdraw as ProposedWithdraw}
 use Rattle.histories.specs.OneOutcome.{OneHypotheticalOutcome}
-use Rattle.desk.specs.Answer.{is_accepted, is_import, states_after, AnswersCommand, AreStatesOn}
+use Rattle.kept.specs.States.{states_after}
+use Rattle.desk.specs.Answer.{is_accepted, is_import, AnswersCommand, AreStatesOn}
 use Rattle.desk.specs.AsDone.{requests_for, AreDone, WhatIfAsDone}
 use Rattle.desk.specs.Run.{Runs}
 use Rattle.desk.specs.declared.reply.Reply.{Reply}

@@ -1,15 +1,11 @@
 -- The authorizations that changes at a holder would exchange.
 use Rattle.std.proofs.Common.{◌≡◌, ℕ, ◌↔◌, ◌⊎◌, inl, inr, List, [], ◌∷◌, Option, Err, refl, sym, ap, ◌∙◌, subst, length, map, Contains, arith}
-use Rattle.std.specs.List.{zip}
-use Rattle.std.proofs.lemmas.List.{length-map}
-use Rattle.std.proofs.lemmas.Slice.Zip.{firsts-zip, seconds-zip}
 use Rattle.addr.specs.declared.route.Route.{Route}
 use Rattle.addr.specs.declared.vrp.Vrp.{Vrp}
 use Rattle.histories.specs.Growth.{HypotheticalIsLegal}
 use Rattle.histories.specs.SharedVrps.{NoSharedVrp}
 use Rattle.isolation.specs.Isolation.{DifferAtMostAt, HypotheticalKeepsOthers}
 use Rattle.payload.specs.VrpSet as set
-use Rattle.payload.specs.declared.validity.Validity.{Validity}
 use Rattle.registry.specs.Answer.{IsHypotheticalAnswer}
 use Rattle.registry.specs.DailyVrps.{IsAfterExceptions, IsVrpInForce, IsVrpOn}
 use Rattle.registry.specs.ExceptionsInForce.{exceptions_in_force}
@@ -25,7 +21,7 @@ use Rattle.registry.specs.declared.command.Proposed.{Proposed}
 use Rattle.registry.specs.declared.rule.Refusal.{Refusal}
 use Rattle.registry.specs.declared.rule.Refusal.TheVariants.{Denied, Memory}
 use Rattle.slurm.specs.SlurmSets.{union}
-use Rattle.desk.specs.Answer.{refused_with, states_now, states_after, AnswersWhatIf}
+use Rattle.desk.specs.Answer.{refused_with, AnswersWhatIf}
 use Rattle.desk.specs.steps.WhatIf.{ExchangesVrps, WouldExchange}
 use Rattle.kept.specs.Changes.{AreExchanged, IsWithSame}
 use Rattle.kept.specs.Giving.{auths_if_any, AreGivingOn}
@@ -129,19 +125,3 @@ exchanged_day charter rows before after legal has day ended begun old new on is 
     let has_these = subst (HasExceptions new) (ap union has.files ∙ sym exchanges.exceptions) (has_same old new (union rows.files) same is.exceptions) in
     let after_these = after_same new (exceptions_in_force after) has_these (IsVrpInForce after day v) v in
     (λ there. after_these.1 (alike.0 (left.0 there)), λ on_day. left.1 (alike.1 (after_these.0 on_day)))
-
--- ---- two states of each route
-
-same_long : {P : Type 0} (states : List Validity) (so : Route → P) (state : Validity → P) (routes : List Route)
-    → map state states ≡ map so routes → length states ≡ length routes
-same_long states so state routes same = sym (length-map states state) ∙ ap length same ∙ length-map routes so
-
--- in pairs they are those of before and those of after
-pub paired : {P : Type 0} (ones others : List Validity) (state : Validity → P) (so then : Route → P) (routes : List Route)
-    → map state ones ≡ map so routes → map state others ≡ map then routes → (pairs : List (Validity × Validity)) → pairs ≡ zip ones others
-    → (map state (states_now pairs) ≡ map so routes) × (map state (states_after pairs) ≡ map then routes)
-paired ones others state so then routes one other pairs are =
-    let long = same_long others then state routes other ∙ sym (same_long ones so state routes one) in (
-      ap (map state) (ap states_now are ∙ firsts-zip ones others long) ∙ one,
-      ap (map state) (ap states_after are ∙ seconds-zip ones others long) ∙ other,
-    )

@@ -1,7 +1,8 @@
 -- What a desk keeps of a day is what its tables give, and what a history gives that it holds.
 use Rattle.std.proofs.Common.{◌≡◌, ℕ, ◌<◌, List, [], ◌∷◌, ◌++◌, map, flat_map, Bool, true, false, inl, inr, Option, Some, None, refl, sym, ap, subst, ◌∙◌, arith}
 use Rattle.std.specs.Global.{Vec}
-use Rattle.std.specs.Prelude.{IfSome}
+use Rattle.std.specs.Prelude.{IfSome, IsTrue, is_some}
+use Rattle.std.proofs.lemmas.Bool.{true≢false}
 use Rattle.addr.specs.declared.vrp.Vrp.{Vrp}
 use Rattle.charters.specs.CharterSets.{CharterSets}
 use Rattle.kept.proofs.ExceptionLemmas.{after_alike}
@@ -9,7 +10,7 @@ use Rattle.kept.proofs.DayLemmas.{day_of_history}
 use Rattle.kept.specs.Days.{IsDayOf, IsDayOfRows}
 use Rattle.kept.specs.KeptDay.{exceptions_of, HasExceptions, KeptDay}
 use Rattle.registry.specs.History.{History}
-use Rattle.registry.specs.RowsOfAll.{AllRows, HasRows, changed_rows}
+use Rattle.registry.specs.RowsOfAll.{AllRows, HasRows, blank_rows, changed_rows}
 use Rattle.registry.specs.Rows.{Rows, RowsIfAny}
 use Rattle.registry.specs.Terms.{authorizations_made}
 use Rattle.registry.specs.declared.authorization.Auth.{Auth}
@@ -35,6 +36,7 @@ use Rattle.desk.specs.Desk.{charter_of, HoldsHistory, IsOnCleanDisk, KeepsRows, 
 use Rattle.desk.specs.DeskView.{HoldsKept}
 use Rattle.desk.specs.declared.desk.Desk.{Desk}
 use Rattle.desk.specs.steps.Following.{AreEnoughFor, Follows}
+use Rattle.desk.specs.steps.WhatIf.{IsDayOfHeld}
 
 -- ---- rows, and histories of them
 
@@ -149,6 +151,31 @@ module _ {S : Type 0} (g : Ghosts S) where
           let of = keeps clean in
           some desk.kept of.0 (of.1 clean opened) (held.2 clean opened) of.2
       go false shut = held.3 clean shut
+
+  -- an answer whether a holder is registered is one of an open connection: of a shut one nothing is known
+  answered_open : (store : StoreView S) (holder : List ℕ) (registered : Bool)
+      → OfHeldRows g store (λ rows. registered ≡ is_some (rows.of_holder holder)) → IsTrue (connection_state g store).is_open
+  answered_open store holder registered found = go (connection_state g store).is_open refl
+    where
+      registers : AllRows
+      registers = record { of_holder = λ _. Some (record { holdings = []; grants = []; auths = []; granted = 0; created = 0 }); files = [] }
+
+      go : (opened : Bool) → (connection_state g store).is_open ≡ opened → IsTrue (connection_state g store).is_open
+      go true opened = opened
+      go false shut =
+          let any : (rows : AllRows) → Holds g store rows = λ rows clean opened. absurd (true≢false (sym opened ∙ shut)) in
+          absurd (true≢false (sym (found registers (any registers)) ∙ found blank_rows (any blank_rows)))
+
+  -- so what is kept is of the rows of each history that the tables hold
+  pub kept_held : (desk : Desk S) (k : KeptDay) (holder : List ℕ) (registered : Bool) → HoldsKept g desk.store desk.kept → desk.kept ≡ Some k
+      → IsOnCleanDisk g desk → OfHeldRows g desk.store (λ rows. registered ≡ is_some (rows.of_holder holder)) → IsDayOfHeld g desk k
+  kept_held desk k holder registered keeps is clean found history legal held =
+      let opened = answered_open desk.store holder registered found in
+      let of = keeps clean in
+      let one = of.1 clean opened in
+      let other = held.2 clean opened in
+      day_alike desk.store.charter desk.store.charter of.0 held.0 _ (once_by_numbers _ held.0 _ other (numbers_once history held.0 held.1)) one other k
+      (subst (λ (kept : Option KeptDay). IfSome kept (IsDayOfRows of.0)) is of.2)
 
   -- a day that was read is of each history of the rows
   pub day_read : (old new : Desk S) (k : KeptDay) → (IsOnCleanDisk g new → (rows : AllRows) → Holds g old.store rows → IsDayOfRows rows k)

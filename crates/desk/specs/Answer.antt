@@ -28,6 +28,7 @@ use Rattle.registry.specs.declared.command.Query.TheVariants.{Show as ShowQuery,
 use Rattle.registry.specs.declared.rule.Refusal.{Refusal}
 use Rattle.registry.specs.declared.rule.Refusal.TheVariants.{Denied as Refused, Memory}
 use Rattle.contents.specs.ContentText.{IsContentText}
+use Rattle.kept.specs.States.{states_after, states_now}
 use Rattle.sqlite.specs.Store.{Ghosts}
 use Rattle.desk.specs.Desk.{HoldsHistory}
 use Rattle.desk.specs.declared.desk.Desk.{Desk}
@@ -115,13 +116,6 @@ abbrev pub AnswersValidity : History → ℕ → List Route → Reply → Type 0
 AnswersValidity history day routes (Validities states) = AreStatesOn history day routes states.items
 AnswersValidity history day routes Unavailable = Unit {0}
 AnswersValidity history day routes other = ⊥
-
--- the states of the routes as they are, and those after the changes
-abbrev pub states_now : List (Validity × Validity) → List Validity
-states_now states = map (λ both. both.0) states
-
-abbrev pub states_after : List (Validity × Validity) → List Validity
-states_after states = map (λ both. both.1) states
 
 -- The reply to what changes at a holder would do: of each route the state now, and that over the
 -- history that the changes would leave. Where one would be denied, its place, counted from 1, and

@@ -8,7 +8,8 @@ use Rattle.registry.specs.History.{History}
 use Rattle.registry.specs.HypotheticalHistory.{hypothetical_command}
 use Rattle.charters.specs.declared.charter.Charter.{Charter}
 use Rattle.registry.specs.declared.command.Proposed.{Proposed}
-use Rattle.desk.specs.Answer.{is_accepted, states_after, AnswersWhatIf, AreStatesOn}
+use Rattle.kept.specs.States.{states_after}
+use Rattle.desk.specs.Answer.{is_accepted, AnswersWhatIf, AreStatesOn}
 use Rattle.desk.specs.Run.{Runs}
 use Rattle.registry.specs.declared.asked.Asked.{Asked}
 use Rattle.registry.specs.declared.asked.Request.TheVariants.{Command as CommandRequest}

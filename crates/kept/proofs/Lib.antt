@@ -9,3 +9,4 @@ pub mod DayLemmas
 pub mod RouteStates
 pub mod Edits
 pub mod Turns
+mod States

@@ -2,4 +2,5 @@ pub mod Giving
 pub mod KeptDay
 pub mod Days
 pub mod Changes
+pub mod States
 pub mod steps

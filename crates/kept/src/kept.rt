@@ -43,6 +43,19 @@ impl Model for Kept {
     } };
 }
 
+impl Clone for Kept {
+    ghost is_clone = { λ kept copy. copy ≡ kept };
+
+    fn clone(&self) -> Result<Kept, AllocError> {
+        Ok(Kept {
+            day: self.day,
+            vrps: self.vrps.clone()?,
+            filters: self.filters.clone()?,
+            asserted: self.asserted.clone()?,
+        })
+    }
+}
+
 impl Kept {
     /// What is kept of a day on which these VRPs are given, in any order and also twice, and these
     /// exceptions are in force.

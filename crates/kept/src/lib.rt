@@ -7,5 +7,5 @@ mod giving;
 mod kept;
 
 pub use exceptions::{assertions_of, filters_of};
-pub use gathering::{gather, judge};
+pub use gathering::{gather, judge, judge_twice};
 pub use kept::Kept;

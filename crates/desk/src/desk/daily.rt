@@ -9,14 +9,15 @@ ghost use Rattle.store.specs.StoreRows.{IfClean, IsRead, OfHeldRows};
 ghost use Rattle.desk.specs.Desk.{OfRows};
 ghost use Rattle.desk.specs.Lent.{Lends};
 ghost use Rattle.desk.specs.Prepared.{day_of, IsPrepared};
+ghost use Rattle.desk.specs.steps.WhatIf.{IsDayOfHeld};
 
 use super::Desk;
-use addr::{Day, Vrp};
+use addr::{Day, Name, Vrp};
 use kept::{Kept, assertions_of, filters_of};
 use payload::Trie;
 use slurm::Slurm;
 use sqlite::Alter;
-use std::alloc::Global;
+use std::alloc::{AllocError, Global};
 use store::{Store, StoreFault};
 
 /// The VRPs that the authorizations of all holders give on the day, and the SLURM files in force.
@@ -47,6 +48,17 @@ fn kept_on<S: Alter>(store: &mut Store<S>, alloc: Global, day: Day) -> Result<Ke
     let filters = filters_of(alloc, &files)?;
     let assertions = assertions_of(alloc, &files)?;
     Ok(Kept::of(alloc, day, vrps, filters, assertions)?)
+}
+
+/// A copy of what is kept, if it is of the day.
+fn copied(kept: &Option<Kept>, day: Day) -> Result<Option<Kept>, AllocError>
+    ensures { IfOk result (λ copy. IfSome copy (λ copied.
+        (kept.now ≡ Some copied) × (copied.day ≡ day))) }
+{
+    match kept {
+        Some(kept) if kept.day() == day => Ok(Some(kept.clone()?)),
+        _ => Ok(None),
+    }
 }
 
 impl<S: Alter> Desk<S> {
@@ -105,15 +117,22 @@ impl<S: Alter> Desk<S> {
         }
     }
 
-    /// The VRPs of the day in a set of their own. What is kept stays.
-    pub(super) fn kept_apart(&mut self, day: Day) -> Result<Kept, StoreFault>
+    /// The VRPs of the day in a set of their own, which is a copy where they are kept. What is kept
+    /// stays. The holder is looked up even then, so that a database that answers nothing is noticed.
+    pub(super) fn kept_apart(&mut self, holder: &Name, day: Day) -> Result<Kept, StoreFault>
         ensures read { IsRead S.Store self.old.store self.new.store }
         ensures same { self.new.kept ≡ self.old.kept }
         ensures day { IfOk result (λ kept. kept.day ≡ day) }
-        ensures given { IfClean S.Store self.new.store (IfOk result (λ kept.
-            OfHeldRows S.Store self.old.store (λ rows. IsDayOfRows rows kept))) }
+        ensures given { IfClean S.Store self.new.store
+            (IfOk result (IsDayOfHeld S.Store self.old)) }
     {
-        kept_on(&mut self.store, self.alloc, day)
+        match copied(&self.kept, day)? {
+            Some(kept) => {
+                self.store.is_registered(self.alloc, holder)?;
+                Ok(kept)
+            }
+            None => kept_on(&mut self.store, self.alloc, day),
+        }
     }
 
     /// Lets what is kept go, then reads the day and keeps it.

@@ -1,28 +1,22 @@
 //! What-if requests.
-ghost use Rattle.std.specs.Prelude.{◌≡◌, ◌↔◌, false, map, option_copied, Contains, IfErr, IfOk, List, MatchResult, OnOk};
-ghost use Rattle.std.specs.List.{zip};
-ghost use Rattle.addr.specs.OriginValidation.{validation_state};
+ghost use Rattle.std.specs.Prelude.{◌≡◌, false, option_copied, IfErr, IfOk, List, MatchResult};
 ghost use Rattle.addr.specs.declared.route.Route.{Route};
-ghost use Rattle.addr.specs.declared.vrp.Vrp.{Vrp};
-ghost use Rattle.kept.specs.Changes.{AreExchanged, IsWithSame};
 ghost use Rattle.kept.specs.Giving.{auths_if_any};
-ghost use Rattle.payload.specs.ValidityState.{state_of};
-ghost use Rattle.payload.specs.VrpSet as set;
+ghost use Rattle.kept.specs.States.{states_after, states_now};
 ghost use Rattle.registry.specs.History.{History};
 ghost use Rattle.registry.specs.Rows.{rows_if_any};
 ghost use Rattle.store.specs.StoreRows.{IsRead};
-ghost use Rattle.desk.specs.Answer.{is_accepted, states_now, states_after, AnswersWhatIf, AreStatesOn};
+ghost use Rattle.desk.specs.Answer.{is_accepted, AnswersWhatIf, AreStatesOn};
 ghost use Rattle.desk.specs.Desk.{charter_of, OfRows};
 ghost use Rattle.desk.specs.steps.WhatIf.{ExchangesVrps, WouldExchange};
 
 use super::Desk;
 use crate::Reply;
 use addr::{Day, Name, Route};
-use kept::{Kept, judge};
+use kept::judge_twice;
 use payload::Validity;
 use registry::{Auth, HolderRows, Proposed, View};
 use sqlite::Alter;
-use std::alloc::{AllocError, Global};
 use store::StoreFault;
 
 /// The authorizations of the rows; none where there are no rows.
@@ -33,42 +27,6 @@ fn auths_of(rows: Option<&HolderRows>) -> &[Auth]
         Some(rows) => &rows.auths,
         None => &[],
     }
-}
-
-/// The states, each with the other of its place, as far as both go.
-fn pair(
-    alloc: Global,
-    ones: &[Validity],
-    others: &[Validity],
-) -> Result<Vec<(Validity, Validity)>, AllocError>
-    ensures { IfOk result (λ pairs. pairs.items ≡ zip ones.now others.now) }
-{
-    ones.iter()
-        .copied()
-        .zip(others.iter().copied())
-        .collect(alloc)
-}
-
-/// The states of the routes over what is kept, and those after the exchange, which is made in it.
-fn judge_twice(
-    alloc: Global,
-    kept: &mut Kept,
-    ended: &[Auth],
-    begun: &[Auth],
-    routes: &[Route],
-) -> Result<Vec<(Validity, Validity)>, AllocError>
-    ensures same { IsWithSame kept.old kept.new }
-    ensures exchanged { OnOk result ((v : Vrp) → Contains (set.items kept.new.vrps) v
-        ↔ AreExchanged kept.old ended.now begun.now v) }
-    ensures now { IfOk result (λ states. map state_of (states_now states.items)
-        ≡ map (λ r. validation_state (set.items kept.old.vrps) r) routes.now) }
-    ensures after { IfOk result (λ states. map state_of (states_after states.items)
-        ≡ map (λ r. validation_state (set.items kept.new.vrps) r) routes.now) }
-{
-    let now = judge(alloc, kept.vrps(), routes)?;
-    kept.exchange(ended, begun)?;
-    let after = judge(alloc, kept.vrps(), routes)?;
-    pair(alloc, &now, &after)
 }
 
 impl<S: Alter> Desk<S> {
@@ -95,7 +53,7 @@ impl<S: Alter> Desk<S> {
         };
         let ended = auths_of(before.as_ref());
         let begun = auths_of(after.as_ref());
-        let states = self.states_now_and_after(day, ended, begun, routes)?;
+        let states = self.states_now_and_after(holder, day, ended, begun, routes)?;
         Ok(Reply::Report(states))
     }
 
@@ -140,6 +98,7 @@ impl<S: Alter> Desk<S> {
     /// The VRPs are a set that is made for this and let go at its end.
     fn states_now_and_after(
         &mut self,
+        holder: &Name,
         day: Day,
         ended: &[Auth],
         begun: &[Auth],
@@ -153,7 +112,7 @@ impl<S: Alter> Desk<S> {
             (after : History) → ExchangesVrps history after day ended.now begun.now
             → AreStatesOn after day routes.now (states_after states.items))) }
     {
-        let mut kept = self.kept_apart(day)?;
+        let mut kept = self.kept_apart(holder, day)?;
         Ok(judge_twice(self.alloc, &mut kept, ended, begun, routes)?)
     }
 }

@@ -1,5 +1,6 @@
 use Rattle.registry.specs.History.{History}
-use Rattle.desk.specs.Answer.{states_now, states_after, AreStatesOn}
+use Rattle.kept.specs.States.{states_after, states_now}
+use Rattle.desk.specs.Answer.{AreStatesOn}
 use Rattle.desk.specs.steps.WhatIf.{ExchangesVrps}
 use Rattle.desk.proofs.DeskLemmas.{found_later, read_then}
 use Rattle.desk.proofs.desk.Desk.what_if.Goals as goal

@@ -3,8 +3,8 @@ use Rattle.addr.specs.OriginValidation.{validation_state}
 use Rattle.addr.specs.declared.route.Route.{Route}
 use Rattle.payload.specs.ValidityState.{state_of}
 use Rattle.payload.specs.VrpSet as set
-use Rattle.desk.proofs.ExchangeLemmas.{paired}
-use Rattle.desk.proofs.desk.what_if.judge_twice.Goals as goal
+use Rattle.kept.proofs.States.{paired}
+use Rattle.kept.proofs.gathering.judge_twice.Goals as goal
 
 pub returns-clause-now : goal.returns-clause-now
 returns-clause-now c =
