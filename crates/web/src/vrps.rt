@@ -14,7 +14,7 @@ use crate::pieces::Pieces;
 use crate::reply::items::vrp_item;
 use addr::Vrp;
 use arrayvec::ArrayString;
-use csv_records::payload_line;
+use csv_records::{payload_line, payload_line_length};
 use payload::{PayloadIndex, Sink, Stop};
 use streams::{Drain, Failed};
 
@@ -31,7 +31,7 @@ impl Sink for Counting {
     ghost has_stopped = { λ c. c.is_over };
 
     fn take(&mut self, vrp: &Vrp) -> Result<(), Stop> {
-        let length = payload_line(vrp).len() as u64;
+        let length = payload_line_length(vrp) as u64;
         let Some(count) = self.count.checked_add(length) else {
             self.is_over = true;
             return Err(Stop);
