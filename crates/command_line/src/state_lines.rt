@@ -24,7 +24,7 @@ pub(crate) struct JudgedRow {
 }
 
 /// The lines of the routes that were judged so far. A line is long and a state is an octet, so a row
-/// that stands in the file as it is printed is written from there.
+/// that is in the file as it is printed is written from there.
 #[derive(Drop)]
 pub(crate) struct StateLines<'a> {
     text: &'a [u8],

@@ -83,8 +83,8 @@ fn open_old<S: Alter>(
     Ok(charter)
 }
 
-/// Reads every row of a desk and returns its charter. Nothing is written, but for a database of
-/// schema 1, which is moved. A connection in a transaction is refused, and a limit of its steps is
+/// Reads every row of a desk and returns its charter. Nothing is written, except that a database
+/// of schema 1 is moved. A connection in a transaction is refused, and a limit of its steps is
 /// lifted.
 pub fn open_tables<S: Alter>(conn: &mut Connection<S>, alloc: Global) -> Result<Charter, StoreFault>
     ensures idle { OnOk result (conn.new.in_transaction ≡ false) }

@@ -29,7 +29,7 @@ const AFTER: &str = r#"{"payloads":[{"asn":64496,"prefix":"192.0.2.0/24","max":2
 enum End {
     /// The disk failed before the command.
     Early,
-    /// The desk was unavailable at the command and from there on, but for the day that it kept.
+    /// The desk was unavailable at the command and from there on, except for the day that it kept.
     Shut,
     /// The desk was unavailable at the command when it was asked again too, and read another day
     /// from its cache.

@@ -111,7 +111,7 @@ fn has_other(rows: &[EntryRow], but: Option<u32>) -> bool
     rows.iter().any(|row| is_other(but, row.number))
 }
 
-/// Whether an authorization of the holder, but for one of the number, gives the AS with this entry.
+/// Whether an authorization of the holder, except that of the number, gives the AS and this entry.
 fn is_given<S: Alter>(
     conn: &mut Connection<S>,
     alloc: Global,
@@ -132,7 +132,7 @@ fn is_given<S: Alter>(
     Ok(has_other(&given, but))
 }
 
-/// Whether an authorization of the holder, but for one of the number, gives the AS with an entry of
+/// Whether an authorization of the holder, except that of the number, gives the AS and an entry of
 /// the list; the first entry that one gives ends the search.
 fn some_given<S: Alter>(
     conn: &mut Connection<S>,

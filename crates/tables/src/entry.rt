@@ -19,7 +19,7 @@ use registry::RoaPrefix;
 use sqlite::Row;
 use sqlite::types::{ToSql, ValueRef};
 
-/// Makes the table. The AS stands with each entry, so that a key keeps two authorizations from
+/// Makes the table. Each entry has the AS too, so that a key keeps two authorizations from
 /// giving one VRP.
 pub const CREATE_ENTRY: &str = "\
     CREATE TABLE entry (holder TEXT NOT NULL, number INTEGER NOT NULL, asn INTEGER NOT NULL, \

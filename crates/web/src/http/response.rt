@@ -143,7 +143,7 @@ fn write_refusal<D: Drain>(drain: &mut D, refusal: HttpRefusal) -> Result<(), Fa
 }
 
 /// Writes the response to a reply. One that shows something has its body collected first, since
-/// the head tells its length.
+/// the head has its length.
 fn write_reply_response<D: Drain>(
     alloc: Global,
     drain: &mut D,

@@ -126,7 +126,7 @@ fn add_auth_list<D: Drain>(
     pieces.add(list_closing(auth).as_str());
 }
 
-/// What stands before the list of an authorization's entries.
+/// The text before the list of an authorization's entries.
 fn list_opening(is_first: bool, auth: &Auth) -> ArrayString<128>
     ensures { result.bytes ≡ list_opening is_first auth.now }
 {
@@ -136,7 +136,7 @@ fn list_opening(is_first: bool, auth: &Auth) -> ArrayString<128>
     text
 }
 
-/// What stands after it.
+/// The text after it.
 fn list_closing(auth: &Auth) -> ArrayString<128>
     ensures { result.bytes ≡ list_closing auth.now }
 {
@@ -146,7 +146,7 @@ fn list_closing(auth: &Auth) -> ArrayString<128>
     text
 }
 
-/// What stands before an authorization's entries.
+/// The text before an authorization's entries.
 fn auth_start(is_first: bool, auth: &Auth) -> ArrayString<64>
     ensures { result.bytes ≡ item_after is_first (auth_start auth.now) }
 {
@@ -160,7 +160,7 @@ fn auth_start(is_first: bool, auth: &Auth) -> ArrayString<64>
     text
 }
 
-/// What stands after them.
+/// The text after them.
 fn auth_end(auth: &Auth) -> ArrayString<64>
     ensures { result.bytes ≡ auth_end auth.now }
 {
@@ -187,7 +187,7 @@ pub(crate) fn vrp_item(is_first: bool, vrp: &Vrp) -> ArrayString<256>
     text
 }
 
-/// What stands before an item.
+/// The text before an item.
 fn separator(is_first: bool) -> &'static str
     ensures text { result.now ≡ separator is_first }
     ensures bound { length result.now ≤ 1 }
