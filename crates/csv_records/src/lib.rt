@@ -9,5 +9,7 @@ mod records;
 
 pub use fields::{three_fields, two_fields};
 pub use imports::{ImportFault, read_import};
-pub use lines::{day_text, list_lines, payload_line, payload_line_length, payload_lines};
+pub use lines::{
+    day_text, list_lines, payload_line, payload_line_length, payload_lines, push_payload_line,
+};
 pub use records::CsvRecords;

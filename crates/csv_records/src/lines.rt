@@ -15,9 +15,17 @@ pub fn payload_line(vrp: &Vrp) -> ArrayString<160>
     ensures { result.bytes ≡ csv_line (payload_row vrp.now) }
 {
     let mut text = ArrayString::new();
-    push_vrp_fields(&mut text, vrp.asn, &vrp.prefix, vrp.max);
-    text.push_str("\n");
+    push_payload_line(&mut text, vrp);
     text
+}
+
+/// Appends the line of a VRP, with its line feed.
+pub fn push_payload_line<const N: usize>(text: &mut ArrayString<N>, vrp: &Vrp)
+    requires { array_string_len text.old + 160 ≤ N }
+    ensures { text.new.bytes ≡ text.old.bytes ++ csv_line (payload_row vrp.now) }
+{
+    push_vrp_fields(text, vrp.asn, &vrp.prefix, vrp.max);
+    text.push_str("\n");
 }
 
 /// The length of a VRP's line, which is not made for it.
@@ -82,8 +90,8 @@ fn entry_line(auth: &Auth, entry: &RoaPrefix) -> ArrayString<160>
 }
 
 /// Appends the fields that VRPs and authorizations share.
-fn push_vrp_fields(text: &mut ArrayString<160>, asn: Asn, prefix: &Prefix, max: u8)
-    requires room { array_string_len text.old + 100 ≤ 160 }
+fn push_vrp_fields<const N: usize>(text: &mut ArrayString<N>, asn: Asn, prefix: &Prefix, max: u8)
+    requires room { array_string_len text.old + 100 ≤ N }
     ensures bytes { text.new.bytes
         ≡ text.old.bytes ++ fields_text (vrp_fields asn prefix.now max) }
     ensures len { array_string_len text.new ≤ array_string_len text.old + 100 }

@@ -1,5 +1,6 @@
 //! Texts for a drain, gathered in pieces: each write may be a call of the system.
-ghost use Rattle.std.specs.Prelude.{◌≡◌, ◌≤◌, [], false, true, length, OnOk, OnErr};
+ghost use Rattle.std.specs.Prelude.{◌≡◌, ◌+◌, ◌≤◌, [], false, true, length, OnOk, OnErr};
+ghost use Rattle.arrayvec.specs.ArrayString.{array_string_len};
 ghost use Rattle.web.specs.steps.PieceWriting.{HasAdded};
 
 use arrayvec::ArrayString;
@@ -36,11 +37,19 @@ impl<'a, D: Drain> Pieces<'a, D> {
         requires { length text.now ≤ 4096 }
         ensures { HasAdded D.written D.has_failed self.old text.now self.new }
     {
-        if let Ok(()) = self.piece.try_push_str(text) {
-            return;
-        }
-        self.send();
+        self.make_room(text.len());
         self.piece.push_str(text);
+    }
+
+    /// Writes what waits where a text of this length has no room beside it.
+    pub(crate) fn make_room(&mut self, length: usize)
+        requires { length ≤ 4096 }
+        ensures sent { HasAdded D.written D.has_failed self.old [] self.new }
+        ensures room { array_string_len self.new.piece + length ≤ 32768 }
+    {
+        if self.piece.remaining_capacity() < length {
+            self.send();
+        }
     }
 
     /// Writes what waits, after the last text.

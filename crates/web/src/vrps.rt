@@ -14,7 +14,7 @@ use crate::pieces::Pieces;
 use crate::reply::items::vrp_item;
 use addr::Vrp;
 use arrayvec::ArrayString;
-use csv_records::{payload_line, payload_line_length};
+use csv_records::{payload_line_length, push_payload_line};
 use payload::{PayloadIndex, Sink, Stop};
 use streams::{Drain, Failed};
 
@@ -75,7 +75,7 @@ impl<D: Drain> Sink for Lines<'_, D> {
     ghost has_stopped = { λ l. l.pieces.has_failed };
 
     fn take(&mut self, vrp: &Vrp) -> Result<(), Stop> {
-        self.pieces.add(payload_line(vrp).as_str());
+        add_line(&mut self.pieces, vrp);
         if self.pieces.has_failed {
             return Err(Stop);
         }
@@ -85,6 +85,14 @@ impl<D: Drain> Sink for Lines<'_, D> {
     ghost took_none = { λ l. lines_none D.written D.has_failed l.pieces };
 
     ghost took_then = { λ a b c. lines_then D.written D.has_failed a.pieces b.pieces c.pieces };
+}
+
+/// Adds the line of a VRP.
+fn add_line<D: Drain>(pieces: &mut Pieces<'_, D>, vrp: &Vrp)
+    ensures { HasAdded D.written D.has_failed pieces.old (csv_line (payload_row vrp.now)) pieces.new }
+{
+    pieces.make_room(160);
+    push_payload_line(&mut pieces.piece, vrp);
 }
 
 /// Writes this beginning and the CSV of an index's VRPs, in pieces of some kilobytes.

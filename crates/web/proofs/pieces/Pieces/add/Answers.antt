@@ -1,7 +1,9 @@
-use Rattle.std.proofs.Common.{refl}
+use Rattle.std.proofs.Common.{[], refl}
+use Rattle.web.specs.steps.PieceWriting.{added_then}
 use Rattle.web.proofs.PieceLemmas.{added-whole}
 use Rattle.web.proofs.pieces.Pieces.add.Goals as goal
 
-pub returns-in-Ok : goal.returns-in-Ok
-returns-in-Ok g c =
-    added-whole g.D.Drain.written g.D.Drain.has_failed c.args.self.now _ c.args.text.now refl refl c.in-Ok.ensures.ok
+pub returns : goal.returns
+returns g c =
+    added_then g.D.Drain.written g.D.Drain.has_failed c.args.self.now c.make_room.new.self _ [] c.args.text.now c.make_room.ensures.sent
+    (added-whole g.D.Drain.written g.D.Drain.has_failed c.make_room.new.self _ c.args.text.now refl refl c.push_str.ensures.bytes)
