@@ -1,5 +1,5 @@
 -- The authorizations that changes at a holder would exchange.
-use Rattle.std.proofs.Common.{◌≡◌, ℕ, ◌↔◌, ◌⊎◌, inl, inr, List, [], ◌∷◌, Option, Err, refl, sym, ap, ◌∙◌, subst, length, map, Contains, arith}
+use Rattle.std.proofs.Common.{◌≡◌, ℕ, ◌↔◌, ◌⊎◌, inl, inr, List, [], ◌∷◌, Option, Err, refl, sym, ap, ◌∙◌, subst, length, Contains, arith}
 use Rattle.addr.specs.declared.route.Route.{Route}
 use Rattle.addr.specs.declared.vrp.Vrp.{Vrp}
 use Rattle.histories.specs.Growth.{HypotheticalIsLegal}

@@ -4,7 +4,7 @@
 -- history defines, and what changes would do is what the history defines that they would leave.
 -- Where an allocation fails, or the database does not answer, the reply is Unavailable and, until a
 -- stop, nothing has changed; what may be found after one is in `CrashOutcomes`.
-use Rattle.std.specs.Prelude.{◌≡◌, ℕ, Bool, true, false, List, [], ◌∷◌, Some, None, ◌↔◌, Contains, map, IsSomeAnd}
+use Rattle.std.specs.Prelude.{◌≡◌, ℕ, Bool, true, false, List, [], ◌∷◌, Some, None, ◌↔◌, Contains, IsSomeAnd}
 use Rattle.std.specs.String.{string_bytes}
 use Rattle.addr.specs.OriginValidation.{HasState}
 use Rattle.addr.specs.declared.route.Route.{Route}

@@ -1,7 +1,6 @@
 use Rattle.std.proofs.Common.{◌≡◌, ap, rules, ◌∙◌}
 use Rattle.std.proofs.lemmas.Fn.{always_returns_same}
-use Rattle.std.specs.List.{flat_map}
-use Rattle.slurm.specs.steps.Walk.{prefixes_of, some_clash}
+use Rattle.slurm.specs.steps.Walk.{some_clash}
 use Rattle.slurm.proofs.RisingNames.{rising_once}
 use Rattle.slurm.proofs.SetOverlapLemmas.{set_overlap}
 use Rattle.slurm.proofs.walk.has_clash.Goals as goal
