@@ -5,8 +5,8 @@
 #     filters.sh [RUNS]      (5 where left out)
 #
 # The time of one answer is that of a script which asks 101 times less that of one which asks once, by 100, each the
-# least of the runs. Ends with 1 where a filter changed what is answered, with 2 where something could
-# not be run. The program has to be built first, by ./roadesk build at the top; PROGRAM may name another.
+# least of the runs. Ends with 1 where a filter changed what is answered, with 2 where something could not be run. The
+# program has to be built first, by ./roadesk build at the top; PROGRAM may name another.
 set -u
 . "$(dirname "${BASH_SOURCE[0]}")/../common/work.sh"
 runs=${1:-5}
@@ -31,7 +31,8 @@ seconds() {
 
 for set in $sets; do
     for _ in $(seq "$runs"); do
-        echo "$set $(seconds "$set" 1) $(seconds "$set" 101)"
+        once=$(seconds "$set" 1) && often=$(seconds "$set" 101) || exit 2
+        echo "$set $once $often"
     done
 done >"$work/times"
 

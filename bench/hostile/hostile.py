@@ -129,7 +129,8 @@ class Desk:
         self.base, self.db = folder / "base.db", folder / "desk.db"
         for path in [self.base, folder / "base.db-wal"]:
             path.unlink(missing_ok=True)
-        subprocess.run([program, "init", "--db", self.base, "--charter", self.charter], check=True)
+        if subprocess.run([program, "init", "--db", self.base, "--charter", self.charter]).returncode != 0:
+            sys.exit(2)
         self.serve(self.base, SETUP)
 
     def serve(self, db, requests):

@@ -131,6 +131,9 @@ def rows(path):
 
 
 def main():
+    if not os.access(PROGRAM, os.X_OK):
+        print("moving.py: the program is not built: run ./roadesk build first", file=sys.stderr)
+        sys.exit(2)
     count = int(sys.argv[1]) if len(sys.argv) > 1 else 100_000
     runs = int(sys.argv[2]) if len(sys.argv) > 2 else 3
     with tempfile.TemporaryDirectory(dir=os.environ.get("BENCH_WORK")) as work:

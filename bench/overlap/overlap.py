@@ -6,7 +6,7 @@
 The line is sent by a stranger, whom the rule before it denies; and by an operator, with one more filter that lies in the
 last one of another file, so that this rule denies it after it went over all prefixes. The time of a line is that of a
 script of 11 less that of one, by 10; of the runs the least counts. PROGRAM names the program, else it is that of the
-repository. Ends with 1 where an answer is another.
+repository. Ends with 1 where an answer is another, with 2 where there is no program.
 """
 
 import json
@@ -47,6 +47,9 @@ def seconds(charter, text, answer):
 
 
 def main():
+    if not os.access(PROGRAM, os.X_OK):
+        print("overlap.py: the program is not built: run ./roadesk build first", file=sys.stderr)
+        sys.exit(2)
     runs = int(sys.argv[1]) if len(sys.argv) > 1 else 3
     with tempfile.TemporaryDirectory() as work:
         charter = f"{work}/charter.csv"
