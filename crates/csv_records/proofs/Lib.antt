@@ -1,4 +1,5 @@
 pub mod FieldLemmas
 pub mod ImportLemmas
+pub mod LineLemmas
 pub mod RecordSteps
 pub mod RecordsLeft

@@ -38,6 +38,10 @@ payload_header = codes "asn" ∷ codes "prefix" ∷ codes "maxlength" ∷ []
 abbrev pub payload_row : Vrp → Fields
 payload_row v = vrp_fields v.asn v.prefix v.max
 
+-- without their header
+abbrev pub payload_rows : List Vrp → List ℕ
+payload_rows vrps = flat_map (λ v. csv_line (payload_row v)) vrps
+
 -- ---- lists of authorizations: what an import of them has, and their numbers
 
 abbrev pub list_header : Fields

@@ -10,6 +10,7 @@ mod records;
 pub use fields::{three_fields, two_fields};
 pub use imports::{ImportFault, read_import};
 pub use lines::{
-    day_text, list_lines, payload_line, payload_line_length, payload_lines, push_payload_line,
+    day_text, list_lines, payload_header, payload_line, payload_line_length, payload_lines,
+    push_payload_line,
 };
 pub use records::CsvRecords;

@@ -1,5 +1,5 @@
 //! The rows that the desk exports as CSV: a header and a line for each.
-ghost use Rattle.std.specs.Prelude.{◌≡◌, ◌+◌, ◌≤◌, ◌++◌, length, map, IfOk, OnOk};
+ghost use Rattle.std.specs.Prelude.{◌≡◌, ◌+◌, ◌≤◌, ◌<◌, ◌++◌, length, map, IfOk, OnOk};
 ghost use Rattle.std.specs.List.{flat_map};
 ghost use Rattle.addr.specs.Day.{day_text};
 ghost use Rattle.arrayvec.specs.ArrayString.{array_string_len};
@@ -9,6 +9,14 @@ use addr::{Asn, Day, Prefix, Vrp, digits_length, push_digits};
 use arrayvec::ArrayString;
 use registry::{Auth, RoaPrefix};
 use std::alloc::{AllocError, Global};
+
+/// The first line of the VRPs' CSV, with its line feed.
+pub fn payload_header() -> &'static str
+    ensures text { result.now ≡ csv_line payload_header }
+    ensures short { length result.now < 100 }
+{
+    "asn,prefix,maxlength\n"
+}
 
 /// The line of a VRP, with its line feed.
 pub fn payload_line(vrp: &Vrp) -> ArrayString<160>
@@ -42,7 +50,7 @@ pub fn payload_lines(alloc: Global, vrps: &[Vrp]) -> Result<Vec<u8>, AllocError>
     ensures { IfOk result (λ text. text.items ≡ csv_text payload_header payload_row vrps.now) }
 {
     let mut text = Vec::new(alloc);
-    text.extend_from_slice(b"asn,prefix,maxlength\n")?;
+    text.extend_from_slice(payload_header().as_bytes())?;
     for vrp in vrps {
         text.extend_from_slice(payload_line(vrp).as_str().as_bytes())?;
     }

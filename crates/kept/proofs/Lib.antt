@@ -1,4 +1,5 @@
 pub mod Members
+pub mod CsvLengths
 pub mod VrpSets
 pub mod ExceptionLemmas
 pub mod Steps

@@ -1,3 +1,4 @@
 -- Steps of the code, which no public contract cites.
+pub mod Counting
 pub mod Entries
 pub mod Gathering

@@ -9,6 +9,7 @@ ghost use Rattle.kept.specs.Giving.{AreGivingOn, GivesOn};
 ghost use Rattle.kept.specs.KeptDay.{HasExceptions, IsKept};
 ghost use Rattle.kept.specs.steps.Entries.{IsJoinedBy, IsLeftWithout, IsVrpOfSome};
 
+use crate::CountedVrps;
 use crate::exceptions::excepted;
 use crate::giving::is_given;
 use addr::{Asn, Day, Vrp};
@@ -23,7 +24,7 @@ use std::marker::Model;
 #[derive(Drop)]
 pub struct Kept {
     day: Day,
-    vrps: Trie,
+    vrps: CountedVrps,
     filters: FilterIndex,
     asserted: ListIndex,
 }
@@ -72,7 +73,7 @@ impl Kept {
             (record { filters = filters.items; assertions = assertions.items })) }
     {
         let filters = FilterIndex::of(alloc, filters)?;
-        let vrps = excepted(alloc, &filters, &assertions, given)?;
+        let vrps = CountedVrps::from(excepted(alloc, &filters, &assertions, given)?);
         let asserted = ListIndex::from(assertions);
         Ok(Kept {
             day,
@@ -93,7 +94,21 @@ impl Kept {
     pub fn vrps(&self) -> &Trie
         ensures { result.now ≡ self.now.vrps }
     {
+        self.vrps.vrps()
+    }
+
+    /// The same with the length of their CSV, which is counted here unless it is kept.
+    pub fn counted_vrps(&self) -> &CountedVrps
+        ensures { result.now ≡ self.now.vrps }
+    {
         &self.vrps
+    }
+
+    /// Counts the length of the CSV, which is kept until the VRPs change.
+    pub fn count(&mut self)
+        ensures { self.new ≡ self.old }
+    {
+        self.vrps.count();
     }
 
     /// Takes out what the authorization gives on the day, unless it is asserted. Allocates nothing.

@@ -13,6 +13,6 @@ returns-clause-exceptions c = record {
 pub returns-clause-kept : goal.returns-clause-kept
 returns-clause-kept c =
     kept_after (λ (v : Vrp). Contains c.args.given.items v)
-    (record { day = c.args.day; vrps = c.in_ok-vrps.vrps; filters = c.in_ok-filters.filters; asserted = c.from-asserted.result })
+    (record { day = c.args.day; vrps = c.from-vrps.result; filters = c.in_ok-filters.filters; asserted = c.from-asserted.result })
     (record { filters = c.args.filters.items; assertions = c.args.assertions.items }) (returns-clause-exceptions c)
-    (λ v. rw (← c.in_ok-filters.ensures, ← c.deref.ensures.value) (c.in_ok-vrps.ensures v))
+    (λ v. rw (c.from-vrps.ensures, ← c.in_ok-filters.ensures, ← c.deref.ensures.value) (c.in_ok-excepted.ensures v))
