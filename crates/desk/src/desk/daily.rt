@@ -13,7 +13,7 @@ ghost use Rattle.desk.specs.steps.WhatIf.{IsDayOfHeld};
 
 use super::Desk;
 use addr::{Day, Name, Vrp};
-use kept::{Kept, assertions_of, filters_of};
+use kept::{CountedVrps, Kept, assertions_of, filters_of};
 use payload::Trie;
 use slurm::Slurm;
 use sqlite::Alter;
@@ -82,6 +82,36 @@ impl<S: Alter> Desk<S> {
             self.kept_vrps()
         } else {
             None
+        }
+    }
+
+    /// As `payloads`, with the length of the CSV, which is counted once for the set that is kept.
+    pub fn counted_payloads(&mut self, day: Day) -> Option<&CountedVrps>
+        ensures* { sem 𝓛 (Lends S.row S.Store day self.entry result) }
+    {
+        if self.prepare(day) {
+            self.count_kept();
+            self.counted_vrps()
+        } else {
+            None
+        }
+    }
+
+    fn count_kept(&mut self)
+        ensures { self.new ≡ self.old }
+    {
+        if let Some(kept) = &mut self.kept {
+            kept.count();
+        }
+    }
+
+    /// The VRPs that are kept, with the length of their CSV.
+    fn counted_vrps(&self) -> Option<&CountedVrps>
+        ensures { option_copied result ≡ option_map (λ kept. kept.vrps) self.now.kept }
+    {
+        match &self.kept {
+            Some(kept) => Some(kept.counted_vrps()),
+            None => None,
         }
     }
 
