@@ -3,5 +3,4 @@ pub mod HttpAnswering
 pub mod LineSplitting
 pub mod PieceWriting
 pub mod ReplyItems
-pub mod VrpCounting
 pub mod VrpWriting

@@ -1,66 +1,21 @@
 //! The VRPs of an index, written as it gives them: no list and no body is collected.
 ghost use Rattle.std.specs.Prelude.{◌≡◌, ◌++◌, ◌<◌, ◌≤◌, ◌^◌, false, true, length, OnOk, OnErr};
 ghost use Rattle.std.specs.Option.{SomeIff};
-ghost use Rattle.csv_records.specs.Lines.{csv_line, csv_text, payload_header, payload_row};
+ghost use Rattle.csv_records.specs.Lines.{csv_line, csv_text, payload_header, payload_row, payload_rows};
 ghost use Rattle.desk.specs.declared.reply.Reply.TheVariants.{Payloads};
 ghost use Rattle.payload.specs.VrpSet as set;
 ghost use Rattle.streams.specs.Streams.{AppendsBeginning};
 ghost use Rattle.web.specs.ReplyText.{line_text};
 ghost use Rattle.web.specs.steps.PieceWriting.{HasAdded};
-ghost use Rattle.web.specs.steps.VrpCounting.{counted_none, counted_then, HasCounted};
-ghost use Rattle.web.specs.steps.VrpWriting.{csv_lines, items_none, items_then, lines_none, lines_then, HasListed};
+ghost use Rattle.web.specs.steps.VrpWriting.{items_none, items_then, lines_none, lines_then, HasListed};
 
 use crate::pieces::Pieces;
 use crate::reply::items::vrp_item;
 use addr::Vrp;
 use arrayvec::ArrayString;
-use csv_records::{payload_line_length, push_payload_line};
+use csv_records::{payload_header, push_payload_line};
 use payload::{PayloadIndex, Sink, Stop};
 use streams::{Drain, Failed};
-
-/// The length of CSV lines, until it is over what a `u64` counts.
-#[derive(Drop)]
-struct Counting {
-    count: u64,
-    is_over: bool,
-}
-
-impl Sink for Counting {
-    ghost took = { λ a vrps b. HasCounted a.is_over b.is_over a.count vrps b.count };
-
-    ghost has_stopped = { λ c. c.is_over };
-
-    fn take(&mut self, vrp: &Vrp) -> Result<(), Stop> {
-        let length = payload_line_length(vrp) as u64;
-        let Some(count) = self.count.checked_add(length) else {
-            self.is_over = true;
-            return Err(Stop);
-        };
-        self.count = count;
-        self.is_over = false;
-        Ok(())
-    }
-
-    ghost took_none = { λ c. counted_none c.is_over c.count };
-
-    ghost took_then = { λ a b c. counted_then a.is_over b.is_over c.is_over
-        a.count b.count c.count };
-}
-
-/// The length of the CSV of an index's VRPs; `None` where a `u64` does not count it.
-pub(crate) fn csv_length<I: PayloadIndex>(index: &I) -> Option<u64>
-    ensures { let text = csv_text payload_header payload_row (set.items (I.vrps index.now)) in
-        SomeIff result (length text < 2 ^ 64) (length text) }
-{
-    let mut counting = Counting {
-        count: header().len() as u64,
-        is_over: false,
-    };
-    match index.visit(&mut counting) {
-        Ok(()) => Some(counting.count),
-        Err(Stop) => None,
-    }
-}
 
 /// Writes VRPs as lines of a CSV.
 #[derive(Drop)]
@@ -70,7 +25,7 @@ struct Lines<'a, D> {
 
 impl<D: Drain> Sink for Lines<'_, D> {
     ghost took = { λ a vrps b.
-        HasAdded D.written D.has_failed a.pieces (csv_lines vrps) b.pieces };
+        HasAdded D.written D.has_failed a.pieces (payload_rows vrps) b.pieces };
 
     ghost has_stopped = { λ l. l.pieces.has_failed };
 
@@ -125,7 +80,7 @@ fn csv_opening(beginning: &str) -> ArrayString<512>
 {
     let mut text = ArrayString::new();
     text.push_str(beginning);
-    text.push_str(header());
+    text.push_str(payload_header());
     text
 }
 
@@ -177,12 +132,4 @@ pub(crate) fn write_line<I: PayloadIndex, D: Drain>(index: &I, drain: &mut D) ->
         }
         Err(Stop) => Err(Failed),
     }
-}
-
-/// The first line of the CSV.
-fn header() -> &'static str
-    ensures text { result.now ≡ csv_line payload_header }
-    ensures bound { length result.now < 100 }
-{
-    "asn,prefix,maxlength\n"
 }

@@ -1,31 +1,26 @@
 -- The VRPs of an index, written as it gives them.
 use Rattle.std.specs.Prelude.{◌≡◌, ℕ, Bool, true, false, List, [], ◌∷◌, ◌++◌, map}
-use Rattle.std.specs.List.{flat_map}
 use Rattle.std.proofs.Common.{sym, ap, refl, ◌∙◌, append_assoc}
 use Rattle.std.proofs.lemmas.List.{append-nil}
 use Rattle.std.proofs.lemmas.Grind.{flat_map-append}
 use Rattle.addr.specs.declared.vrp.Vrp.{Vrp}
-use Rattle.csv_records.specs.Lines.{csv_line, payload_row}
+use Rattle.csv_records.specs.Lines.{csv_line, payload_row, payload_rows}
 use Rattle.web.specs.ReplyText.{comma_joined, vrp_text}
 use Rattle.web.specs.steps.ReplyItems.{after_commas, item_after, items_left}
 use Rattle.web.specs.declared.pieces.Pieces.{Pieces}
 use Rattle.web.specs.steps.PieceWriting.{added_none, added_then, HasAdded}
 
--- the lines of these VRPs in a CSV
-abbrev pub csv_lines : List Vrp → List ℕ
-csv_lines vrps = flat_map (λ v. csv_line (payload_row v)) vrps
-
 -- ---- lines of a CSV
 
-pub lines_none : {D : Type 0} (written : D → List ℕ) (fails : D → Bool) (a : Pieces D) → HasAdded written fails a (csv_lines []) a
+pub lines_none : {D : Type 0} (written : D → List ℕ) (fails : D → Bool) (a : Pieces D) → HasAdded written fails a (payload_rows []) a
 lines_none written fails a = added_none written fails a
 
 pub lines_then : {D : Type 0} (written : D → List ℕ) (fails : D → Bool) (a b c : Pieces D) (vs ws : List Vrp)
-    → HasAdded written fails a (csv_lines vs) b → HasAdded written fails b (csv_lines ws) c
-    → HasAdded written fails a (csv_lines (vs ++ ws)) c
+    → HasAdded written fails a (payload_rows vs) b → HasAdded written fails b (payload_rows ws) c
+    → HasAdded written fails a (payload_rows (vs ++ ws)) c
 lines_then written fails a b c vs ws first second =
     rw (flat_map-append (λ v. csv_line (payload_row v)) vs ws)
-    (added_then written fails a b c (csv_lines vs) (csv_lines ws) first second)
+    (added_then written fails a b c (payload_rows vs) (payload_rows ws) first second)
 
 -- ---- items of a JSON list
 

@@ -9,10 +9,10 @@ ghost use Rattle.web.specs.steps.HttpAnswering.{AnswersNext, IsReplyResponse};
 use super::body::reply_body;
 use super::reading::Next;
 use crate::reply::{short_text, unavailable_text};
-use crate::vrps::{csv_length, write_csv};
+use crate::vrps::write_csv;
 use desk::{Desk, Reply};
 use http_messages::{ContentType, HttpRefusal, Status, fault_text, response_head, write_response};
-use payload::PayloadIndex;
+use kept::CountedVrps;
 use registry::{Asked, Query, Request};
 use sqlite::Alter;
 use std::alloc::Global;
@@ -89,31 +89,31 @@ fn write_payloads<D: Drain, A: Alter>(
     ensures failed { OnErr result (D.has_failed drain.new ≡ true) }
     ensures later { IsLaterDesk A.Store desk.old desk.new }
 {
-    match desk.payloads(asked.day) {
+    match desk.counted_payloads(asked.day) {
         Some(vrps) => write_vrps_response(drain, form, vrps),
         None => write_unavailable(drain),
     }
 }
 
-/// Writes the response that has the VRPs of an index as CSV. Its head has the length, so a body of
-/// 2^64 bytes or more cannot be sent.
-fn write_vrps_response<I: PayloadIndex, D: Drain>(
+/// Writes the response that has the VRPs as CSV. Its head has the length, so a body of 2^64 octets
+/// or more cannot be sent.
+fn write_vrps_response<D: Drain>(
     drain: &mut D,
     form: ContentType,
-    index: &I,
+    vrps: &CountedVrps,
 ) -> Result<(), Failed>
     ensures ok { OnOk result ((text : List ℕ)
-        × IsReplyResponse form (Reply.Payloads (set.items (I.vrps index.now))) text
+        × IsReplyResponse form (Reply.Payloads (set.items vrps.now)) text
         × (D.written drain.new ≡ D.written drain.old ++ text)) }
     ensures err { OnErr result ((text : List ℕ)
-        × IsReplyResponse form (Reply.Payloads (set.items (I.vrps index.now))) text
+        × IsReplyResponse form (Reply.Payloads (set.items vrps.now)) text
         × AppendsBeginning (D.written drain.old) (D.written drain.new) text) }
     ensures failed { OnErr result (D.has_failed drain.new ≡ true) }
 {
-    match csv_length(index) {
+    match vrps.csv_length() {
         Some(length) => {
             let head = response_head(Status::Done, ContentType::Csv, length);
-            write_csv(head.as_str(), index, drain)
+            write_csv(head.as_str(), vrps.vrps(), drain)
         }
         None => write_unavailable(drain),
     }

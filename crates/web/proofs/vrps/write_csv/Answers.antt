@@ -1,9 +1,8 @@
 use Rattle.std.proofs.Common.{rules, ap, ◌≡◌, ◌++◌, ◌∙◌}
-use Rattle.csv_records.specs.Lines.{csv_line, csv_text, payload_header, payload_row}
+use Rattle.csv_records.specs.Lines.{csv_line, csv_text, payload_header, payload_row, payload_rows}
 use Rattle.payload.specs.VrpSet as set
 use Rattle.streams.specs.Streams.{AppendsBeginning}
 use Rattle.std.specs.Result.{OnErr, OnOk}
-use Rattle.web.specs.steps.VrpWriting.{csv_lines}
 use Rattle.web.proofs.PieceLemmas.{finished-err, finished-ok}
 use Rattle.web.proofs.VrpLemmas.{csv-after, lines-broken}
 use Rattle.web.proofs.vrps.write_csv.Goals as goal
@@ -16,7 +15,7 @@ returns-in-Ok-clause-ok g c =
     let out : OnOk c.finish.result (g.D.Drain.written c.finish.new.self.drain.now ≡ old ++ (start ++ csv_text payload_header payload_row vrps)) =
     rw (csv-after start vrps)
     (finished-ok g.D.Drain.written g.D.Drain.has_failed c.begin.result c.visit.new.sink.pieces c.finish.new.self
-    old (start ++ csv_line payload_header) (csv_lines vrps) c.finish.result
+    old (start ++ csv_line payload_header) (payload_rows vrps) c.finish.result
     (ap (λ d. g.D.Drain.written d.now) c.begin.ensures.drain)
     (c.begin.ensures.piece ∙ c.as_str.ensures.value ∙ c.csv_opening-opening.ensures)
     (c.in-Ok.ensures.all c.begin.ensures.unfailed) c.finish.ensures.sent c.finish.ensures.ok) in
@@ -31,7 +30,7 @@ returns-in-Ok-clause-err g c =
     (start ++ csv_text payload_header payload_row vrps)) =
     rw (csv-after start vrps)
     (finished-err g.D.Drain.written g.D.Drain.has_failed c.begin.result c.visit.new.sink.pieces c.finish.new.self
-    old (start ++ csv_line payload_header) (csv_lines vrps) c.finish.result
+    old (start ++ csv_line payload_header) (payload_rows vrps) c.finish.result
     (ap (λ d. g.D.Drain.written d.now) c.begin.ensures.drain)
     (c.begin.ensures.piece ∙ c.as_str.ensures.value ∙ c.csv_opening-opening.ensures)
     (c.in-Ok.ensures.all c.begin.ensures.unfailed) c.finish.ensures.sent) in
