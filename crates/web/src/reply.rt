@@ -7,7 +7,7 @@ pub(crate) mod items;
 mod list;
 
 use crate::pieces::Pieces;
-use addr::digits;
+use addr::push_digits;
 use arrayvec::ArrayString;
 use desk::Reply;
 use items::Item;
@@ -62,7 +62,7 @@ pub(crate) fn done_text(number: Option<u32>) -> ArrayString<128>
         None => text.push_str("{\"done\":null}\n"),
         Some(number) => {
             text.push_str("{\"done\":");
-            text.push_str(digits(u64::from(number)).as_str());
+            push_digits(&mut text, u64::from(number));
             text.push_str("}\n");
         }
     }
@@ -75,9 +75,9 @@ pub(crate) fn imported_text(made: u64, present: u64) -> ArrayString<128>
 {
     let mut text = ArrayString::new();
     text.push_str("{\"made\":");
-    text.push_str(digits(made).as_str());
+    push_digits(&mut text, made);
     text.push_str(",\"present\":");
-    text.push_str(digits(present).as_str());
+    push_digits(&mut text, present);
     text.push_str("}\n");
     text
 }
@@ -119,7 +119,7 @@ pub(crate) fn denied_text(rule: Rule, row: Option<u64>) -> ArrayString<128>
         None => text.push_str("\"}\n"),
         Some(row) => {
             text.push_str("\",\"row\":");
-            text.push_str(digits(row).as_str());
+            push_digits(&mut text, row);
             text.push_str("}\n");
         }
     }

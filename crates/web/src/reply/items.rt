@@ -1,13 +1,12 @@
 //! What replies list and show, item by item.
 ghost use Rattle.std.specs.Prelude.{◌≡◌, ◌++◌, ◌≤◌, ℕ, List, length};
-ghost use Rattle.addr.specs.PrefixText.{spelling};
 ghost use Rattle.web.specs.ReplyText.{auth_end, auth_start, auth_text, entries_list, entries_text, entry_text, prefix_members, quoted_state, states_text, vrp_text};
 ghost use Rattle.web.specs.steps.PieceWriting.{HasAdded};
 ghost use Rattle.web.specs.steps.ReplyItems.{auth_item, item_after, list_closing, list_opening, separator};
 
 use super::list::add_items;
 use crate::pieces::Pieces;
-use addr::{Prefix, Vrp, digits};
+use addr::{Prefix, Vrp, push_digits};
 use arrayvec::ArrayString;
 use csv_records::day_text;
 use payload::Validity;
@@ -153,9 +152,9 @@ fn auth_start(is_first: bool, auth: &Auth) -> ArrayString<64>
     let mut text = ArrayString::new();
     text.push_str(separator(is_first));
     text.push_str("{\"number\":");
-    text.push_str(digits(u64::from(auth.number)).as_str());
+    push_digits(&mut text, u64::from(auth.number));
     text.push_str(",\"asn\":");
-    text.push_str(digits(u64::from(auth.asn.0)).as_str());
+    push_digits(&mut text, u64::from(auth.asn.0));
     text.push_str(",");
     text
 }
@@ -180,7 +179,7 @@ pub(crate) fn vrp_item(is_first: bool, vrp: &Vrp) -> ArrayString<256>
     let mut text = ArrayString::new();
     text.push_str(separator(is_first));
     text.push_str("{\"asn\":");
-    text.push_str(digits(u64::from(vrp.asn.0)).as_str());
+    push_digits(&mut text, u64::from(vrp.asn.0));
     text.push_str(",");
     text.push_str(prefix_members(&vrp.prefix, vrp.max).as_str());
     text.push_str("}");
@@ -212,17 +211,8 @@ fn prefix_members(prefix: &Prefix, max: u8) -> ArrayString<100>
 {
     let mut text = ArrayString::new();
     text.push_str("\"prefix\":\"");
-    text.push_str(prefix_text(prefix).as_str());
+    prefix.push_to(&mut text);
     text.push_str("\",\"max\":");
-    text.push_str(digits(u64::from(max)).as_str());
-    text
-}
-
-/// The one spelling of a prefix.
-pub(crate) fn prefix_text(prefix: &Prefix) -> ArrayString<48>
-    ensures { result.bytes ≡ spelling prefix.now.family prefix.now.first prefix.now.length }
-{
-    let mut text = ArrayString::new();
-    prefix.write_to(&mut text);
+    push_digits(&mut text, u64::from(max));
     text
 }
