@@ -1,16 +1,17 @@
 -- What requests make of the day that is kept.
-use Rattle.std.proofs.Common.{◌≡◌, ℕ, Bool, true, false, List, [], ◌∷◌, ◌++◌, Option, Some, None, refl, sym, ap, ◌∙◌, subst}
-use Rattle.std.specs.Prelude.{◌≢◌, option_map}
+use Rattle.std.proofs.Common.{◌≡◌, ℕ, Bool, true, false, List, [], ◌∷◌, ◌++◌, Option, Some, None, inr, refl, sym, ap, ◌∙◌, subst}
+use Rattle.std.specs.Prelude.{option_map}
 use Rattle.std.proofs.lemmas.Bool.{true≢false}
 use Rattle.std.proofs.lemmas.Option.{none-some}
 use Rattle.kept.specs.KeptDay.{KeptDay}
 use Rattle.payload.specs.VrpSet as set
 use Rattle.registry.specs.declared.asked.Asked.{Asked}
 use Rattle.sqlite.specs.Store.{Ghosts}
-use Rattle.desk.specs.DayAfter.{DayAfter, DayAfterAll}
+use Rattle.desk.specs.DayAfter.{DayAfter, DayAfterAll, MovesDay}
 use Rattle.desk.specs.Prepared.{day_of, IsPrepared}
 use Rattle.desk.specs.declared.desk.Desk.{Desk}
 use Rattle.desk.specs.declared.reply.Reply.{Reply}
+use Rattle.desk.specs.declared.reply.Reply.TheVariants.{Unavailable}
 
 -- the day is kept where VRPs are
 pub day_there : (kept : Option KeptDay) (day : ℕ) → None ≡ option_map (λ (k : KeptDay). k.vrps) kept → ¬ (day_of kept ≡ Some day)
@@ -27,9 +28,9 @@ module _ {S : Type 0} (g : Ghosts S) (old new : Desk S) (day : ℕ) where
 
   -- where none are found, no day is kept, and the day was not
   pub moved_nowhere : (done : Bool) → IsPrepared g day done old new → None ≡ option_map (λ (k : KeptDay). k.vrps) new.kept
-      → (new.kept ≡ None) × (day_of old.kept ≢ Some day)
+      → MovesDay day Unavailable (day_of old.kept) (day_of new.kept)
   moved_nowhere true prepared none = absurd (day_there new.kept day none (prepared.kept refl))
-  moved_nowhere false prepared none = (prepared.none refl, λ was. true≢false (sym (prepared.same was).0))
+  moved_nowhere false prepared none = inr (ap day_of (prepared.none refl), refl, λ was. true≢false (sym (prepared.same was).0))
 
 -- one request more
 pub day_more : (asked : List Asked) (replies : List Reply) (a : Asked) (reply : Reply) (old mid new : Option ℕ) → DayAfterAll asked replies old mid

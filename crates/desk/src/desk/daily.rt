@@ -66,10 +66,7 @@ impl<S: Alter> Desk<S> {
     pub fn kept(&self) -> Option<Day>
         ensures { result ≡ day_of self.now.kept }
     {
-        match &self.kept {
-            Some(kept) => Some(kept.day()),
-            None => None,
-        }
+        self.kept.as_ref().map(Kept::day)
     }
 
     /// The VRPs of the day with the exceptions in force, or nothing where an allocation fails or
@@ -109,10 +106,7 @@ impl<S: Alter> Desk<S> {
     fn counted_vrps(&self) -> Option<&CountedVrps>
         ensures { option_copied result ≡ option_map (λ kept. kept.vrps) self.now.kept }
     {
-        match &self.kept {
-            Some(kept) => Some(kept.counted_vrps()),
-            None => None,
-        }
+        self.kept.as_ref().map(Kept::counted_vrps)
     }
 
     /// Keeps the VRPs of the day, in place of those of another, which are let go first. Where that
@@ -131,20 +125,14 @@ impl<S: Alter> Desk<S> {
     pub(super) fn kept_vrps(&self) -> Option<&Trie>
         ensures { option_copied result ≡ option_map (λ kept. kept.vrps) self.now.kept }
     {
-        match &self.kept {
-            Some(kept) => Some(kept.vrps()),
-            None => None,
-        }
+        self.kept.as_ref().map(Kept::vrps)
     }
 
     fn is_kept(&self, day: Day) -> bool
         ensures yes { result ≡ true → day_of self.now.kept ≡ Some day }
         ensures no { result ≡ false → day_of self.now.kept ≢ Some day }
     {
-        match self.kept() {
-            Some(kept) => kept == day,
-            None => false,
-        }
+        self.kept() == Some(day)
     }
 
     /// The VRPs of the day in a set of their own, which is a copy where they are kept. What is kept

@@ -1,5 +1,4 @@
-use Rattle.std.proofs.Common.{inl, inr, refl, ap}
-use Rattle.desk.specs.Prepared.{day_of}
+use Rattle.std.proofs.Common.{inl}
 use Rattle.desk.proofs.DayLemmas.{moved_nowhere, moved_to}
 use Rattle.desk.proofs.LentLemmas.{lent_kept}
 use Rattle.desk.proofs.desk.Desk.export.Goals as goal
@@ -19,5 +18,4 @@ returns-in_err-gather-in-Some-clause-moved g c =
 
 pub returns-in-None-clause-moved : goal.returns-in-None-clause-moved
 returns-in-None-clause-moved g c =
-    let none = moved_nowhere g.S.Store c.args.self.now c.prepare.new.self c.args.day c.prepare.result c.prepare.ensures (rw c.in-None.is at c.kept_vrps.ensures) in
-    inr (ap day_of none.0, refl, none.1)
+    moved_nowhere g.S.Store c.args.self.now c.prepare.new.self c.args.day c.prepare.result c.prepare.ensures (rw c.in-None.is at c.kept_vrps.ensures)
