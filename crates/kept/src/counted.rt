@@ -39,17 +39,19 @@ impl Clone for CountedVrps {
     }
 }
 
-impl CountedVrps {
-    /// The set, not counted yet.
-    pub(crate) fn from(vrps: Trie) -> CountedVrps
-        ensures { result ≡ vrps }
-    {
+/// The set, not counted yet.
+impl From<Trie> for CountedVrps {
+    ghost from_gives = { λ vrps counted. counted ≡ vrps };
+
+    fn from(vrps: Trie) -> CountedVrps {
         CountedVrps {
             vrps,
             csv_length: None,
         }
     }
+}
 
+impl CountedVrps {
     /// The set.
     pub fn vrps(&self) -> &Trie
         ensures { result.now ≡ self.now }
@@ -58,7 +60,7 @@ impl CountedVrps {
     }
 
     /// The length in octets of the CSV that has the VRPs, rising, with its header; `None` where a
-    /// `u64` does not count it. After `count` nothing is visited for it until the set changes.
+    /// `u64` does not count it. After `Kept::count` the set is not visited for it until it changes.
     pub fn csv_length(&self) -> Option<u64>
         ensures { IsCsvLength self.now result }
     {
