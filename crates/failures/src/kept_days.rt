@@ -40,6 +40,28 @@ enum End {
     Done,
 }
 
+/// The desk answers the request with this.
+fn assert_reply<S: Alter>(
+    rt: &impl Abort,
+    alloc: Global,
+    desk: &mut Desk<S>,
+    request: &str,
+    expected: &str,
+) -> Result<(), Fail> {
+    assert_eq!(rt; ask(alloc, desk, request)?.as_str(), expected);
+    Ok(())
+}
+
+/// Whether the desk carries out the command; else it is unavailable.
+fn amends<S: Alter>(rt: &impl Abort, alloc: Global, desk: &mut Desk<S>) -> Result<bool, Fail> {
+    let reply = ask(alloc, desk, AMEND)?;
+    if reply.as_str() == DONE {
+        return Ok(true);
+    }
+    assert_eq!(rt; reply.as_str(), UNAVAILABLE);
+    Ok(false)
+}
+
 /// The desk of a disk that failed answers the day that it keeps. Another day it reads from its
 /// cache, or it keeps none.
 fn end_of_failed<S: Alter>(
@@ -49,15 +71,50 @@ fn end_of_failed<S: Alter>(
 ) -> Result<End, Fail> {
     let kept = Day::read(b"2026-03-01");
     let other = Day::read(b"2026-12-31").ok_or("no day")?;
-    assert_eq!(rt; ask(alloc, desk, PAYLOADS)?.as_str(), BEFORE);
+    assert_reply(rt, alloc, desk, PAYLOADS, BEFORE)?;
     assert!(rt; desk.kept() == kept);
     if desk.payloads(other).is_some() {
         assert!(rt; desk.kept() == Some(other));
         return Ok(End::Cached);
     }
     assert!(rt; desk.kept().is_none());
-    assert_eq!(rt; ask(alloc, desk, PAYLOADS)?.as_str(), UNAVAILABLE);
+    assert_reply(rt, alloc, desk, PAYLOADS, UNAVAILABLE)?;
     Ok(End::Shut)
+}
+
+/// Sends the command to a desk that keeps a day, twice where it is unavailable at first.
+fn end_of_command<S: Alter>(
+    rt: &impl Abort,
+    alloc: Global,
+    desk: &mut Desk<S>,
+) -> Result<End, Fail> {
+    if amends(rt, alloc, desk)? {
+        assert_reply(rt, alloc, desk, PAYLOADS, AFTER)?;
+        return Ok(End::Done);
+    }
+    assert_reply(rt, alloc, desk, PAYLOADS, BEFORE)?;
+    if amends(rt, alloc, desk)? {
+        assert_reply(rt, alloc, desk, PAYLOADS, AFTER)?;
+        return Ok(End::Delayed);
+    }
+    end_of_failed(rt, alloc, desk)
+}
+
+/// Makes the desk keep a day, and sends the command to it.
+fn end_on_kept_day<S: Alter>(
+    rt: &impl Abort,
+    alloc: Global,
+    desk: &mut Desk<S>,
+) -> Result<End, Fail> {
+    let count = COUNT_BEFORE_CREATE.saturating_add(1);
+    if ask_first(rt, alloc, desk, count)?.count < count {
+        return Ok(End::Early);
+    }
+    if ask(alloc, desk, PAYLOADS)?.as_str() == UNAVAILABLE {
+        return Ok(End::Early);
+    }
+    assert_reply(rt, alloc, desk, PAYLOADS, BEFORE)?;
+    end_of_command(rt, alloc, desk)
 }
 
 /// Keeps a day, and sends the command to a desk whose log fails after so many calls.
@@ -66,32 +123,12 @@ fn run<D: FailingFile + Drop>(rt: &impl Abort, alloc: Global, calls: u64) -> Res
     let Some(mut desk) = begin(alloc, files, small_options())? else {
         return Ok(End::Early);
     };
-    let count = COUNT_BEFORE_CREATE.saturating_add(1);
-    let answers = ask_first(rt, alloc, &mut desk, count)?;
-    if answers.count < count {
+    let end = end_on_kept_day(rt, alloc, &mut desk)?;
+    let mut files = stop(desk);
+    if end == End::Done && files.log.has_failed() {
         return Ok(End::Early);
     }
-    let before = ask(alloc, &mut desk, PAYLOADS)?;
-    if before.as_str() == UNAVAILABLE {
-        return Ok(End::Early);
-    }
-    assert_eq!(rt; before.as_str(), BEFORE);
-    let first = ask(alloc, &mut desk, AMEND)?;
-    if first.as_str() == DONE {
-        assert_eq!(rt; ask(alloc, &mut desk, PAYLOADS)?.as_str(), AFTER);
-        let mut files = stop(desk);
-        if files.log.has_failed() {
-            return Ok(End::Early);
-        }
-        return Ok(End::Done);
-    }
-    assert_eq!(rt; first.as_str(), UNAVAILABLE);
-    assert_eq!(rt; ask(alloc, &mut desk, PAYLOADS)?.as_str(), BEFORE);
-    if ask(alloc, &mut desk, AMEND)?.as_str() == DONE {
-        assert_eq!(rt; ask(alloc, &mut desk, PAYLOADS)?.as_str(), AFTER);
-        return Ok(End::Delayed);
-    }
-    end_of_failed(rt, alloc, &mut desk)
+    Ok(end)
 }
 
 /// The log fails at each call of the command in turn, with this end in some run.
