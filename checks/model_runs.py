@@ -1,9 +1,9 @@
 """Gives random requests to the program and to the model, and stops at the first difference.
 
-    model_runs.py PROGRAM WORK RUNS SEED    WORK is an empty folder
+    model_runs.py PROGRAM WORK RUNS SEED STEP    WORK is an empty folder
 
-Run K has the seed SEED + K - 1, on which all of it depends. Each fifth seed makes a session over HTTP, all others a
-script. Holders, callers, prefixes, AS numbers and days are few, so that rules clash; some requests are malformed.
+Run K has the seed SEED + STEP * (K - 1), on which all of it depends. Each fifth seed makes a session over HTTP, all
+others a script. Holders, callers, prefixes, AS numbers and days are few, so that rules clash; some requests are malformed.
 """
 import json
 import os
@@ -420,9 +420,10 @@ def run_session(program, seed, charter_file, charter, requests):
 
 
 def main():
-    program, work, runs, first = sys.argv[1], sys.argv[2], int(sys.argv[3]), int(sys.argv[4])
+    program, work = sys.argv[1:3]
+    runs, first, step = map(int, sys.argv[3:6])
     began, asked, accepted = time.time(), 0, 0
-    for seed in range(first, first + runs):
+    for done, seed in enumerate(range(first, first + step * runs, step), 1):
         requests = Requests(seed)
         charter = requests.pick(CHARTERS)
         charter_file = os.path.join(work, "charter.csv")
@@ -436,7 +437,7 @@ def main():
         if time.time() - began > 3600:
             print(f"stopped after an hour, at seed {seed}")
             break
-    print(f"model: {asked} requests of {seed - first + 1} runs from seed {first}, {accepted} accepted: as the program")
+    print(f"model: {asked} requests of {done} runs from seed {first}, {accepted} accepted: as the program")
 
 
 main()
