@@ -24,7 +24,7 @@ spans_have spans a = list_any (λ s. span_has s a) spans
 abbrev pub AddsAddresses : List Span → List Span → (Address → Bool) → Type 0
 AddsAddresses old new added = (a : Address) → spans_have new a ≡ (spans_have old a || added a)
 
--- the new runs have the addresses of the old ones but those taken
+-- the new runs have the addresses of the old ones, except those taken
 abbrev pub TakesAddresses : List Span → List Span → (Address → Bool) → Type 0
 TakesAddresses old new taken = (a : Address) → spans_have new a ≡ (spans_have old a && not (taken a))
 

@@ -135,8 +135,8 @@ fn is_met(spans: &[Span], prefix: &Prefix) -> bool
     first_not_before(spans, prefix).is_some_and(|span| span.meets(prefix))
 }
 
-/// The first run that does not end before the prefix. It covers the prefix, or meets it, exactly
-/// where one of the runs does.
+/// The first run that does not end before the prefix. It covers the prefix, or meets it, if and
+/// only if one of the runs does.
 fn first_not_before<'a>(spans: &'a [Span], prefix: &Prefix) -> Option<&'a Span>
     requires { AreMaximal spans.now }
     ensures covers { option_map_or (λ s. span_covers s prefix.now) (option_copied result) false

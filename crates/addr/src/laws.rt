@@ -1,5 +1,5 @@
-//! Laws of the definitions that contracts speak of. Each function does nothing: what it ensures is
-//! the law.
+//! Theorems about the definitions that contracts use, stated as contracts of functions with empty
+//! bodies.
 ghost use Rattle.std.specs.Prelude.{◌≡◌};
 ghost use Rattle.addr.specs.Address.{prefix_eq};
 ghost use Rattle.addr.specs.Order.{prefix_cmp, vrp_cmp, IsOrder, TestsEquality};

@@ -67,7 +67,7 @@ fn is_name(text: &[u8]) -> bool
 }
 
 impl Name {
-    /// The name that `text` is, or `None` where it is none.
+    /// The name that `text` is, or `None` if it is no name.
     pub fn read(text: &[u8]) -> Option<Name>
         ensures { result ≡ name_in text.now }
     {

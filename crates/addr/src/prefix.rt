@@ -23,8 +23,8 @@ pub struct Prefix {
 impl Prefix {
     ghost use Rattle.addr.specs.Address.{last_of, contains, overlaps, fits_max_length, prefix_eq, bit_of, FitsMaxLength, IsPrefix, Contains, Overlaps};
 
-    /// None where the length is over the family's width, the address is over the family's last, or
-    /// a bit past the length is set.
+    /// The prefix of these parts; `None` if the length is over the family's width, the address is
+    /// over the family's last, or a bit past the length is set.
     pub fn from_parts(family: Family, first: u128, length: u8) -> Option<Prefix>
         ensures some { IsSome result ↔ IsPrefix family first length }
         ensures parts { IfSome result

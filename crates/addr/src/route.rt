@@ -1,7 +1,7 @@
 //! Announced routes.
 use crate::{Asn, Prefix};
 
-/// Who announced a route: an AS, or none where the path names no single one (RFC 6811 section 2).
+/// Who announced a route: an AS, or none if the path names no single one (RFC 6811 section 2).
 #[derive(Clone, Copy, Debug, PartialEq, Eq, PartialOrd, Ord)]
 pub enum Origin {
     As(Asn),

@@ -23,7 +23,8 @@ impl Span {
     ghost use Rattle.addr.specs.Spans.{span_has, span_covers, span_meets, is_apart_below, is_before};
     ghost use Rattle.addr.specs.steps.Parts.{part_has, is_after, EndsBefore, StartsAfter};
 
-    /// None where the run ends before it starts, or after the family's last address.
+    /// The run of these parts; `None` if it ends before it starts, or after the family's last
+    /// address.
     pub fn from_parts(family: Family, lo: u128, hi: u128) -> Option<Span>
         ensures some { IsSome result ↔ ((lo ≤ hi) × (hi < 2 ^ width family)) }
         ensures parts { IfSome result (λ s. (s.family ≡ family) × (s.lo ≡ lo) × (s.hi ≡ hi)) }
@@ -71,7 +72,7 @@ impl Span {
         }
     }
 
-    /// The run of the addresses of both, where neither is apart below the other.
+    /// The run of the addresses of both runs, neither of which is apart below the other.
     pub(crate) fn joined(&self, other: &Span) -> Span
         requires below { is_apart_below self.now other.now ≡ false }
         requires above { is_apart_below other.now self.now ≡ false }

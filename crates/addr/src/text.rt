@@ -16,7 +16,7 @@ mod write;
 use read::read_prefix;
 use write::{dotted_length, push_spelling};
 
-/// Why a text is not the one spelling of a prefix. Of several faults the first counts.
+/// Why a text is not the one spelling of a prefix. If several apply, the first one counts.
 #[derive(Clone, Copy, Debug, PartialEq, Eq, Error)]
 pub enum PrefixFault {
     /// It is no address, `/` and length in any spelling.
@@ -84,7 +84,7 @@ impl Prefix {
         push_spelling(text, self.family, self.first, u16::from(self.length));
     }
 
-    /// How many characters the one spelling has. That of IPv4 is not made for it.
+    /// How many characters the one spelling has. For IPv4 the spelling is not made.
     #[tactic(auto, unfolding(crate::specs::PrefixText::spelling))]
     pub fn text_length(&self) -> usize
         ensures value { result

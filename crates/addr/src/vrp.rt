@@ -21,7 +21,8 @@ pub struct Vrp {
 impl Vrp {
     ghost use Rattle.addr.specs.Address.{FitsMaxLength};
 
-    /// None where the maxLength is below the prefix's length or over the family's width.
+    /// The VRP of these parts; `None` if the maxLength is below the prefix's length or over the
+    /// family's width.
     pub fn from_parts(prefix: Prefix, max: u8, asn: Asn) -> Option<Vrp>
         ensures some { IsSome result ↔ FitsMaxLength prefix max }
         ensures parts { IfSome result (λ v. (v.prefix ≡ prefix) × (v.max ≡ max) × (v.asn ≡ asn)) }

@@ -1,4 +1,4 @@
--- The pool of prefixes that a desk delegates from, asked address by address.
+-- The pool of prefixes that a desk delegates from, address by address.
 use Rattle.std.specs.Prelude.{◌≡◌, ℕ, ◌≤◌, Bool, true, List}
 use Rattle.std.specs.List.{list_any}
 use Rattle.addr.specs.Address.{Address, has_address}

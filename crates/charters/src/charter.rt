@@ -18,7 +18,7 @@ const MOST_OPERATORS: usize = 16;
 /// How many prefixes its pool may have.
 const MOST_POOL_PREFIXES: usize = 64;
 
-/// Why two lists make no charter. Of several faults the first counts.
+/// Why two lists make no charter. If several faults apply, the first one counts.
 #[derive(Clone, Copy, Debug, PartialEq, Eq)]
 pub enum CharterFault {
     /// There are not 1 to 16 operators, or not 1 to 64 prefixes.

@@ -1,8 +1,8 @@
-//! Laws of the definitions. Each function does nothing: what it ensures is the law.
+//! Theorems, stated as contracts of functions with empty bodies.
 ghost use Rattle.std.specs.Prelude.{◌≡◌};
 ghost use Rattle.charters.specs.declared.charter.TheConstants.{MOST_OPERATORS, MOST_POOL_PREFIXES};
 
-/// The limits of a charter in numbers, so that a changed constant is not proved.
+/// States the limits of a charter as numbers, so that the proof fails if a constant changes.
 pub fn limits()
     ensures operators { MOST_OPERATORS ≡ 16 }
     ensures pool_prefixes { MOST_POOL_PREFIXES ≡ 64 }

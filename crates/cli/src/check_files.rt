@@ -14,8 +14,8 @@ pub struct PayloadFile(pub Vec<u8>);
 #[derive(Drop)]
 pub struct RouteFile(pub Vec<u8>);
 
-/// As `check_on`, where neither file can be taken for the other. The payload file is let go before the
-/// routes are judged.
+/// Like `check_on`, with types that keep one file from being taken for the other. The payload file
+/// is dropped before the routes are judged.
 pub fn check_files<D: Drain>(
     alloc: Global,
     payloads: PayloadFile,

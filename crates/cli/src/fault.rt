@@ -12,7 +12,7 @@ use std::io::{self, ErrorKind};
 use store::StoreFault;
 use web::ScriptFault;
 
-/// The program's fault where a script ended early.
+/// The program's fault if a script ended early.
 pub fn fault_of_script(fault: ScriptFault) -> ProgramFault
     ensures { result ≡ fault_of_script fault }
 {
@@ -22,7 +22,7 @@ pub fn fault_of_script(fault: ScriptFault) -> ProgramFault
     }
 }
 
-/// The program's fault where the database refused, or holds no desk.
+/// The program's fault if the database refused, or holds no desk.
 pub fn fault_of_store(fault: StoreFault) -> ProgramFault
     ensures { result ≡ fault_of_store fault }
 {
@@ -32,7 +32,7 @@ pub fn fault_of_store(fault: StoreFault) -> ProgramFault
     }
 }
 
-/// The program's fault where the desk in a file was not opened.
+/// The program's fault if the desk in a file was not opened.
 pub fn fault_of_open<S: Alter>(fault: &OpenFault<S>) -> ProgramFault
     ensures { result ≡ fault_of_open fault.now }
 {
@@ -42,7 +42,7 @@ pub fn fault_of_open<S: Alter>(fault: &OpenFault<S>) -> ProgramFault
     }
 }
 
-/// The program's fault where serving ended early.
+/// The program's fault if serving ended early.
 pub fn fault_of_serve<D: Disk>(fault: &ServeFault<D>) -> ProgramFault
     ensures { result ≡ fault_of_serve fault.now }
 {

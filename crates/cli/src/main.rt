@@ -30,7 +30,7 @@ fn main(rt: HostRuntime) -> ExitCode {
     match run_program(&rt) {
         Ok(()) => ExitCode::SUCCESS,
         Err(fault) => {
-            // Where standard error fails too, the status is all that is left.
+            // If standard error fails too, the status is all that is left.
             let _ = eprintln!(rt; "{}", fault.line().as_str());
             ExitCode::from(fault.status())
         }
@@ -163,7 +163,7 @@ fn read_input(rt: &HostRuntime, path: &str) -> Result<Vec<u8>, ProgramFault> {
     }
 }
 
-/// How many bytes the file has; none where there is no such file.
+/// How many bytes the file has; `None` if there is no such file.
 fn size_of(rt: &HostRuntime, path: &str) -> Result<Option<u64>, ProgramFault> {
     match fs::metadata(rt, path) {
         Ok(metadata) => Ok(Some(metadata.len())),

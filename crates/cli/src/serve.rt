@@ -19,9 +19,9 @@ use sqlite::Alter;
 use std::alloc::Global;
 use web::Failed;
 
-/// Accepts this many connections in turn and answers one request on each, on this day. Where a
-/// connection fails, the log gets a line, and the next one is accepted. Only where accepting fails
-/// it ends early.
+/// Accepts this many connections in turn and answers one request on each, on this day. If a
+/// connection fails, the log gets a line, and the next one is accepted. It ends early only if
+/// accepting fails.
 pub fn serve_on<C: Connections, S: Alter, L: Log>(
     alloc: Global,
     connections: &mut C,
@@ -30,8 +30,8 @@ pub fn serve_on<C: Connections, S: Alter, L: Log>(
     day: Day,
     log: &mut L,
 ) -> Result<(), Failed>
-    // Of these connections all is said: there are as many, they were accepted, the desk answered
-    // them, and the log has the lines of those that failed.
+    // `passed` are the connections: there are as many, they were accepted, the desk answered them,
+    // and the log has the lines of those that failed.
     ensures served { (passed : List Transcript)
         × OnOk result (length passed ≡ count) × OnErr result (length passed < count)
         × Accepts (C.accepted connections.old) (C.accepted connections.new) passed
@@ -42,7 +42,7 @@ pub fn serve_on<C: Connections, S: Alter, L: Log>(
     ensures listens { C.cannot_listen connections.new ≡ C.cannot_listen connections.old }
     ensures later { IsLaterDesk S.Store desk.old desk.new }
 {
-    // Where there is no memory for them now, each connection tries to make its own.
+    // If there is no memory for them now, each connection tries to make its own.
     let routes = Routes::new(alloc).ok();
     answer_each(alloc, routes.as_ref(), connections, count, desk, day, log)
 }

@@ -22,8 +22,8 @@ use sqlite_store::FileStore;
 use std::alloc::Global;
 use web::Failed;
 
-/// Why `serve` ended early. Where the desk was opened, its files were closed, or closing them
-/// failed too.
+/// Why `serve` ended early. If the desk was opened, its files were closed, or closing them failed
+/// too.
 #[derive(Drop)]
 pub enum ServeFault<D: Disk> {
     /// The desk was not opened.
@@ -49,8 +49,8 @@ pub fn serve_files<D: Disk + Drop, C: Connections, L: Log>(
 ) -> Result<Files<D>, ServeFault<D>>
     requires log { IsTrue (D.Disk.is_usable files.log) }
     requires db { IsTrue (D.Disk.is_usable files.db) }
-    // Of these connections all is said: there are as many, they were accepted, the files have what
-    // they lead to, and the log has the lines of those that failed.
+    // `passed` are the connections: there are as many, they were accepted, the files have what they
+    // lead to, and the log has the lines of those that failed.
     ensures served { (passed : List Transcript)
         × (length passed ≤ count) × OnOk result (length passed ≡ count)
         × Accepts (C.accepted connections.old) (C.accepted connections.new) passed
@@ -76,7 +76,7 @@ pub fn serve_files<D: Disk + Drop, C: Connections, L: Log>(
     }
 }
 
-/// Serves this many connections on this day, and ends the desk. Where accepting fails, the desk is
+/// Serves this many connections on this day, and ends the desk. If accepting fails, the desk is
 /// ended too.
 pub fn serve_desk<D: Disk + Drop, C: Connections, L: Log>(
     alloc: Global,

@@ -103,7 +103,7 @@ fn help_names_the_five_tasks(rt: HostRuntime) -> Result<(), Fail> {
     Ok(())
 }
 
-/// Where there is no database, none is served, and one is made once there is a folder for it.
+/// If there is no database, none is served, and one is made once there is a folder for it.
 fn make_database(test: &impl Abort, rt: &HostRuntime, day: Day) -> Result<(), Fail> {
     assert_eq!(test;
         serve_once(rt, DATABASE, "127.0.0.1:0", day),

@@ -14,7 +14,7 @@ use Rattle.command_line.specs.declared.words.TheConstants.{CONNECTION_LIMIT}
 use Rattle.command_line.specs.declared.words.WordsFault.{WordsFault}
 use Rattle.command_line.specs.declared.words.WordsFault.TheVariants.{Words, Day}
 
--- a task with the texts that name its files and its address; of `serve` also the count of
+-- a task with the texts that name its files and its address; for `serve` also the count of
 -- connections and the day
 pub data Task : Type 0 where
   Script : List ℕ → Task

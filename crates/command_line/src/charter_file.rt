@@ -125,7 +125,7 @@ impl CharterRows {
         }
     }
 
-    /// Puts the row into its set, and answers whether it was not there.
+    /// Puts the row into its set; returns whether it was new.
     fn note(&mut self, row: &CharterRow) -> Result<bool, AllocError>
         ensures is_new { IfOk result (λ is_new. is_new ≡ not (is_noted self.old row.now)) }
         ensures noted { OnOk result (

@@ -1,4 +1,4 @@
-//! How the program ends where it does not do its task: a line on standard error and a status.
+//! How the program ends if it does not do its task: a line on standard error and a status.
 ghost use Rattle.std.specs.Prelude.{◌≡◌, ◌≤◌, length};
 ghost use Rattle.command_line.specs.declared.fault.FileFault.TheVariants.{Memory};
 ghost use Rattle.command_line.specs.ProgramFaults.{fault_of_file, fault_of_words, file_name, program_fault_text, row_fault_text, status_of};
@@ -29,22 +29,22 @@ impl InputFile {
     }
 }
 
-/// What is wrong with a row. Of several faults the leftmost counts.
+/// What is wrong with a row. If several faults apply, the leftmost one counts.
 #[derive(Clone, Copy, Debug, PartialEq, Eq)]
 pub enum RowFault {
     /// It has another number of fields.
     Fields,
-    /// It is of no kind that a charter has.
+    /// Its kind is none that a charter has.
     Kind,
-    /// No name.
+    /// A field is no name.
     Name,
-    /// No AS number.
+    /// A field is no AS number.
     Asn,
-    /// No prefix in its one spelling.
+    /// A field is no prefix in its one spelling.
     Prefix(PrefixFault),
-    /// No maxLength of the prefix.
+    /// A field is no maxLength of the prefix.
     Length,
-    /// Neither an AS number nor `NONE`.
+    /// A field is neither an AS number nor `NONE`.
     Origin,
     /// It says what an earlier row says.
     Repeated,
@@ -195,7 +195,7 @@ impl From<AllocError> for ProgramFault {
 }
 
 impl FileFault {
-    /// The program's fault where this is one of the file.
+    /// The program's fault for this fault of a file.
     pub fn of(self, file: InputFile) -> ProgramFault
         ensures { result ≡ fault_of_file file self }
     {

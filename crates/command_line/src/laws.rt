@@ -1,8 +1,8 @@
-//! Laws of the definitions. Each function does nothing: what it ensures is the law.
+//! Theorems, stated as contracts of functions with empty bodies.
 ghost use Rattle.std.specs.Prelude.{◌≡◌};
 ghost use Rattle.command_line.specs.declared.words.TheConstants.{CONNECTION_LIMIT};
 
-/// The limit of `serve` in numbers, so that a changed constant is not proved.
+/// States the limit of `serve` as a number, so that the proof fails if the constant changes.
 pub fn limits()
     ensures { CONNECTION_LIMIT ≡ 1000000 }
 {}

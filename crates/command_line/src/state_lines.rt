@@ -14,10 +14,10 @@ use streams::{Drain, Failed, write_all};
 /// How many bytes are written at once.
 const PIECE: usize = 65536;
 
-/// A row whose texts stand in the file as they are printed, with a comma between them.
+/// A row whose texts are in the file as they are printed, with a comma between them.
 #[derive(Clone, Copy)]
 pub(crate) struct JudgedRow {
-    /// Where they start and end, counted from the end of the row before.
+    /// Where the texts start and end, counted from the end of the row before.
     start: u8,
     end: u8,
     state: Validity,
@@ -31,8 +31,8 @@ pub(crate) struct StateLines<'a> {
     rows: Vec<JudgedRow>,
     /// The text after these rows.
     rest: &'a [u8],
-    /// The lines from the first row on that does not stand in the file as it is printed, as where
-    /// there are quotes.
+    /// The lines from the first row on that is not in the file as it is printed, for example
+    /// because it has quotes.
     others: Vec<u8>,
 }
 
@@ -93,7 +93,7 @@ impl<'a> StateLines<'a> {
     }
 }
 
-/// The row where its texts come next, with a comma between them.
+/// The row, if its texts come next, with a comma between them.
 fn row_at(rest: &[u8], read: &RouteRow<'_>, state: Validity) -> Option<JudgedRow>
     ensures fits { IfSome result (λ row. (row.start ≤ row.end) × (row.end ≤ length rest.now)) }
     ensures texts { IfSome result (λ row. slice_range rest.now row.start row.end
@@ -116,7 +116,7 @@ fn row_at(rest: &[u8], read: &RouteRow<'_>, state: Validity) -> Option<JudgedRow
     })
 }
 
-/// How long the end of a line is that comes next.
+/// The length of the line end that comes next.
 fn line_end(rest: &[u8]) -> u8
     ensures { result ≤ length rest.now }
 {
@@ -127,7 +127,7 @@ fn line_end(rest: &[u8]) -> u8
     }
 }
 
-/// What comes after the part at the start of the text.
+/// The text after the part, if the text starts with it.
 fn after<'a>(text: &'a [u8], part: &[u8]) -> Option<&'a [u8]>
     ensures { IfSome result (λ rest. text.now ≡ part.now ++ rest.now) }
 {
@@ -201,7 +201,7 @@ fn add_row<D: Drain>(
     add(drain, piece, state_end(row.state).as_bytes())
 }
 
-/// Adds a text to the piece, which is written before where there is no room beside it.
+/// Adds a text to the piece, which is written first if there is no room beside it.
 fn add<D: Drain>(drain: &mut D, piece: &mut ArrayVec<u8, PIECE>, text: &[u8]) -> Result<(), Failed>
     requires { length text.now ≤ 256 }
     ensures ok { OnOk result (Passes (D.written drain.old) piece.old.items text.now

@@ -105,7 +105,7 @@ const REGISTER_THREE: &str = r#"{"day":"2026-03-01","caller":"reg","do":"registe
 
 const DONE_THREE: &str = "{\"done\":null}\n{\"done\":null}\n{\"done\":null}\n";
 
-/// How many of these commands are denied where they are asked again, since they were acted on.
+/// How many of these commands are denied when they are sent again, since they were acted on.
 fn count_denied(alloc: Global, desk: &mut Desk<MemStore>) -> Result<usize, Fail> {
     let again = run(
         alloc,
@@ -235,7 +235,7 @@ fn reply_reaches_the_peer_before_the_next_line_is_read(rt: HostRuntime) -> Resul
     Ok(())
 }
 
-/// Every kind of error but `Interrupted`, after which a call is made again.
+/// Every kind of error except `Interrupted`, after which a call is made again.
 const KINDS: [ErrorKind; 41] = [
     ErrorKind::NotFound,
     ErrorKind::PermissionDenied,
@@ -348,7 +348,7 @@ const READS: [(&str, usize, bool, usize); 4] = [
     ),
 ];
 
-/// Where reads fail they do so with an error of this kind.
+/// If reads fail, they fail with an error of this kind.
 fn assert_reads(rt: &impl Abort, kind: ErrorKind) {
     for (name, interruptions, fails, calls) in READS {
         let counter = Counter {
@@ -419,7 +419,7 @@ const WRITES: [(&str, (usize, bool), (usize, bool), usize, usize); 7] = [
     ),
 ];
 
-/// Where writes and flushes fail they do so with an error of this kind.
+/// If writes and flushes fail, they fail with an error of this kind.
 fn assert_writes(rt: &impl Abort, kind: ErrorKind) {
     for (name, writes, flushes, calls, flush_calls) in WRITES {
         let counter = Counter {

@@ -23,7 +23,7 @@ const NOT_JSON: [&[u8]; 9] = [
     b"{\"day\":\"\xc0\"}",
 ];
 
-/// Lines. Of a repeated member the last value counts, and a text may be escaped.
+/// Lines. If a member is repeated, its last value counts, and a text may be escaped.
 const LINES: &str = r#"
 # reports_why_a_line_is_refused
 {"day":"2026-03-01","caller":"reg","do":"register","holder":"alpha"} => 0

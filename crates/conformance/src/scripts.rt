@@ -270,7 +270,7 @@ fn assert_all(rt: &impl Abort, alloc: Global, scripts: &str) -> Result<(), Fail>
     Ok(())
 }
 
-/// Of a pair of scripts the one whose own lines begin so; the other's begin with `other`.
+/// The script of a pair whose own lines begin so; the other's begin with `other`.
 fn one_of_pair(alloc: Global, pair: &str, own: &str, other: &str) -> Result<String, Fail> {
     let mut script = String::new(alloc);
     for line in pair.lines() {

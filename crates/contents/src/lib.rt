@@ -30,8 +30,8 @@ fn content_entries(alloc: Global, entries: &[RoaPrefix]) -> Result<Vec<Entry>, A
     Ok(all)
 }
 
-/// The ROA content of the authorization; `None` where a maxLength is out of range, which no
-/// history has.
+/// The ROA content of the authorization; `None` if a maxLength is out of range, which it is in no
+/// history.
 fn content_of(alloc: Global, auth: &Auth) -> Result<Option<Content>, AllocError>
     ensures some { IfOk result (λ found.
         IsSome found ↔ (fit_lengths auth.now.entries ≡ true)) }
@@ -41,8 +41,8 @@ fn content_of(alloc: Global, auth: &Auth) -> Result<Option<Content>, AllocError>
     Ok(Content::make(auth.asn, entries).ok())
 }
 
-/// The octets of the authorization's ROA content in lower-case hex; `None` where a maxLength is out
-/// of range, which no history has.
+/// The octets of the authorization's ROA content in lower-case hex; `None` if a maxLength is out of
+/// range, which it is in no history.
 pub fn content_text(alloc: Global, auth: &Auth) -> Result<Option<String>, AllocError>
     ensures some { IfOk result (λ found.
         IsSome found ↔ (fit_lengths auth.now.entries ≡ true)) }

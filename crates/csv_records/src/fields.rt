@@ -41,7 +41,7 @@ pub fn three_fields(row: &ByteRecord) -> Option<(&[u8], &[u8], &[u8])>
     Some((first, second, third))
 }
 
-/// The field in a place, counted from 0; where the record has none, no bytes.
+/// The field in a place, counted from 0; no bytes if the record has none there.
 pub(crate) fn field(row: &ByteRecord, place: usize) -> &[u8]
     ensures { result.now ≡ field_in place (fields_of row.now) }
 {

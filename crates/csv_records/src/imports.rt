@@ -19,7 +19,7 @@ use std::alloc::Global;
 /// How many rows an import may have.
 const MOST_ROWS: usize = 10_000;
 
-/// What may be wrong with an import. Of several faults the one with the lowest number is
+/// What may be wrong with an import. If several faults apply, the one with the lowest number is
 /// reported.
 #[derive(Clone, Copy, Debug, PartialEq, Eq)]
 pub enum ImportFault {
@@ -27,7 +27,7 @@ pub enum ImportFault {
     Form,
     Prefix,
     Asn,
-    /// The maxLength is no number from 0 to 255: whether the prefix takes it, the rules judge.
+    /// The maxLength is no number from 0 to 255. Whether it fits the prefix, the rules judge.
     Max,
     Day,
     /// There are no rows, or too many.
@@ -128,7 +128,7 @@ fn read_row(row: &ByteRecord) -> Result<ImportRow, ImportFault>
     )
 }
 
-/// The row of its five fields, where each was read.
+/// The row of the five fields, each of which was read or not.
 fn row_of(
     asn: Option<Asn>,
     prefix: Option<Prefix>,
@@ -149,7 +149,7 @@ fn row_of(
     row_of_parts(both(first_day, until.ok_or(ImportFault::Day)))
 }
 
-/// The row of parts that came as pairs.
+/// The row of parts that are nested in pairs.
 fn row_of_parts(
     parts: Result<((((Asn, Prefix), u8), Day), Day), ImportFault>,
 ) -> Result<ImportRow, ImportFault>

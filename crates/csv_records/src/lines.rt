@@ -36,7 +36,7 @@ pub fn push_payload_line<const N: usize>(text: &mut ArrayString<N>, vrp: &Vrp)
     text.push_str("\n");
 }
 
-/// The length of a VRP's line, which is not made for it.
+/// The length of a VRP's line, found without making the line.
 pub fn payload_line_length(vrp: &Vrp) -> usize
     ensures { result ≡ length (csv_line (payload_row vrp.now)) }
 {

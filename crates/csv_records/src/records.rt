@@ -30,7 +30,7 @@ impl<'a> CsvRecords<'a> {
         }
     }
 
-    /// The records after the header; `None` where the first record is another, or there is none.
+    /// The records after the header; `None` if the first record is another, or there is none.
     pub fn after_header(
         alloc: Global,
         text: &'a [u8],

@@ -31,8 +31,8 @@ pub record IsAsked {S X E : Type 0} (g : Ghosts S) (old new : Held S) (result : 
 abbrev pub ShowsTheSame : State → State → Type 0
 ShowsTheSame old new = Shows old new old.now old.committed old.in_transaction × KeepsCounts old new
 
--- What a transaction that only asks leaves, once it is rolled back: what a query does, but for the
--- savepoints. It ends with none, and of a connection that is handed in it is not known.
+-- What a transaction of queries alone leaves, once it is rolled back: what a query does, except for
+-- the savepoints. It ends with none, whatever savepoints the given connection had.
 pub record IsAskedOnce {S X E : Type 0} (g : Ghosts S) (old new : Held S) (result : Result X E) : Type 0
   where
     pub idle : new.in_transaction ≡ false

@@ -1,4 +1,4 @@
-//! Which tables a database has that is opened.
+//! Finds which tables a database has.
 ghost use Rattle.std.specs.Prelude.{◌≡◌, ◌↔◌, true, false, Err, IfOk, OnOk, OnErr};
 ghost use Rattle.sqlite_schema.specs.declared.schema.Schema.{Schema as shown_schema};
 ghost use Rattle.tables.specs.Schemas.{has_names, HasPlainTables};
@@ -16,9 +16,9 @@ use tables::{has_names, same_schema, same_tables};
 /// The tables that a database has.
 #[derive(Clone, Copy, PartialEq, Eq)]
 pub(crate) enum Found {
-    /// Those of a desk.
+    /// The tables of a desk.
     Desk,
-    /// Those of schema 1, and whether the index of a holder's runs is there.
+    /// The tables of schema 1, and whether the index of a holder's runs is there.
     Old(bool),
 }
 
@@ -44,8 +44,8 @@ fn old_tables_in_memory(alloc: Global, has_index: bool) -> Result<Connection<Mem
     Ok(conn)
 }
 
-/// Whether the schema has the tables of the other. One that lacks a name of theirs is another
-/// schema.
+/// Whether the schema has the tables of a desk. Fault `Schema`: one of their names is missing.
+/// Fault `Database`: all names are there, but the tables differ.
 fn compare_tables(schema: &Schema, desk: &Schema) -> Result<(), StoreFault>
     ensures tables { OnOk result (schema.now.tables ≡ desk.now.tables) }
     ensures names { result ≡ Err StoreFault.Schema
@@ -62,15 +62,15 @@ fn compare_tables(schema: &Schema, desk: &Schema) -> Result<(), StoreFault>
     Ok(())
 }
 
-/// Whether a table is there that schema 1 has not.
+/// Whether a table is there that schema 1 does not have.
 fn has_new_table(schema: &Schema) -> bool {
     schema.tables.as_slice().iter().any(|table| table.is_named(b"claim")
         || table.is_named(b"entry"))
 }
 
-/// Which of the two schemas it is, of which one has the index of a holder's runs. One that has all
-/// their names, and others, indexes or views beside them, can not be moved; one that has a part of
-/// the tables that schema 1 has not lacks the others.
+/// Whether the schema is schema 1, with or without the index of a holder's runs. Fault `Database`:
+/// all names of schema 1 are there, but something else differs, so it cannot be moved. Fault
+/// `Schema`: a name is missing, or `claim` or `entry` is there without the rest of a desk.
 fn compare_old(schema: &Schema, indexed: &Schema, bare: &Schema) -> Result<Found, StoreFault>
     ensures found { IfOk result (IsFoundOf schema.now indexed.now bare.now) }
     ensures neither { OnErr result (¬ IsSamePlain schema.now indexed.now
@@ -89,7 +89,7 @@ fn compare_old(schema: &Schema, indexed: &Schema, bare: &Schema) -> Result<Found
     Err(StoreFault::Schema)
 }
 
-/// Which tables of schema 1 a schema has that lacks a name of a desk's.
+/// Compares a schema that lacks a name of a desk's tables with schema 1, as `compare_old` does.
 fn find_old(alloc: Global, schema: &Schema) -> Result<Found, StoreFault>
     ensures found { IfOk result (HasFound schema.now) }
     ensures schema { result ≡ Err StoreFault.Schema → ¬ IsOldSchema schema.now }
@@ -99,7 +99,7 @@ fn find_old(alloc: Global, schema: &Schema) -> Result<Found, StoreFault>
     compare_old(schema, indexed.schema(), bare.schema())
 }
 
-/// Which tables a schema has. Those of a desk may have other indexes and views beside them.
+/// Which tables the schema has. A desk may have other indexes and views beside its tables.
 pub(crate) fn find_tables(alloc: Global, schema: &Schema) -> Result<Found, StoreFault>
     ensures found { IfOk result (HasFound schema.now) }
     ensures schema { result ≡ Err StoreFault.Schema → IsStrange schema.now }

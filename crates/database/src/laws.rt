@@ -1,4 +1,4 @@
-//! Laws of the definitions. Each function does nothing: what it ensures is the law.
+//! Theorems, stated as contracts of functions with empty bodies.
 ghost use Rattle.database.specs.Laws.{ClaimsDiffer, DeskTreesHaveTables, EntriesDiffer};
 ghost use Rattle.database.specs.Laws.{OldDeskTreesHaveSchema};
 

@@ -75,7 +75,7 @@ fn open_old<S: Alter>(
     ensures unread { IsClean S.Store conn.new → result ≡ Err StoreFault.Schema
         → ¬ OldTablesRead (state S.Store conn.old).now.trees }
 {
-    // Its clause `settled` is for the proof: outside a transaction all that is shown is committed.
+    // For the proof: its contract says that outside a transaction all that is shown is committed.
     let _idle = conn.is_autocommit();
     let mut tx = conn.transaction();
     let charter = move_desk(&mut tx, alloc, has_index)?;

@@ -14,8 +14,8 @@ use sqlite::{Alter, Connection, Error, Row, Transaction};
 
 /// All rows that a query answers. The database stays as it is.
 ///
-/// The text is compiled first, since only a connection that compiled it is known to be open, and of
-/// one that is shut it is not known that the text commits nothing.
+/// The text is compiled first: a connection that compiled it is known to be open, and only for an
+/// open one is it known that the text commits nothing.
 pub fn ask<S: Alter>(
     conn: &mut Connection<S>,
     sql: &str,
@@ -28,7 +28,7 @@ pub fn ask<S: Alter>(
         Shown sql.now (bound values.now) (state S.Store conn.old) (state S.Store conn.new)
         rows.items) }
 {
-    // Its clause `settled` is for the proof: outside a transaction all that is shown is committed.
+    // For the proof: its contract says that outside a transaction all that is shown is committed.
     let _idle = conn.is_autocommit();
     let query = conn.prepare(sql)?;
     query.query_all(conn, values)

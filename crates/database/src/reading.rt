@@ -54,7 +54,7 @@ trait InTable: FromRow {
         ensures { SelectsAll Self.width tree places result.now };
 }
 
-/// A value that each row of one table shows, and that has a place among the others.
+/// A value that each row of one table shows, with an order of such values.
 trait InOrder: InTable {
     ghost order: { Self → Self → Ordering };
 
@@ -263,7 +263,7 @@ pub(crate) fn read_number<S: Alter>(
     Ok(())
 }
 
-/// The charter of these operators and this pool. Where they make none, it is another schema.
+/// The charter of these operators and this pool. If they make none, the fault is `Schema`.
 fn make_charter(operators: Vec<Name>, pool: Vec<Prefix>) -> Result<Charter, StoreFault>
     ensures operators { IfOk result
         (λ charter. IsPermutation operators.items (operators_of charter)) }
@@ -352,7 +352,7 @@ fn read_auths<S: Alter>(tx: &mut Transaction<'_, S>, alloc: Global) -> Result<()
     check_auths(alloc, &claims, &entries)
 }
 
-/// Whether no exception has the file of the one that is `MOST_ENTRIES` places before it.
+/// Whether no exception is of the same file as the one `MOST_ENTRIES` places before it.
 fn are_apart(exceptions: &[ExceptionRow]) -> bool
     ensures { result ≡ list_all (λ p. not (bytes_eq p.0.file p.1.file))
         (zip exceptions.now (drop MOST_ENTRIES exceptions.now)) }
@@ -373,8 +373,8 @@ fn are_few(mut exceptions: Vec<ExceptionRow>) -> bool
     are_apart(&exceptions)
 }
 
-/// Checks that each row of the table `slurm` reads. More of a SLURM file than it may have are those
-/// of another schema.
+/// Checks that each row of the table `slurm` reads. If a SLURM file has more exceptions than it may
+/// have, the fault is `Schema`.
 fn read_exceptions<S: Alter>(tx: &mut Transaction<'_, S>, alloc: Global) -> Result<(), StoreFault>
     requires { WhenClean S.Store IsReady tx.old }
     ensures asked { IsAskedInside S.Store tx.old tx.new result }
@@ -408,7 +408,7 @@ pub(crate) fn read_inside<S: Alter>(
 {
     read_number(tx, false)?;
     let charter = read_charter(tx, alloc)?;
-    // Its clause `valid` is for the proof: the operators and the pool make a charter.
+    // For the proof: its contract says that the operators and the pool make a charter.
     let _operators = charter.operators();
     read_holders(tx, alloc)?;
     read_auths(tx, alloc)?;
@@ -416,7 +416,7 @@ pub(crate) fn read_inside<S: Alter>(
     Ok(charter)
 }
 
-/// Reads all rows so in a transaction of its own, which is rolled back.
+/// Like `read_inside`, in a transaction of its own, which is rolled back.
 pub(crate) fn read_tables<S: Alter>(
     conn: &mut Connection<S>,
     alloc: Global,
@@ -430,8 +430,8 @@ pub(crate) fn read_tables<S: Alter>(
     ensures schema { IsClean S.Store conn.new → result ≡ Err StoreFault.Schema
         → ¬ TablesRead (state S.Store conn.old).now.trees }
 {
-    // Two clauses are for the proof: what is shown obeys the schema, and outside a transaction all
-    // of it is committed.
+    // For the proof: their contracts say that what is shown obeys the schema, and that outside a
+    // transaction all of it is committed.
     let _schema = conn.schema();
     let _idle = conn.is_autocommit();
     let mut tx = conn.transaction();

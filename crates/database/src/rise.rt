@@ -1,4 +1,4 @@
-//! Whether the rowids of rows rise.
+//! Checks whether the rowids of rows rise.
 ghost use Rattle.std.specs.Prelude.{◌≡◌, ◌↔◌, true, length, All, IsTrue};
 ghost use Rattle.std.specs.List.{AllAdjacentBelow};
 ghost use Rattle.sqlite_value.specs.Value.{owned};
@@ -8,7 +8,7 @@ ghost use Rattle.database.specs.steps.Numbered.{last_value, is_integer_below, Ri
 use sqlite::Row;
 use sqlite::types::ValueRef;
 
-/// The last value of the row, and NULL where there is none.
+/// The last value of the row, or NULL if there is none.
 fn last_value(row: &Row) -> ValueRef<'_>
     ensures { owned result ≡ last_value row.now }
 {

@@ -7,8 +7,8 @@ use sqlite::Row;
 use std::alloc::Global;
 use tables::{FromRow, in_rows};
 
-/// The values that the first columns of the rows show, in their order. A row that shows none is one
-/// of another schema.
+/// The values that the first columns of the rows show, in their order. If a row shows none, the
+/// fault is `Schema`.
 pub fn read_all<T: FromRow>(alloc: Global, rows: &[Row]) -> Result<Vec<T>, StoreFault>
     ensures shown { IfOk result (λ values.
         map (first_columns T.width) rows.now ≡ map T.cells values.items) }
@@ -19,7 +19,7 @@ pub fn read_all<T: FromRow>(alloc: Global, rows: &[Row]) -> Result<Vec<T>, Store
     read_within(Vec::with_capacity(alloc, rows.len())?, rows)
 }
 
-/// The same in a vector that has room for them: only a row that shows none is a fault.
+/// The same into a vector that has room for them, so that only a row that shows none is a fault.
 fn read_within<T: FromRow>(values: Vec<T>, rows: &[Row]) -> Result<Vec<T>, StoreFault>
     requires empty { values.items ≡ [] }
     requires room { length rows.now ≤ vec_capacity values }

@@ -1,9 +1,9 @@
--- What the desk may reply to a request on a history, and the history that this leaves: a command is
--- accepted exactly where its rules hold on the commands accepted before it, else it changes nothing
--- and is answered with the first rule that fails; what is shown, exported and judged is what the
--- history defines, and what changes would do is what the history defines that they would leave.
--- Where an allocation fails, or the database does not answer, the reply is Unavailable and, until a
--- stop, nothing has changed; what may be found after one is in `CrashOutcomes`.
+-- What the desk may reply to a request on a history, and the history that this leaves. A command is
+-- accepted if and only if its rules hold for the commands accepted before it; otherwise nothing
+-- changes, and the reply names the first rule that fails. What is shown, exported and judged is
+-- what the history defines, and a what-if reports what the history would define after its changes.
+-- If an allocation fails, or the database does not answer, the reply is Unavailable and nothing
+-- changes while the desk runs; `CrashOutcomes` has what may be found after it stops.
 use Rattle.std.specs.Prelude.{◌≡◌, ℕ, Bool, true, false, List, [], ◌∷◌, Some, None, ◌↔◌, Contains, IsSomeAnd}
 use Rattle.std.specs.String.{string_bytes}
 use Rattle.addr.specs.OriginValidation.{HasState}
@@ -117,9 +117,9 @@ AnswersValidity history day routes (Validities states) = AreStatesOn history day
 AnswersValidity history day routes Unavailable = Unit {0}
 AnswersValidity history day routes other = ⊥
 
--- The reply to what changes at a holder would do: of each route the state now, and that over the
--- history that the changes would leave. Where one would be denied, its place, counted from 1, and
--- the first rule that it fails.
+-- The reply to a what-if: for each route its state now, and its state over the history that the
+-- changes would leave. If a change would be denied, the first rule that it fails, and its place,
+-- counted from 1.
 abbrev pub AnswersWhatIf :
     Charter → History → ℕ → List ℕ → List ℕ → List Proposed → List Route → Reply → Type 0
 AnswersWhatIf charter history day caller holder changes routes (Report states) =

@@ -44,8 +44,8 @@ MayBeLeft charter history pending trees =
     ⊎ ((asked : Asked) × (after : History) × Contains pending asked
     × IsAcceptedOn charter history asked after × HoldDesk charter after trees)
 
--- The requests that a crash may leave made although they were not accepted. A request that was answered Unavailable
--- may be found made, until another is accepted.
+-- The requests that a crash may leave applied although they were not accepted: those that were answered Unavailable
+-- since the last one that was accepted.
 abbrev pub pending_after : Asked → Reply → List Asked → List Asked
 pending_after asked (Done number) pending = []
 pending_after asked (Imported made present) pending = []

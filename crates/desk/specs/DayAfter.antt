@@ -18,8 +18,8 @@ makes_auths (Amend holder n maxes until) = true
 makes_auths (Import holder rows) = true
 makes_auths _ = false
 
--- An accepted command leaves the day, except that other exceptions let it go, and so may what makes authorizations,
--- where their VRPs find no memory.
+-- An accepted command leaves the day, except that new SLURM files drop it, and a command that makes authorizations may
+-- drop it, if an allocation for their VRPs fails.
 abbrev pub DayAfterCommand : Command → Option ℕ → Option ℕ → Type 0
 DayAfterCommand (Slurm files) old new = new ≡ None
 DayAfterCommand (Create holder terms) old new = (new ≡ old) ⊎ (new ≡ None)
@@ -27,7 +27,8 @@ DayAfterCommand (Amend holder n maxes until) old new = (new ≡ old) ⊎ (new �
 DayAfterCommand (Import holder rows) old new = (new ≡ old) ⊎ (new ≡ None)
 DayAfterCommand command old new = new ≡ old
 
--- A question about the VRPs of a day keeps that day. One that was not kept may be unavailable, and then none is kept.
+-- A query for the VRPs of a day keeps that day. If it was not kept, the reply may be Unavailable, and then no day is
+-- kept.
 abbrev pub MovesDay : ℕ → Reply → Option ℕ → Option ℕ → Type 0
 MovesDay day reply old new =
     (new ≡ Some day) ⊎ ((new ≡ None) × (reply ≡ Unavailable) × (old ≢ Some day))
@@ -37,8 +38,7 @@ DayAfterQuery day PayloadsQuery reply old new = MovesDay day reply old new
 DayAfterQuery day (ValidityQuery routes) reply old new = MovesDay day reply old new
 DayAfterQuery day query reply old new = new ≡ old
 
--- A request that is asked on the day leaves the day that is kept, or makes this of it. A command that is not accepted
--- leaves it.
+-- What a request on the day makes of the day that is kept. A command that is not accepted leaves it.
 abbrev pub DayAfter : ℕ → Request → Reply → Option ℕ → Option ℕ → Type 0
 DayAfter day (CommandRequest command) reply old new =
     (is_accepted reply ≡ true → DayAfterCommand command old new)

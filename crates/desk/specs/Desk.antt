@@ -20,8 +20,8 @@ store_of desk = desk.store
 abbrev pub charter_of : {S : Type 0} → Desk S → Charter
 charter_of desk = (store_of desk).charter
 
--- The disk of the desk returned what was written, as memory always does. Of a desk whose disk did not,
--- nothing is known.
+-- The disk of the desk returned what was written, as memory always does. If the disk did not, nothing is known of the
+-- desk.
 abbrev pub IsOnCleanDisk : {S : Type 0} → Ghosts S → Desk S → Type 0
 IsOnCleanDisk g desk = HasCleanDisk (connection_state g (store_of desk))
 
@@ -29,25 +29,25 @@ IsOnCleanDisk g desk = HasCleanDisk (connection_state g (store_of desk))
 abbrev pub HoldsRowsOf : {S : Type 0} → Ghosts S → Desk S → History → Type 0
 HoldsRowsOf g desk history = (rows : AllRows) × HasRows rows history × Holds g (store_of desk) rows
 
--- Of a shut connection the tables say nothing any more. There what is kept of a day is that of the history.
+-- Once the connection is shut, nothing is known of the tables. The kept day is then still that of the history.
 abbrev pub KeepsWhileShut : {S : Type 0} → Ghosts S → Desk S → History → Type 0
 KeepsWhileShut g desk history =
     IsOnCleanDisk g desk → (connection_state g (store_of desk)).is_open ≡ false
     → IfSome desk.kept (IsDayOf history)
 
--- the tables of the desk hold the rows of the history, and what is kept while they say nothing is of it too
+-- the tables of the desk hold the rows of the history, and the day that is kept over a shut connection is of it too
 abbrev pub HoldsHistory : {S : Type 0} → Ghosts S → Desk S → History → Type 0
 HoldsHistory g desk history =
     (rows : AllRows) × HasRows rows history × Holds g (store_of desk) rows × KeepsWhileShut g desk history
 
--- it is so of each legal history that the desk held before, where the disk returned what was written
+-- this holds for each legal history that the desk held before, if the disk returned what was written
 abbrev pub OfHistories : {S : Type 0} → Ghosts S → Desk S → Desk S → (History → Type 0) → Type 0
 OfHistories g old new so =
     IsOnCleanDisk g new → (history : History) → IsLegal (charter_of old) history
     → HoldsHistory g old history → so history
 
--- it is so of each legal history whose rows the tables held before, where the disk returned what was
--- written
+-- this holds for each legal history whose rows the tables held before, if the disk returned what
+-- was written
 abbrev pub OfRows : {S : Type 0} → Ghosts S → Desk S → Desk S → (History → Type 0) → Type 0
 OfRows g old new so =
     IsOnCleanDisk g new → (history : History) → IsLegal (charter_of old) history
@@ -65,8 +65,8 @@ pub record Represents {S : Type 0} (g : Ghosts S) (charter : Charter) (desk : De
   pub legal : IsLegal charter history
   pub rows : HoldsHistory g desk history
 
--- Where the tables that were found held a charter and the rows of a legal history, in either schema, the desk has
--- that charter and that history.
+-- If the tables that were found held a charter and the rows of a legal history, in either schema, the desk has that
+-- charter and that history.
 abbrev pub ContinuesHistories : {S : Type 0} → Ghosts S → State → Desk S → Type 0
 ContinuesHistories g found desk =
     (charter : Charter) (history : History) (rows : AllRows)

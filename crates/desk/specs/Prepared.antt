@@ -1,4 +1,4 @@
--- A day that a desk keeps on a question.
+-- A day that a desk keeps for a query.
 use Rattle.std.specs.Prelude.{◌≡◌, ℕ, Bool, true, false, Option, Some, None, IfSome, option_map}
 use Rattle.kept.specs.Days.{IsDayOf}
 use Rattle.kept.specs.KeptDay.{KeptDay}
@@ -10,9 +10,8 @@ use Rattle.desk.specs.declared.desk.Desk.{Desk}
 abbrev pub day_of : Option KeptDay → Option ℕ
 day_of kept = option_map (λ day. day.day) kept
 
--- The day is kept where the answer is yes; else no day is. Where it was kept already, nothing is asked and the answer
--- is yes. The tables are read at most, and what is kept is of each legal history that the desk held, and so is all
--- that it holds.
+-- If the answer is yes, the day is kept; otherwise no day is. If it was kept already, the answer is yes and nothing is
+-- read. The tables are read at most: the desk holds each legal history that it held, and the kept day is of each.
 pub record IsPrepared {S : Type 0} (g : Ghosts S) (day : ℕ) (done : Bool) (old new : Desk S) : Type 0 where
   pub read : IsRead g (store_of old) (store_of new)
   pub kept : done ≡ true → day_of new.kept ≡ Some day

@@ -1,4 +1,4 @@
--- Requests that are asked one after the other.
+-- Requests, one after the other.
 use Rattle.std.specs.Prelude.{◌≡◌, List, [], ◌∷◌}
 use Rattle.registry.specs.History.{History}
 use Rattle.registry.specs.Values.{HistoryFits}
@@ -11,8 +11,8 @@ use Rattle.desk.specs.declared.desk.Desk.{Desk}
 use Rattle.registry.specs.declared.asked.Asked.{Asked}
 use Rattle.desk.specs.declared.reply.Reply.{Reply}
 
--- one reply to each request, which is asked on the history that the one before it left; a reply of
--- Unavailable leaves the history
+-- one reply to each request, on the history that the one before it left; a reply of Unavailable
+-- leaves the history
 abbrev pub Runs : Charter → History → List Asked → List Reply → History → Type 0
 Runs charter before [] [] after = after ≡ before
 Runs charter before [] (reply ∷ replies) after = ⊥

@@ -91,7 +91,8 @@ impl<S: Alter + Drop> Desk<S> {
     }
 
     /// A desk over a database that has the tables of one, with the charter and the rows that they
-    /// hold. A connection in a transaction is refused, and a limit of its steps is lifted.
+    /// hold. One of schema 1 is moved in one commit. A connection in a transaction is refused, and
+    /// a limit of its steps is lifted.
     pub fn open_from(alloc: Global, conn: Connection<S>) -> Result<Self, StoreFault>
         ensures opened { IfOk result (λ desk. IfClean S.Store (store_of desk)
             (IsOpened S.Store (state S.Store conn) (store_of desk))) }
@@ -113,8 +114,8 @@ impl<S: Alter + Drop> Desk<S> {
         }
     }
 
-    /// As `open_from`, and gives the connection back where it is refused, so that whether its disk
-    /// returned what was written can be said of it.
+    /// Like `open_from`, but returns the connection if it is refused, so that a contract can say
+    /// whether its disk returned what was written.
     pub fn open_or_return(
         alloc: Global,
         conn: Connection<S>,
@@ -141,7 +142,7 @@ impl<S: Alter + Drop> Desk<S> {
         store::laws::tables_that_read_are_ours();
         store::laws::tables_of_a_history_read();
         store::laws::old_tables_of_a_history_read();
-        // Its clause `live` is for the proof: what is shown obeys the schema.
+        // For the proof: its contract says that what the connection shows obeys the schema.
         let _schema = conn.schema();
         match Store::open_or_return(alloc, conn) {
             Ok(store) => {
@@ -189,8 +190,8 @@ impl<S: Alter> Desk<S> {
         }
     }
 
-    /// Replies to each of the requests, in their order. Room is made for all replies first; where
-    /// there is none, nothing is acted on.
+    /// Replies to each of the requests, in their order. Room is allocated for all replies first; if
+    /// that fails, nothing is acted on.
     pub fn run(&mut self, asked: &[Asked]) -> Result<Vec<Reply>, AllocError>
         ensures answered { IfOk result (λ replies. OfHistories S.Store self.old self.new (λ history.
             AreAnswered S.Store (charter_of self.old) history asked.now replies.items self.new)) }
@@ -222,14 +223,14 @@ impl<S: Alter> Desk<S> {
         Ok(replies)
     }
 
-    /// For the proof alone: what is kept is of the rows that the tables hold.
+    /// For the proof: the kept day is of the rows that the tables hold.
     fn keeps_its_rows(&self)
         ensures { HoldsKept S.Store self.now.store self.now.kept }
     {
         let _kept = &self.kept;
     }
 
-    /// The rows of the holder; none where it is not registered.
+    /// The rows of the holder; `None` if it is not registered.
     fn load(&mut self, holder: &Name) -> Result<Option<HolderRows>, StoreFault>
         ensures read { IsRead S.Store self.old.store self.new.store }
         ensures same { self.new.kept ≡ self.old.kept }

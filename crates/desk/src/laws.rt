@@ -1,15 +1,14 @@
-//! Laws over the definitions alone: each function's contract states one, and its body does nothing
-//! else.
+//! Theorems, stated as contracts of functions whose bodies at most call other theorems.
 
 ghost use Rattle.desk.specs.AsDone.{WhatIfAsDone};
 ghost use Rattle.desk.specs.HolderAnswers.{AnswersByEntries, OneReply};
 
 pub use isolation::laws::{again, import_again, parts};
 
-/// What answers a request on a legal history answers it on the entries that name its holders,
-/// except for a delegation, the VRPs of a day and the validity of routes, which concern all
-/// holders. Hypothetical changes are accepted or denied by those entries, and their states are over
-/// the VRPs of all holders.
+/// A reply that answers a request on a legal history also answers it on the entries that name the
+/// request's holders alone. Exceptions are a delegation, the VRPs of a day and the validity of
+/// routes, which concern all holders. Hypothetical changes are accepted or denied by those entries,
+/// and their states are over the VRPs of all holders.
 pub(crate) fn answers_by_entries()
     ensures { AnswersByEntries }
 {

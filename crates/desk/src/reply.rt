@@ -8,27 +8,29 @@ use store::StoreFault;
 /// What the desk answers to a request.
 #[derive(Debug, Drop)]
 pub enum Reply {
-    /// A command was accepted; with the number of the grant or authorization that it made.
+    /// A command was accepted. The number is that of the grant or authorization that it made, if it
+    /// made one.
     Done(Option<u32>),
-    /// An import was accepted; with how many authorizations it made, and how many rows were already
+    /// An import was accepted: how many authorizations it made, and how many rows were already
     /// authorized.
     Imported { made: u64, present: u64 },
     Shown(Auth),
-    /// By rising number.
+    /// The active authorizations that the caller may see, by rising number.
     Listed(Vec<Auth>),
     /// The octets of an authorization's ROA content, in lower-case hex.
     Content(String),
     /// The VRPs of the day, rising.
     Payloads(Vrps),
-    /// In the order of the routes.
+    /// The state of each route, in the order of the request.
     Answers(Vec<Validity>),
-    /// Of each route, in their order: the state now, and after the changes.
+    /// The state of each route now and after the changes, in the order of the request.
     Report(Vec<(Validity, Validity)>),
-    /// The first rule that does not hold; for an import also its row, for a what-if request its
-    /// change, counted from 1.
+    /// The first rule that fails; for an import also the row, and for a what-if the change, counted
+    /// from 1.
     Denied(Rule, Option<u64>),
-    /// An allocation failed, or the database did not answer. Nothing has changed until a stop; after
-    /// one a command that was answered so may be found made.
+    /// An allocation failed, or the database did not answer. Nothing changes while the desk runs.
+    /// If it stops before another command is accepted, a desk that is opened again may have this
+    /// command applied.
     Unavailable,
 }
 

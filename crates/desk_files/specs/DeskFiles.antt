@@ -120,8 +120,8 @@ abbrev pub IsOfDatabase : ProgramFault → Type 0
 IsOfDatabase fault = (fault ≡ Database) ⊎ (fault ≡ Memory)
 
 -- Why the desk in the files was not opened: the files could not be opened, or the database that was found there was
--- refused and given back. So the fault is `Schema` only where the files hold a database of another schema, or the
--- disk returned what was not written.
+-- refused and returned. So the fault is `Schema` only where the files hold a database of another schema, or the disk
+-- returned what was not written.
 abbrev pub RefusesFiles : {D : Type 0} {g : Ghosts D} → Image → OpenFault (FileStore D g) → Type 0
 RefusesFiles image (File fault) = IsOfDatabase fault
 RefusesFiles {D} {g} image (Store fault conn) =

@@ -32,12 +32,12 @@ use store::StoreFault;
 pub enum OpenFault<S: Alter> {
     /// The file could not be opened, or is no database.
     File(ProgramFault),
-    /// The database was refused. Its connection is given back, so that whether its disk returned
-    /// what was written can be said of it.
+    /// The database was refused. Its connection is returned, so that a contract can say whether its
+    /// disk returned what was written.
     Store(StoreFault, Connection<S>),
 }
 
-/// A connection to the file at the path, which is made where there is none.
+/// A connection to the file at the path, which is made if there is none.
 pub fn connect<S: Start>(
     rt: &HostRuntime,
     path: &str,
@@ -52,7 +52,7 @@ pub fn connect<S: Start>(
     }
 }
 
-/// The program's fault where files could not be opened.
+/// The program's fault if files could not be opened.
 fn fault_of_opening(error: &Error) -> ProgramFault
     ensures { IsOfDatabase result }
 {
@@ -81,8 +81,8 @@ pub fn make_desk<D: Disk + Drop>(
     Ok(files)
 }
 
-/// The database file at the path and its log, which are made where there are none, and the options
-/// to open them with. A path that SQLite would not take as that of a file is refused.
+/// The database file at the path and its log, which are made if there are none, and the options to
+/// open them with. A path that SQLite would not take as that of a file is refused.
 pub fn files_at<S: Start>(
     rt: &HostRuntime,
     path: &str,
@@ -106,7 +106,7 @@ pub fn files_at<S: Start>(
     Ok((files, Options::new(random.hash_one(&0u8))))
 }
 
-/// The program's fault where there are no files at a path.
+/// The program's fault if there are no files at a path.
 fn fault_of_path(error: &OpenError) -> ProgramFault
     ensures { IsOfDatabase result }
 {
@@ -199,7 +199,7 @@ pub fn close_desk<D: Disk + Drop>(desk: Desk<FileStore<D>>) -> Result<Files<D>, 
     ensures err { IfErr result (λ fault. fault ≡ ProgramFault.Database) }
 {
     let conn = desk.close();
-    // Its clause `live` is for the proof: what is committed obeys its schema.
+    // For the proof: its contract says that what is committed obeys its schema.
     let _schema = conn.schema();
     match conn.close_files() {
         Ok(files) => Ok(files),

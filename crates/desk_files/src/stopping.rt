@@ -16,8 +16,8 @@ use sqlite_pager::Options;
 use sqlite_store::FileStore;
 use std::alloc::Global;
 
-/// Gives back the files of the desk as they are, as a process leaves them that ends at this moment:
-/// nothing more is written, and what was not committed is lost.
+/// Returns the files of the desk as a process leaves them that ends at this moment: nothing more is
+/// written, and what was not committed is lost.
 pub fn stop<D: Disk + Drop>(desk: Desk<FileStore<D>>) -> Files<D>
     ensures clean { AreClean D.Disk result.log result.db → IsOnCleanDisk over_files desk }
     ensures left { AreClean D.Disk result.log result.db → LeavesFiles D.Disk desk result }

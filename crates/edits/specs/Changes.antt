@@ -27,7 +27,7 @@ RowsBecome change old new =
     (charter : CharterSets) (rows : AllRows) → TablesHold charter rows old.trees
     → TablesHold charter (changed_rows change rows) new.trees × PlacesExceptions change old.trees new.trees
 
--- the transaction goes on, the schema stays, and it is so of the databases before and after
+-- the transaction goes on, the schema stays, and this holds for the databases before and after
 pub record MakesChange (so : Database → Database → Type 0) (old new : State) : Type 0 where
   pub was_open : IsTrue old.is_open
   pub ready : IsReady new

@@ -100,8 +100,8 @@ fn execute_counting<S: Alter>(
     tx.execute(sql, values)
 }
 
-/// Puts an authorization in the place of the one of its number, where there is one. The two may
-/// have different entries, so those of the old one go.
+/// Replaces the authorization of the same number, if there is one. The two may have different
+/// entries, so those of the old one are deleted.
 pub(crate) fn amend_auth<S: Alter>(
     tx: &mut Transaction<'_, S>,
     holder: &Name,
@@ -122,8 +122,8 @@ pub(crate) fn amend_auth<S: Alter>(
     put_entries(tx, holder, &claim, entries)
 }
 
-/// Takes away the authorization of this number, where there is one. Its entries go first, since
-/// they name it.
+/// Deletes the authorization of this number, if there is one. Its entries go first, since they name
+/// it.
 pub(crate) fn take_auth<S: Alter>(
     tx: &mut Transaction<'_, S>,
     holder: &Name,
@@ -137,7 +137,7 @@ pub(crate) fn take_auth<S: Alter>(
     execute(tx, DELETE_CLAIM, &number_values(holder, number))
 }
 
-/// Takes away the authorizations of these numbers.
+/// Deletes the authorizations of these numbers.
 pub(crate) fn take_auths<S: Alter>(
     tx: &mut Transaction<'_, S>,
     holder: &Name,

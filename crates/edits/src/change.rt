@@ -49,8 +49,8 @@ fn put_new_auths<S: Alter>(
     set_created(tx, holder, created)
 }
 
-/// Takes away some of the holder's runs, puts others, and takes away the authorizations of these
-/// numbers. A run that is put may begin where one that is taken away does, so they go first.
+/// Deletes some of the holder's runs, puts others, and deletes the authorizations of these numbers.
+/// A new run may begin where a deleted one does, so the deletions come first.
 fn replace_holdings<S: Alter>(
     tx: &mut Transaction<'_, S>,
     holder: &Name,

@@ -48,7 +48,7 @@ impl ExceptionEntry for Vrp {
     }
 }
 
-/// Takes all exceptions away.
+/// Deletes all exceptions.
 fn take_exceptions<S: Alter>(tx: &mut Transaction<'_, S>) -> Result<(), Error>
     requires { WhenClean S.Store IsReady tx.old }
     ensures done { IfDone S.Store result (TakesRows slurm.tree) tx.old tx.new }
@@ -119,7 +119,7 @@ fn put_files<S: Alter>(tx: &mut Transaction<'_, S>, files: &[NamedSlurm]) -> Res
     Ok(())
 }
 
-/// Puts the exceptions of the files in the place of all that there were.
+/// Replaces all exceptions by those of the files.
 pub(crate) fn replace_files<S: Alter>(
     tx: &mut Transaction<'_, S>,
     files: &SlurmSet,

@@ -30,7 +30,7 @@ impl HolderRow for Granted {
     }
 }
 
-/// Takes away the grant of this number, where there is one.
+/// Deletes the grant of this number, if there is one.
 pub(crate) fn take_grant<S: Alter>(
     tx: &mut Transaction<'_, S>,
     holder: &Name,

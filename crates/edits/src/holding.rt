@@ -30,7 +30,7 @@ impl HolderRow for Span {
     }
 }
 
-/// Takes away a run of addresses, where the holder holds it.
+/// Deletes a run of addresses, if the holder holds it.
 fn take_holding<S: Alter>(
     tx: &mut Transaction<'_, S>,
     holder: &Name,
@@ -50,7 +50,7 @@ fn take_holding<S: Alter>(
     )
 }
 
-/// Takes away runs of addresses, where the holder holds them.
+/// Deletes those of these runs that the holder holds.
 pub(crate) fn take_holdings<S: Alter>(
     tx: &mut Transaction<'_, S>,
     holder: &Name,

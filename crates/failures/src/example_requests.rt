@@ -1,4 +1,4 @@
-//! The requests that the desks of these tests are asked, one after the other.
+//! The requests that are sent to the desks of these tests, one after the other.
 use addr::{Name, Prefix};
 use desk::{Asked, Desk, Reply};
 use library_conformance::rows::{split_row, table_rows};
@@ -10,7 +10,7 @@ use std::process::Abort;
 use std::test::Fail;
 use web::{Device, read_line_request, run_script, write_reply};
 
-/// Each with its reply, and with the reply where it is asked once more.
+/// Each with its reply, and with the reply when it is sent again.
 const REQUESTS: &str = r#"
 reg {"do":"register","holder":"alpha"} => {"done":null} => {"denied":"fresh"}
 reg {"do":"delegate","holder":"alpha","prefix":"192.0.2.0/24"} => {"done":null} => {"denied":"free"}
@@ -28,7 +28,7 @@ pub(crate) const REQUEST_COUNT: usize = 8;
 /// How many come before the create.
 pub(crate) const COUNT_BEFORE_CREATE: usize = 3;
 
-/// What is there once all were asked, however often.
+/// What is there once all were sent, however often.
 const AFTERWARDS: &str = r#"
 ann {"do":"list","holder":"alpha"} => {"listed":[{"number":1,"asn":64496,"prefix":"192.0.2.0/24","max":24,"from":"2026-01-01","until":"2026-12-31"},{"number":2,"asn":64497,"prefix":"192.0.2.0/25","max":25,"from":"2026-01-01","until":"2026-12-31"},{"number":3,"asn":64498,"prefix":"192.0.2.128/25","max":26,"from":"2026-01-01","until":"2026-12-31"}]}
 reg {"do":"reclaim","holder":"beta","prefix":"198.51.100.0/24"} => {"done":null}
@@ -125,11 +125,11 @@ pub(crate) fn text_of(alloc: Global, lists: &[Vec<Reply>]) -> Result<String, Fai
 pub(crate) struct Answers {
     /// How many of them were.
     pub(crate) count: usize,
-    /// The last of those that were answered only when they were asked again.
+    /// The last of those that were answered only when they were sent again.
     pub(crate) delayed: Option<usize>,
 }
 
-/// Asks the first of the requests, so many, until the desk is unavailable twice.
+/// Sends the first of the requests, so many, until the desk is unavailable twice.
 pub(crate) fn ask_first<S: Alter>(
     rt: &impl Abort,
     alloc: Global,
@@ -159,7 +159,7 @@ pub(crate) fn ask_first<S: Alter>(
     Ok(answers)
 }
 
-/// Asks all again. The desk had the first of them, so many as are returned, and none after these.
+/// Sends all again. The desk had the first of them, as many as are returned, and none after these.
 pub(crate) fn count_found<S: Alter>(
     rt: &impl Abort,
     alloc: Global,

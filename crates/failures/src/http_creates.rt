@@ -37,7 +37,7 @@ fn serve_create<S: Alter>(
     Ok(serve_one(alloc, &mut source, &mut drain, desk, day))
 }
 
-/// Asks the requests before the create as lines, and the create over HTTP.
+/// Sends the requests before the create as lines, and the create over HTTP.
 pub(crate) fn ask_until_create<S: Alter>(
     rt: &impl Abort,
     alloc: Global,

@@ -31,10 +31,10 @@ enum End {
     Early,
     /// The desk was unavailable at the command and from there on, except for the day that it kept.
     Shut,
-    /// The desk was unavailable at the command when it was asked again too, and read another day
+    /// The desk was unavailable at the command, even when it was sent again, and read another day
     /// from its cache.
     Cached,
-    /// The desk was unavailable at the command, and made it when it was asked again.
+    /// The desk was unavailable at the command, and made it when it was sent again.
     Delayed,
     /// The disk did not fail.
     Done,

@@ -5,7 +5,7 @@ use crate::sweep::{Course, Sweep, small_options};
 use sqlite_disk::Memory;
 use std::test::Fail;
 
-/// Each request was refused and answered when it was asked again in some run, and in another the
+/// Each request was refused and answered when it was sent again in some run, and in another the
 /// desk was unavailable from there on.
 #[test]
 fn refused_call_while_the_log_grows(rt: HostRuntime) -> Result<(), Fail> {

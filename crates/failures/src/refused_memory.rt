@@ -77,8 +77,8 @@ const NO_GRANT: &str = "{\"denied\":\"grant\"}\n";
 
 const UNAVAILABLE: &str = "{\"unavailable\":true}\n";
 
-/// The replies to the lines, and what a list answers then. Of each but the first another line is
-/// Unavailable.
+/// The replies to the lines, and the reply to a list after them. In each row except the first, one
+/// line is Unavailable, each time another.
 const ALLOWED: [(&str, &str); 5] = [
     (
         "{\"done\":null}\n{\"done\":null}\n{\"done\":1}\n{\"done\":1}\n",
@@ -144,7 +144,7 @@ fn replies_to(
     (result, page, rest.len())
 }
 
-/// What is replied to a line; it is sent again where there was no memory for it.
+/// The reply to a line, which is sent again if there was no memory for it.
 fn reply_to(alloc: Global, desk: &mut Desk<MemStore>, line: &str) -> Page {
     let (result, page, _) = replies_to(alloc, desk, line);
     if result.is_ok() && page.text() != UNAVAILABLE.as_bytes() {

@@ -88,7 +88,7 @@ fn file_of<D: FailingFile>(alloc: Global, bytes: &[u8]) -> Result<D, Fail> {
     Ok(D::failing(file, u64::MAX))
 }
 
-/// A new desk; none where the disk failed before there was one.
+/// A new desk; `None` if the disk failed before there was one.
 pub(crate) fn begin<D: Disk + Drop>(
     alloc: Global,
     files: Files<D>,
@@ -123,7 +123,7 @@ fn found_in<D: Disk + Drop>(
     count_found(rt, alloc, &mut desk)
 }
 
-/// What a run asks of its desk.
+/// What a run sends to its desk.
 #[derive(Clone, Copy)]
 pub(crate) enum Course {
     /// All requests, as lines.
@@ -162,7 +162,7 @@ pub(crate) struct Sweep {
     course: Course,
     /// How many runs ended before there was a desk.
     pub(crate) without_desk: usize,
-    /// The requests that were answered only when they were asked again.
+    /// The requests that were answered only when they were sent again.
     pub(crate) delayed: Vec<usize>,
     /// The requests that were in progress at a stop, and were found.
     pub(crate) kept: Vec<usize>,
@@ -217,7 +217,8 @@ impl Sweep {
         self.assert_found(rt, files, answered)
     }
 
-    /// A new desk is asked until it is unavailable, and stops. Whether a file failed.
+    /// Sends requests to a new desk until it is unavailable, and stops it; returns whether a file
+    /// failed.
     fn run<D: FailingFile + Drop>(
         &mut self,
         rt: &impl Abort,

@@ -1,6 +1,6 @@
--- The histories that requests leave, also those of several parts: each is legal where the one before
--- it is, and its values are those of their types where those of the one before it and of the request
--- are.
+-- The histories that requests leave, even requests of several parts: each is legal if the one
+-- before it is, and its values are those of their types if those of the one before it and of the
+-- request are.
 use Rattle.std.specs.Prelude.{ℕ, List}
 use Rattle.charters.specs.declared.charter.Charter.{Charter}
 use Rattle.registry.specs.declared.command.Command.{Command}

@@ -1,4 +1,4 @@
-//! Each function's contract states a law, and its body does nothing.
+//! Theorems, stated as contracts of functions with empty bodies.
 
 ghost use Rattle.histories.specs.Ended.{EndsJustOverlapping};
 ghost use Rattle.histories.specs.Growth.{GrowthFits, GrowthIsLegal, HypotheticalIsLegal};
@@ -39,8 +39,8 @@ pub fn growth_is_legal()
     ensures { GrowthIsLegal }
 {}
 
-/// The history that a command leaves has values of their types, where the command and the history
-/// before it have.
+/// The values of the history that a command leaves are those of their types, if those of the
+/// command and of the history before it are.
 #[tactic(auto, using(crate::proofs::Growth::growth_fits))]
 pub fn growth_fits()
     ensures { GrowthFits }
@@ -52,13 +52,14 @@ pub fn hypothetical_is_legal()
     ensures { HypotheticalIsLegal }
 {}
 
-/// A command has at most one outcome: one history that it leaves, or one rule that denies it, of an
-/// import at one row.
+/// A command has at most one outcome: one history that it leaves, or one rule that denies it, for
+/// an import at one row.
 pub fn one_outcome()
     ensures { OneOutcome }
 {}
 
-/// The same of hypothetical changes.
+/// Hypothetical changes have at most one outcome: one history that they would leave, or one rule
+/// that denies one of them.
 pub fn one_hypothetical_outcome()
     ensures { OneHypotheticalOutcome }
 {}

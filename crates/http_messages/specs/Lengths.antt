@@ -1,5 +1,5 @@
--- How long a request's body is (RFC 9112 section 6). This profile takes no Transfer-Encoding, any run of decimal digits as a
--- Content-Length, no body longer than the limit, and none but an empty one where the request has no body.
+-- How long a request's body is (RFC 9112 section 6). This profile takes no Transfer-Encoding, any run of decimal digits
+-- as a Content-Length, no body longer than the limit, and only an empty one if the request has no body.
 use Rattle.std.specs.Prelude.{ℕ, Bool, true, false, ◌&&◌, ◌==◌, not, nat_le, List, [], ◌∷◌, length, codes, if◌then◌else◌, Option, Some, None, Result, Ok, Err}
 use Rattle.std.specs.List.{list_all}
 use Rattle.std.specs.Char.{is_ascii_digit}
@@ -34,6 +34,6 @@ abbrev pub body_length_after : List (List ℕ) → Bool → Fields → Result (O
 body_length_after [] has_body fields = length_by has_body (only_value (values_of (codes "content-length") fields))
 body_length_after (_ ∷ _) has_body fields = Err LengthRequired
 
--- Transfer-Encoding is asked first, whether or not the request has a body
+-- Transfer-Encoding is checked first, whether or not the request has a body
 abbrev pub body_length : Bool → Fields → Result (Option ℕ) HttpRefusal
 body_length has_body fields = body_length_after (values_of (codes "transfer-encoding") fields) has_body fields

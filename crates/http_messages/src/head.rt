@@ -13,7 +13,7 @@ pub const HEAD_LIMIT: usize = 8192;
 /// Why no head was read.
 #[derive(Clone, Copy, Debug, PartialEq, Eq)]
 pub enum HeadFault {
-    /// As many bytes as a head may have came without its end.
+    /// The head did not end within the bytes that it may have.
     TooLong,
     /// The source ended or failed before the head's end.
     CutShort,

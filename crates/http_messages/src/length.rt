@@ -52,7 +52,7 @@ fn length_within(text: &[u8], has_body: bool) -> Result<Option<usize>, HttpRefus
     Ok(None)
 }
 
-/// The number that decimal digits write, or one more than the limit where it is over that.
+/// The number that decimal digits write, or the limit plus 1 if it is over the limit.
 fn capped_length(text: &[u8]) -> Option<usize>
     ensures { result ≡ option_map (λ size. min size (BODY_LIMIT + 1)) (content_length text.now) }
 {
@@ -75,7 +75,7 @@ fn are_digits(text: &[u8]) -> bool
     text.iter().all(|byte| byte.is_ascii_digit())
 }
 
-/// The number that digits write, or one more than the limit.
+/// The number that digits write, or the limit plus 1 if it is over the limit.
 fn capped_number(digits: &[u8]) -> usize
     requires { is_number digits.now ≡ true }
     ensures { result ≡ min (digits_value 10 digits.now) (BODY_LIMIT + 1) }

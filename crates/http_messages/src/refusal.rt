@@ -4,8 +4,8 @@ use crate::method::Methods;
 /// The protocol's faults of a request.
 #[derive(Clone, Copy, Debug, PartialEq, Eq)]
 pub enum HttpRefusal {
-    /// The head does not parse, or its `Content-Length` is repeated, is not a number, or is not zero
-    /// where no body is taken.
+    /// The head does not parse, or its `Content-Length` is repeated, is not a number, or is not
+    /// zero for a request without a body.
     BadRequest,
     /// The path has no route.
     NotFound,

@@ -30,10 +30,10 @@ impl ContentType {
     }
 }
 
-/// How many bytes a response may have to be handed on at once.
+/// The most bytes of a response that is written in one piece.
 const SHORT_RESPONSE: usize = 4096;
 
-/// Writes a whole response, a short one at once.
+/// Writes a whole response, a short one in one piece.
 pub fn write_response<D: Drain>(
     drain: &mut D,
     status: Status,
@@ -54,7 +54,7 @@ pub fn write_response<D: Drain>(
     write_all(drain, body)
 }
 
-/// Head and body in one piece, where both are short.
+/// Head and body in one piece, if both are short.
 fn short_response(head: &[u8], body: &[u8]) -> Option<ArrayVec<u8, SHORT_RESPONSE>>
     ensures text { IfSome result (λ text. text.items ≡ head.now ++ body.now) }
     ensures some { length head.now + length body.now ≤ SHORT_RESPONSE → IsSome result }

@@ -73,8 +73,8 @@ pub record AreJudgedAlike (charter : Charter) (one other : History) (day : ℕ) 
   pub verdict : (rule : Option Rule) → Verdict charter one day caller command rule ↔ Verdict charter other day caller command rule
   pub number : number_given one command ≡ number_given other command
 
--- except for a delegation, a command is judged by the entries that name one of its holders; a SLURM file,
--- which names none, by no entry
+-- except for a delegation, a command is judged by the entries that name one of its holders; SLURM files, which name
+-- none, by no entry
 abbrev pub CommandsByEntries : Type 0
 CommandsByEntries =
     (charter : Charter) (history : History) (day : ℕ) (caller : List ℕ) (command : Command)

@@ -26,11 +26,11 @@ is_grant _ = false
 abbrev pub is_named : List ℕ → History → Bool
 is_named h entries = list_any (λ e. names_holder h e.command) entries
 
--- some entry brings a SLURM file
+-- some entry brings SLURM files
 abbrev pub has_slurm_file : History → Bool
 has_slurm_file entries = list_any (λ e. brings_exceptions e.command) entries
 
--- no entry names a holder that the command names, nor brings a SLURM file where the command brings one
+-- no entry names a holder that the command names, nor brings SLURM files if the command brings some
 pub record NoneNames (command : Command) (entries : History) : Type 0 where
   pub holder : IfSome (holder_of command) (λ h. is_named h entries ≡ false)
   pub taker : IfSome (taker_of command) (λ h. is_named h entries ≡ false)
@@ -41,11 +41,10 @@ pub record HaveSameRows (one other : History) : Type 0 where
   pub holders : (h : List ℕ) (rows : Option Rows) → RowsIfAny one h rows ↔ RowsIfAny other h rows
   pub files : files_in_force one ≡ files_in_force other
 
--- after a command other than a grant was accepted, whose values are those of their types, and no later
--- entry names one of its holders or, where it brought a SLURM file, brings another, the same command of
--- any caller on any day, accepted again, leaves the rows of every holder and the SLURM files in force. The
--- types matter to a create alone: no two authorizations share an entry, so one of no entries could be made
--- again
+-- A command other than a grant was accepted, its values are those of their types, and no later entry names one of its
+-- holders or, if it brought SLURM files, brings some. Then the same command of any caller on any day, if it is accepted
+-- again, leaves the rows of every holder and the SLURM files in force. The types matter to a create alone: no two
+-- authorizations share an entry, so one of no entries could be made again.
 abbrev pub RepeatsLeaveRows : Type 0
 RepeatsLeaveRows =
     (charter : Charter) (before : History) (first_day : ℕ) (first_caller : List ℕ)

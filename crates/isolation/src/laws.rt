@@ -1,4 +1,4 @@
-//! Each function's contract states a law, and its body does nothing.
+//! Theorems, stated as contracts of functions with empty bodies.
 
 ghost use Rattle.isolation.specs.Isolation.{
   CommandsByEntries,
@@ -24,52 +24,55 @@ pub fn others_keep_rows()
     ensures { OthersKeepRows }
 {}
 
-/// Changes at a holder would leave the rows of every other, and the exceptions in force.
+/// Hypothetical changes at a holder leave the rows of every other holder, and the SLURM files in
+/// force.
 pub fn hypothetical_keeps_others()
     ensures { HypotheticalKeepsOthers }
 {}
 
-/// After a legal history the VRPs of a day are the same where the authorizations in force of each
-/// holder are taken from the entries that name it.
+/// After a legal history, the VRPs of a day are the same if each holder's authorizations in force
+/// are taken from only the entries that name it.
 pub fn parts()
     ensures { VrpsOfEntries }
 {}
 
-/// After a legal history a command at a holder, except a delegation, is accepted or denied, and its
-/// grant or authorization numbered, as after the entries that name the holder alone; a transfer as
-/// after those that name giver or taker, and a SLURM file as after no entry.
+/// After a legal history, a command at a holder gets the verdict and the number that it would get
+/// after only the entries that name the holder. For a transfer these are the entries that name
+/// giver or taker; for SLURM files there are none. A delegation is the exception: it concerns all
+/// holders.
 pub fn commands_by_entries()
     ensures { CommandsByEntries }
 {}
 
-/// After a legal history what is shown and listed at a holder, or denied, is the same as after the
-/// entries that name the holder alone.
+/// After a legal history, what is shown, listed or denied at a holder is the same as after only the
+/// entries that name the holder.
 pub fn queries_by_entries()
     ensures { QueriesByEntries }
 {}
 
-/// After a legal history an import at a holder makes what it makes after the entries that name the
-/// holder alone, or the same row is denied by the same rule.
+/// After a legal history, an import at a holder makes what it would make after only the entries
+/// that name the holder, or the same row is denied by the same rule.
 pub fn imports_by_entries()
     ensures { ImportsByEntries }
 {}
 
-/// The same of hypothetical changes at a holder.
+/// After a legal history, hypothetical changes at a holder come out as they would after only the
+/// entries that name the holder, or the same change is denied by the same rule.
 pub fn hypothetical_by_entries()
     ensures { HypotheticalByEntries }
 {}
 
-/// Where a command other than a grant was accepted, whose values are those of their types, and no later
-/// entry of a legal history names one of its holders or, where it brought a SLURM file, brings another,
-/// the same command by any caller on any day, if it is accepted again, leaves the rows of every holder
-/// and the exceptions in force.
+/// If a command other than a grant was accepted, and is accepted again, by any caller on any day,
+/// the second time changes nothing: the rows of every holder and the SLURM files in force stay. In
+/// between no entry may name one of its holders or, if it brings SLURM files, bring SLURM files.
+/// The history is legal, and the command's values are those of their types.
 pub fn again()
     ensures { RepeatsLeaveRows }
 {}
 
-/// Where an import was accepted and no later entry of a legal history names its holder, the same import
-/// by its caller on its day is accepted and makes nothing; and by any caller on any day, if it is
-/// accepted, it makes nothing.
+/// If an import was accepted, and no later entry of a legal history names its holder, the same
+/// import makes nothing. Sent by its caller on its day it is accepted; sent by another caller or on
+/// another day it may be denied.
 pub fn import_again()
     ensures { ImportsRepeat }
 {}

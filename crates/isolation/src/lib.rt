@@ -1,4 +1,4 @@
-//! What competing holders may rely on where they share a desk, over the definitions of `registry`
+//! What competing holders may rely on when they share a desk, over the definitions of `registry`
 //! alone.
 #![tactic(auto)]
 

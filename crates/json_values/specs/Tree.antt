@@ -33,7 +33,7 @@ abbrev pub only_of : {F : Type 0} → F → List (List ℕ) → Option Members �
 only_of fault names None = Err fault
 only_of fault names (Some ms) = if has_only names ms then Ok tt else Err fault
 
--- an object with no members but some of these, else this fault
+-- an object whose members are all among these, else this fault
 abbrev pub only : {F : Type 0} → F → List (List ℕ) → Data → Result (Unit {0}) F
 only fault names d = only_of fault names (as_object d)
 

@@ -13,11 +13,12 @@ pub trait Fault: Copy {
 
     ghost members: { Self };
 
-    /// Where several faults apply, the one of the lowest number is reported.
+    /// The number of the fault. If several faults apply, the one with the lowest number is
+    /// reported.
     fn number(self) -> u8
         ensures { result ≡ number self };
 
-    /// Of JSON that is no object or array, and where a member is missing or unknown.
+    /// The fault if an object or an array is expected, or a member is missing or unknown.
     fn members() -> Self
         ensures { result ≡ members };
 }

@@ -26,7 +26,7 @@ impl<T: Drop, F: Fault> Gathered<T, F> {
         }
     }
 
-    /// Takes what was read of the next item.
+    /// Adds what was read of the next item.
     pub fn add(&mut self, value: Result<T, F>) -> Result<(), AllocError>
         ensures { OnOk result
             (so_far self.new ≡ with_last F.number (so_far self.old) value) }
@@ -50,7 +50,7 @@ impl<T: Drop, F: Fault> Gathered<T, F> {
     }
 }
 
-/// What all values are read as, in their order.
+/// Reads all values, in their order.
 pub fn each<T: FromJsonIn<F>, F: Fault>(alloc: Global, values: &[Value]) -> Read<Vec<T>, F>
     ensures { IfOk result (λ read. mapped (λ v. v.items) read
         ≡ each F.number T.reading (map view values.now)) }

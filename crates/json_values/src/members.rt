@@ -14,7 +14,7 @@ use crate::{Fault, Read};
 use serde_json::{Map, Value};
 use std::alloc::Global;
 
-/// What a JSON value is read as, or the fault that it has.
+/// Types that are read from a JSON value.
 pub trait FromJson<F: Fault>: Drop {
     ghost reading: { Data → Result Self F };
 
@@ -22,9 +22,8 @@ pub trait FromJson<F: Fault>: Drop {
         ensures { result ≡ reading (view value.now) };
 }
 
-/// What a JSON value is read as, or the fault that it has, where reading it may take memory. What
-/// holds a list holds it in a type whose `Model` is the list: a `Vec` has a capacity besides, which
-/// no JSON value says.
+/// Types that are read from a JSON value and may allocate. A list in one is of a type whose `Model`
+/// is the list: a `Vec` also has a capacity, which no JSON value gives.
 pub trait FromJsonIn<F: Fault>: Drop {
     ghost reading: { Data → Result Self F };
 
@@ -32,7 +31,7 @@ pub trait FromJsonIn<F: Fault>: Drop {
         ensures { IfOk result (λ read. read ≡ reading (view value.now)) };
 }
 
-/// What takes no memory.
+/// Types that are read without allocating.
 impl<T: FromJson<F>, F: Fault> FromJsonIn<F> for T {
     ghost reading = { T.FromJson.reading };
 

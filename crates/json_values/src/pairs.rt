@@ -18,7 +18,7 @@ pub fn both<A: Drop, B: Drop, F: Fault>(one: Result<A, F>, other: Result<B, F>) 
     }
 }
 
-/// The value where the other has no fault, else the lower of the faults.
+/// The value if the other has no fault, else the lower of the faults.
 pub fn unless<A: Drop, B: Drop, F: Fault>(value: Result<A, F>, other: Result<B, F>) -> Result<A, F>
     ensures { result ≡ unless F.number value other }
 {

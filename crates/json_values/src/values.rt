@@ -27,7 +27,7 @@ pub fn as_day(value: &Value) -> Option<Day>
     Day::read(value.as_str()?.as_bytes())
 }
 
-/// The AS number that a JSON number below 2 ^ 32 is, where it is written in plain decimal digits.
+/// The AS number that a JSON number below 2 ^ 32 is, if it is written in plain decimal digits.
 pub fn as_asn(value: &Value) -> Option<Asn>
     ensures { result ≡ as_asn (view value.now) }
 {
@@ -37,8 +37,8 @@ pub fn as_asn(value: &Value) -> Option<Asn>
     }
 }
 
-/// The whole number from `least` to `most` that a JSON number is, where it is written in plain
-/// decimal digits.
+/// The whole number from `least` to `most` that a JSON number is, if it is written in plain decimal
+/// digits.
 pub fn as_number_in(value: &Value, least: u64, most: u64) -> Option<u64>
     ensures value { result ≡ as_number_in least most (view value.now) }
     ensures range { IfSome result (λ number. (least ≤ number) × (number ≤ most)) }

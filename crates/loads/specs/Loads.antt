@@ -31,7 +31,7 @@ use Rattle.loads.specs.declared.answers.ForCreate.{ForCreate}
 use Rattle.loads.specs.declared.answers.ForGrant.{ForGrant}
 use Rattle.loads.specs.declared.load.Numbered.{Numbered}
 
--- it is so of all rows, and of those of one holder, whatever charter and rows the tables hold
+-- this holds for all rows, and for those of one holder, whatever charter and rows the tables hold
 abbrev pub IsOfAll : (AllRows → Type 0) → State → Type 0
 IsOfAll so s =
     (charter : CharterSets) (rows : AllRows)
@@ -40,7 +40,7 @@ IsOfAll so s =
 abbrev pub IsOf : (Option Rows → Type 0) → List ℕ → State → Type 0
 IsOf so h s = IsOfAll (λ rows. so (rows.of_holder h)) s
 
--- the database could be read, and it is so of all rows
+-- the database could be read, and this holds for all rows
 abbrev pub IsOpenWith : (AllRows → Type 0) → State → Type 0
 IsOpenWith so s = IsTrue s.is_open × IsOfAll so s
 
@@ -102,7 +102,7 @@ pub record AreRunsApart (rows : AllRows) : Type 0 where
       (h k : List ℕ) (s t : Span) (a : Address) → HasRun rows h s → HasRun rows k t
       → span_has s a ≡ true → span_has t a ≡ true → h ≡ k
 
--- Whether it is so is told: never where it is not, and always where it is and runs are apart.
+-- The answer is yes only if it is so; and if runs are apart, it is yes whenever it is so.
 abbrev pub IsToldWhereApart : AllRows → Bool → Type 0 → Type 0
 IsToldWhereApart rows told so = (IsTrue told → so) × (AreRunsApart rows → so → IsTrue told)
 
@@ -123,7 +123,7 @@ abbrev pub is_other : Option ℕ → ℕ → Bool
 is_other None m = true
 is_other (Some n) m = not (m == n)
 
--- an authorization, but for one of the number, gives the AS with an entry of the list
+-- an authorization, except the one of the number, gives the AS with an entry of the list
 abbrev pub some_gives : Option ℕ → Asn → List RoaPrefix → List Auth → Bool
 some_gives but asn es auths = list_any (λ y. is_other but y.number && gives_some y asn es) auths
 
@@ -136,8 +136,8 @@ abbrev pub created_if_any : Option Rows → ℕ
 created_if_any None = 0
 created_if_any (Some r) = r.created
 
--- What is answered of a holder for a create of the terms. Whether they are given is said only where they are held, and
--- whether the holder has as many authorizations as it may only where they are not given.
+-- The answers for a create of the terms at a holder. Whether they are given is answered only if they are held, and
+-- whether the holder has as many authorizations as it may have only if they are also not given.
 pub record AreAnswers (terms : AuthTerms) (rows : AllRows) (h : List ℕ) (answers : CreateAnswers) : Type 0 where
   pub created : answers.created ≡ created_if_any (rows.of_holder h)
   pub holds : IsToldWhereApart rows answers.holds (AreHeld (items_if_any (λ r. r.holdings) (rows.of_holder h)) terms.entries)

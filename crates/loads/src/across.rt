@@ -101,7 +101,7 @@ fn is_claimed(claims: &[Row], payload: &Row) -> bool
         .is_ok()
 }
 
-/// Takes away the payloads that are of none of the claims.
+/// Removes the payloads that are of none of the claims.
 fn keep_claimed(claims: &[Row], payloads: &mut Vec<Row>)
     ensures { ClaimsRise claims.now
         → payloads.new.items ≡ filter (is_claimed claims.now) payloads.old.items }
@@ -119,7 +119,7 @@ pub(crate) fn in_force_rows<S: Alter>(conn: &mut Connection<S>, day: Day) -> Res
         IsOfAll (λ rows. (row : Cells) → Contains (map payload_of found.items) row
         ↔ IsPayloadOn rows day row) (state S.Store conn.old)) }
 {
-    // Its clause `live` is for the proof: the rows obey the schema.
+    // For the proof: its contract says that what the connection shows obeys the schema.
     let _schema = conn.schema();
     database::laws::claims_differ();
     let claims = claims_in_force(conn, day)?;

@@ -1,4 +1,4 @@
-//! What is loaded for what the rules of a grant, of a create and of an amendment ask.
+//! What the rules of a grant, of a create and of an amendment read, loaded from the tables.
 ghost use Rattle.std.specs.Prelude.{◌≡◌, ◌∷◌, ◌↔◌, [], true, ℕ, Some, Err, IfOk, IfSome, IsPermutation, IsTrue, length, nat_le, option_copied};
 ghost use Rattle.std.specs.List.{list_any};
 ghost use Rattle.sqlite.specs.Held.{state};
@@ -23,18 +23,18 @@ use tables::{
     name_values,
 };
 
-// ---- what a grant asks
+// ---- for a grant
 
 /// What is loaded of a holder for a grant or a revocation.
 #[derive(Drop)]
 pub struct ForGrant {
     /// The grants that are not revoked, by rising number.
     pub grants: Vec<Granted>,
-    /// How many grants were made, the revoked ones too; none where the holder is not registered.
+    /// How many grants were made, the revoked ones too; `None` if the holder is not registered.
     pub made: Option<u32>,
 }
 
-/// How many grants were made at the holder; none where it is not registered.
+/// How many grants were made at the holder; `None` if it is not registered.
 fn load_made<S: Alter>(
     conn: &mut Connection<S>,
     alloc: Global,
@@ -53,7 +53,7 @@ fn load_made<S: Alter>(
     }
 }
 
-/// What a grant or a revocation at the holder is judged on.
+/// What the rules of a grant or a revocation at the holder read.
 pub fn load_for_grant<S: Alter>(
     conn: &mut Connection<S>,
     alloc: Global,
@@ -159,9 +159,9 @@ fn some_given<S: Alter>(
     Ok(false)
 }
 
-// ---- what a create asks
+// ---- for a create
 
-/// How many authorizations were made at the holder; 0 where it is not registered.
+/// How many authorizations were made at the holder; 0 if it is not registered.
 fn load_created<S: Alter>(
     conn: &mut Connection<S>,
     alloc: Global,
@@ -180,7 +180,7 @@ fn load_created<S: Alter>(
     }
 }
 
-/// Whether the holder holds every address of the entries, where runs are apart; the first entry that
+/// Whether the holder holds every address of the entries, if runs are apart; the first entry that
 /// it does not hold ends the search.
 fn are_held<S: Alter>(
     conn: &mut Connection<S>,
@@ -203,7 +203,7 @@ fn are_held<S: Alter>(
     Ok(true)
 }
 
-/// Whether the holder has as many authorizations as it may.
+/// Whether the holder has as many authorizations as it may have.
 fn load_full<S: Alter>(conn: &mut Connection<S>, holder: &Name) -> Result<bool, StoreFault>
     requires { IsReadyToAsk S.Store conn.old }
     ensures asked { IsAsked S.Store conn.old conn.new result }
@@ -217,8 +217,8 @@ fn load_full<S: Alter>(conn: &mut Connection<S>, holder: &Name) -> Result<bool, 
     Ok(!found.is_empty())
 }
 
-/// What the rules of a create ask beside the grants. Nothing more is asked once an answer denies
-/// it, nor are authorizations counted where too few were made.
+/// What the rules of a create read beside the grants. Nothing more is read once an answer denies
+/// the create, and authorizations are not counted if fewer were ever made than may be active.
 fn load_answers<S: Alter>(
     conn: &mut Connection<S>,
     alloc: Global,
@@ -261,7 +261,7 @@ pub struct ForCreate {
     pub answers: CreateAnswers,
 }
 
-/// What a create of the terms at the holder is judged on.
+/// What the rules of a create of the terms at the holder read.
 pub fn load_for_create<S: Alter>(
     conn: &mut Connection<S>,
     alloc: Global,
@@ -281,19 +281,19 @@ pub fn load_for_create<S: Alter>(
     Ok(ForCreate { grants, answers })
 }
 
-// ---- what an amendment asks
+// ---- for an amendment
 
 /// What is loaded of a holder for an amendment of one of its authorizations.
 #[derive(Drop)]
 pub struct ForAmend {
     pub numbered: Numbered,
-    /// Whether another authorization gives a VRP that the amended one would give; not asked, and
-    /// false, where none has the number or the maxLengths do not fit it.
+    /// Whether another authorization gives a VRP that the amended one would give. False, without a
+    /// query, if none has the number or the maxLengths do not fit it.
     pub is_shared: bool,
 }
 
-/// Whether another authorization of the holder than that of the number gives a VRP that this one
-/// would give with the maxLengths; not asked, and false, where there is none that they fit.
+/// Whether another authorization of the holder gives a VRP that the found one would give with the
+/// maxLengths. False, without a query, if none was found or they do not fit it.
 fn load_shared<S: Alter>(
     conn: &mut Connection<S>,
     alloc: Global,
@@ -323,7 +323,7 @@ fn load_shared<S: Alter>(
     }
 }
 
-/// What an amendment of the authorization that has the number, to these maxLengths, is judged on.
+/// What the rules read for an amendment of the authorization of the number to these maxLengths.
 pub fn load_for_amend<S: Alter>(
     conn: &mut Connection<S>,
     alloc: Global,

@@ -1,4 +1,4 @@
-//! The last run that begins at or before an address, and what it decides where runs are apart.
+//! The last run that begins at or before an address, and what it decides if runs are apart.
 ghost use Rattle.std.specs.Prelude.{◌≡◌, ◌≤◌, ◌↔◌, [], ◌∷◌, ℕ, List, IsTrue, IfOk};
 ghost use Rattle.sqlite.specs.Held.{state};
 ghost use Rattle.sqlite.specs.Values.{bound};
@@ -60,7 +60,7 @@ fn reaches(run: &Row, address: u128) -> bool
     compare(cell(run, 2), bytes.as_slice().to_sql()).is_ge()
 }
 
-/// Whether the holder holds every address of the prefix, where runs are apart.
+/// Whether the holder holds every address of the prefix, if runs are apart.
 pub(crate) fn is_held<S: Alter>(
     conn: &mut Connection<S>,
     holder: &Name,
@@ -79,7 +79,7 @@ pub(crate) fn is_held<S: Alter>(
     }
 }
 
-/// Whether some holder holds an address of the prefix, where runs are apart.
+/// Whether some holder holds an address of the prefix, if runs are apart.
 pub fn is_taken<S: Alter>(conn: &mut Connection<S>, prefix: &Prefix) -> Result<bool, Error>
     requires { IsReadyToAsk S.Store conn.old }
     ensures asked { IsAsked S.Store conn.old conn.new result }

@@ -42,7 +42,7 @@ impl ExceptionEntry for Vrp {
     }
 }
 
-/// The names of the files, rising. Names that are no names are of another schema.
+/// The names of the files, rising. If one is no name, the fault is `Schema`.
 fn load_names<S: Alter>(conn: &mut Connection<S>, alloc: Global) -> Result<Vec<Name>, StoreFault>
     requires { IsReadyToAsk S.Store conn.old }
     ensures asked { IsAsked S.Store conn.old conn.new result }
@@ -74,7 +74,7 @@ fn load_entries<T: ExceptionEntry, S: Alter>(
     read_all(alloc, &rows)
 }
 
-/// The file of these entries. More than a file may have are of another schema.
+/// The file of these entries. If they are more than a file may have, the fault is `Schema`.
 fn file_of(filters: Vec<Filter>, assertions: Vec<Vrp>) -> Result<Slurm, StoreFault>
     ensures file { IfOk result (λ file. file
         ≡ record { filters = filters.items; assertions = assertions.items }) }
@@ -126,7 +126,7 @@ fn load_each<S: Alter>(
     Ok(files)
 }
 
-/// The SLURM files in force, rising by name; none where there is no exception.
+/// The SLURM files in force, rising by name; none if there is no exception.
 pub fn load_files<S: Alter>(
     conn: &mut Connection<S>,
     alloc: Global,

@@ -41,7 +41,7 @@ fn holdings_of(alloc: Global, spans: &[Span]) -> Result<Holdings, AllocError>
     for span in spans {
         holdings.add_span(span)?;
     }
-    // Its clause is for the proof: the runs are maximal.
+    // For the proof: its contract says that the runs are maximal.
     let _ = holdings.spans();
     Ok(holdings)
 }
@@ -97,7 +97,7 @@ pub(crate) fn load_values<T: OfHolder, S: Alter>(
     load_selected(conn, alloc, T::select(), &name_values(holder))
 }
 
-/// The counters of the holder; none where it is not registered.
+/// The counters of the holder; `None` if it is not registered.
 pub(crate) fn load_counters<S: Alter>(
     conn: &mut Connection<S>,
     alloc: Global,
@@ -131,7 +131,7 @@ pub fn is_registered<S: Alter>(
     Ok(counters.is_some())
 }
 
-/// The addresses of the holder; none where it is not registered.
+/// The addresses of the holder; none if it is not registered.
 fn load_runs<S: Alter>(
     conn: &mut Connection<S>,
     alloc: Global,
@@ -200,7 +200,7 @@ fn load_auths<S: Alter>(
     ensures schema { IsClean S.Store conn.new → result ≡ Err StoreFault.Schema
         → IsOpenWith (λ all. ¬ FitIfAny (all.of_holder holder.now)) (state S.Store conn.old) }
 {
-    // Its clause `live` is for the proof: the rows obey the schema.
+    // For the proof: its contract says that what the connection shows obeys the schema.
     let _schema = conn.schema();
     database::laws::claims_differ();
     let claims: Vec<Claim> = load_values(conn, alloc, holder)?;
@@ -226,7 +226,7 @@ fn load_auth<S: Alter>(
     ensures schema { IsClean S.Store conn.new → result ≡ Err StoreFault.Schema
         → IsOpenWith (λ all. ¬ FitIfAny (all.of_holder holder.now)) (state S.Store conn.old) }
 {
-    // Its clause `live` is for the proof: the rows obey the schema.
+    // For the proof: its contract says that what the connection shows obeys the schema.
     let _schema = conn.schema();
     database::laws::claims_differ();
     let values = number_values(holder, number);
@@ -309,7 +309,7 @@ pub fn load_vrps<S: Alter>(
     ensures schema { IsClean S.Store conn.new → result ≡ Err StoreFault.Schema
         → IsOpenWith (λ rows. ¬ AllGiveOn rows day) (state S.Store conn.old) }
 {
-    // Its clause `live` is for the proof: the rows obey the schema.
+    // For the proof: its contract says that what the connection shows obeys the schema.
     let _schema = conn.schema();
     database::laws::entries_differ();
     let rows = in_force_rows(conn, day)?;

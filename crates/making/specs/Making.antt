@@ -12,7 +12,8 @@ use Rattle.tables.specs.Tables.{desk_tables, desk_indexes}
 abbrev pub tables_so_far : ℕ → List Table
 tables_so_far n = take n desk_tables
 
--- The indexes that they make: each one, but the seventh two and the tenth two, since `auth` and `entry` have two keys.
+-- The indexes that they make: each statement makes one, except that the seventh and the tenth make two, since `auth`
+-- and `entry` have two keys.
 abbrev pub indexes_so_far : ℕ → List Index
 indexes_so_far n = take (if nat_le n 6 then n else if nat_le n 9 then suc n else suc (suc n)) desk_indexes
 

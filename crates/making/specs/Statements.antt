@@ -12,11 +12,11 @@ use Rattle.tables.specs.Tables.{desk_tables}
 abbrev pub state_in : {S : Type 0} (g : Ghosts S) → Transaction S → State
 state_in g tx = state g tx.conn.now
 
--- the state is so, unless the disk returned what was not written
+-- this holds for the state, unless the disk returned what was not written
 abbrev pub WhenClean : {S : Type 0} (g : Ghosts S) → (State → Type 0) → Transaction S → Type 0
 WhenClean g so tx = HasCleanDisk (state_in g tx) → so (state_in g tx)
 
--- where the statement succeeds, it does so, unless the disk returned what was not written
+-- if the statement succeeds, it does this, unless the disk returned what was not written
 abbrev pub IfDone : {S X E : Type 0} (g : Ghosts S) → Result X E → (State → State → Type 0)
     → Transaction S → Transaction S → Type 0
 IfDone g result so old new = HasCleanDisk (state_in g new) → OnOk result (so (state_in g old) (state_in g new))
@@ -48,12 +48,12 @@ pub record IsReady (s : State) : Type 0 where
 abbrev pub IsAsBefore : State → State → Type 0
 IsAsBefore old new = IsTrue old.is_open × (new.now ≡ old.now) × (new.committed ≡ old.committed)
 
--- where it succeeds, it does so, unless the disk returned what was not written
+-- if it succeeds, it does this, unless the disk returned what was not written
 abbrev pub IfCommitted : {S X E : Type 0} (g : Ghosts S) → Result X E → (State → State → Type 0)
     → Held S → Held S → Type 0
 IfCommitted g result so old new = HasCleanDisk (state g new) → OnOk result (so (state g old) (state g new))
 
--- where it fails, all is as before, while the connection is open
+-- if it fails, all is as before, as long as the connection is open
 abbrev pub IfRolledBack : {S X E : Type 0} (g : Ghosts S) → Result X E → Held S → Held S → Type 0
 IfRolledBack g result old new =
     HasCleanDisk (state g new) → IsTrue (state g new).is_open

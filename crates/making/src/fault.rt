@@ -1,4 +1,4 @@
-//! Why a store did not do what it was to do.
+//! Why a store failed.
 use sqlite::Error;
 use std::alloc::AllocError;
 

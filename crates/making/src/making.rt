@@ -34,7 +34,7 @@ fn make_first_tables<S: Alter>(tx: &mut Transaction<'_, S>) -> Result<(), Error>
     execute(tx, CREATE_HOLDER, &[])
 }
 
-/// Makes the tables `holding`, `granted`, `auth` and `slurm` after those.
+/// Makes the tables `holding`, `granted`, `auth` and `slurm` after the first four.
 fn make_other_tables<S: Alter>(tx: &mut Transaction<'_, S>) -> Result<(), Error>
     requires { WhenClean S.Store (IsMadeTo 4) tx.old }
     ensures made { IfDone S.Store result (λ _. IsMadeTo 8) tx.old tx.new }
@@ -46,7 +46,7 @@ fn make_other_tables<S: Alter>(tx: &mut Transaction<'_, S>) -> Result<(), Error>
     execute(tx, CREATE_SLURM, &[])
 }
 
-/// Makes the tables `claim` and `entry` after those.
+/// Makes the tables `claim` and `entry` after the first eight.
 pub(crate) fn make_claim_tables<S: Alter>(tx: &mut Transaction<'_, S>) -> Result<(), Error>
     requires { WhenClean S.Store (IsOver (schema_so_far 8)) tx.old }
     ensures made { IfDone S.Store result MakesClaimTables tx.old tx.new }
@@ -56,7 +56,8 @@ pub(crate) fn make_claim_tables<S: Alter>(tx: &mut Transaction<'_, S>) -> Result
     execute(tx, CREATE_ENTRY, &[])
 }
 
-/// Makes the tables `claim` and `entry` after those, and then the index of a holder's runs.
+/// Makes the tables `claim` and `entry` after the first eight, and then the index of a holder's
+/// runs.
 fn make_last_tables<S: Alter>(tx: &mut Transaction<'_, S>) -> Result<(), Error>
     requires { WhenClean S.Store (IsMadeTo 8) tx.old }
     ensures made { IfDone S.Store result (λ _. IsMadeTo 11) tx.old tx.new }
@@ -121,7 +122,7 @@ fn commit_tables<S: Alter>(conn: &mut Connection<S>, charter: &Charter) -> Resul
         conn.old conn.new }
     ensures no_schema { result ≢ Err StoreFault.Schema }
 {
-    // Its clause `settled` is for the proof: outside a transaction all that is shown is committed.
+    // For the proof: its contract says that outside a transaction all that is shown is committed.
     let _idle = conn.is_autocommit();
     let mut tx = conn.transaction();
     make_schema(&mut tx)?;
@@ -131,7 +132,7 @@ fn commit_tables<S: Alter>(conn: &mut Connection<S>, charter: &Charter) -> Resul
 }
 
 /// Makes a desk of a database that has no table yet, and lifts the limit of its steps. Every other
-/// database stays as it is, and one in a transaction too.
+/// database stays as it is, and so does one in a transaction.
 pub fn make_tables<S: Alter>(conn: &mut Connection<S>, charter: &Charter) -> Result<(), StoreFault>
     ensures unused { OnOk result (IsUnused (state S.Store conn.old)) }
     ensures idle { OnOk result (conn.new.in_transaction ≡ false) }

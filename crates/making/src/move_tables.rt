@@ -11,7 +11,7 @@ use moving::{COPY_CLAIMS, COPY_ENTRIES, DELETE_ALL_AUTHS, DROP_HOLDING_INDEX, UP
 use sqlite::{Alter, Error, Transaction};
 use tables::CREATE_HOLDING_INDEX;
 
-/// Takes the index of a holder's runs away, where the database has it.
+/// Drops the index of a holder's runs, if the database has it.
 fn drop_index<S: Alter>(tx: &mut Transaction<'_, S>, has_index: bool) -> Result<(), Error>
     requires { WhenClean S.Store (IsOver (old_schema_if has_index)) tx.old }
     ensures dropped { IfDone S.Store result DropsIndex tx.old tx.new }
@@ -23,8 +23,8 @@ fn drop_index<S: Alter>(tx: &mut Transaction<'_, S>, has_index: bool) -> Result<
     Ok(())
 }
 
-/// Makes the tables of a desk out of those of schema 1, whose rows stay. The index of a holder's
-/// runs is gone.
+/// Adds the tables `claim` and `entry` to those of schema 1, whose rows stay, and drops the index
+/// of a holder's runs.
 pub fn widen_tables<S: Alter>(tx: &mut Transaction<'_, S>, has_index: bool) -> Result<(), Error>
     requires { WhenClean S.Store (IsOver (old_schema_if has_index)) tx.old }
     ensures widened { IfDone S.Store result WidensTables tx.old tx.new }
@@ -46,7 +46,7 @@ fn edit_rows<S: Alter>(tx: &mut Transaction<'_, S>) -> Result<(), Error>
     execute(tx, UPDATE_SCHEMA, &[])
 }
 
-/// Moves the rows of schema 1 in tables that were widened, and makes the index of a holder's runs.
+/// Moves the rows of schema 1 once `widen_tables` has run, and makes the index of a holder's runs.
 pub fn move_rows<S: Alter>(tx: &mut Transaction<'_, S>) -> Result<(), Error>
     requires { WhenClean S.Store (IsOver wide_schema) tx.old }
     ensures moved { IfDone S.Store result (MovesRows desk_schema) tx.old tx.new }

@@ -22,7 +22,7 @@ use Rattle.tables.specs.TablesHold.{Part, HoldsPart, HoldsFiles, holder_part, ho
 
 -- ---- the schema
 
--- all tables of a desk but `claim` and `entry`
+-- all tables of a desk except `claim` and `entry`
 abbrev pub old_tables : List Table
 old_tables = take 8 desk_tables
 

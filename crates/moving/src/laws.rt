@@ -1,4 +1,4 @@
-//! Laws of the definitions. Each function does nothing: what it ensures is the law.
+//! Theorems, stated as contracts of functions with empty bodies.
 ghost use Rattle.moving.specs.Laws.{MovedTablesHold};
 
 /// What the tables of schema 1 hold is what the tables of a desk hold after the move.

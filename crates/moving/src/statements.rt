@@ -1,7 +1,8 @@
 //! The statements that move the rows of schema 1, in the order in which they run. Between the first
-//! and the second the tables `claim` and `entry` are made, and after the last the index anew.
+//! and the second the tables `claim` and `entry` are made, and after the last the index is made
+//! again.
 
-/// Takes the index of a holder's runs away, whose tree would be in the place of `claim`.
+/// Drops the index of a holder's runs, whose tree would be in the place of `claim`.
 pub const DROP_HOLDING_INDEX: &str = "DROP INDEX holding_of";
 
 /// Puts the claim of each row of `auth`.
@@ -14,7 +15,7 @@ pub const COPY_ENTRIES: &str = "\
     INSERT INTO entry (holder, number, asn, family, lo, len, max) \
     SELECT holder, number, asn, family, lo, len, max FROM auth";
 
-/// Takes all authorizations of schema 1 away.
+/// Deletes all authorizations of schema 1.
 pub const DELETE_ALL_AUTHS: &str = "DELETE FROM auth";
 
 /// Sets the number of the schema.

@@ -15,18 +15,18 @@ pub trait PayloadIndex {
     /// The set.
     ghost vrps: { Self → set.VrpSet };
 
-    /// Whether the VRP is new.
+    /// Inserts the VRP; returns whether it was new.
     fn insert(&mut self, vrp: Vrp) -> Result<bool, AllocError>
         ensures new { IfOk result (λ is_new. is_new ≡ not (set.contains (vrps self.old) vrp)) }
         ensures ok { OnOk result (vrps self.new ≡ set.insert (vrps self.old) vrp) }
         ensures err { OnErr result (vrps self.new ≡ vrps self.old) };
 
-    /// Whether the VRP was there.
+    /// Removes the VRP; returns whether it was there.
     fn remove(&mut self, vrp: &Vrp) -> bool
         ensures found { result ≡ set.contains (vrps self.old) vrp.now }
         ensures rest { vrps self.new ≡ set.remove (vrps self.old) vrp.now };
 
-    /// Whether the VRP is there.
+    /// Whether the set has the VRP.
     fn contains(&self, vrp: &Vrp) -> bool
         ensures { result ≡ set.contains (vrps self.now) vrp.now };
 
@@ -42,7 +42,7 @@ pub trait PayloadIndex {
         ensures goes_on { OnOk result (S.has_stopped sink.old ≡ false
             → S.has_stopped sink.new ≡ false) }
 
-        // The sink's last `take` answered the `Stop`.
+        // The sink's last `take` returned the `Stop`.
         ensures beginning { OnErr result (S.has_stopped sink.old ≡ false
             → TookBeginning S.took (set.items (vrps self.now)) sink.old sink.new) }
         ensures stopped { OnErr result (S.has_stopped sink.new ≡ true) };

@@ -1,4 +1,4 @@
-//! Such a set in a sorted vector.
+//! A set of VRPs as a sorted vector.
 ghost use Rattle.std.specs.Prelude.{◌≡◌};
 ghost use Rattle.payload.specs.VrpSet as set;
 
@@ -56,7 +56,7 @@ impl Clone for ListIndex {
 impl From<Vec<Vrp>> for ListIndex {
     ghost from_gives = { λ vrps index. index ≡ set.from_list vrps.items };
 
-    /// The VRPs may be in any order and repeat. Allocates nothing.
+    /// The set of these VRPs, which may be in any order and repeat. Allocates nothing.
     fn from(mut vrps: Vec<Vrp>) -> ListIndex {
         sort_and_dedup(&mut vrps);
         let shortest = Shortest::of(&vrps);

@@ -1,17 +1,17 @@
-//! What a VRP says of its prefix.
+//! What a VRP says about its prefix.
 ghost use Rattle.std.specs.Prelude.{◌≡◌};
 
 use addr::{Asn, Origin, Route, Vrp};
 
-/// An AS that may originate a prefix, and its more specifics up to `max` bits: what is left of a
-/// VRP where its prefix is known.
+/// An AS that may originate a prefix, and its more specifics up to `max` bits: the part of a VRP
+/// beside its prefix.
 #[derive(Clone, Copy, Debug, PartialEq, Eq, PartialOrd, Ord)]
 pub(crate) struct Originator {
     pub(crate) max: u8,
     pub(crate) asn: Asn,
 }
 
-/// What a vector has in a place without one.
+/// Fills the places of a `SmallVec` that hold no originator.
 impl Default for Originator {
     fn default() -> Originator {
         Originator {
@@ -24,7 +24,7 @@ impl Default for Originator {
 impl Originator {
     ghost use Rattle.payload.specs.steps.Trie.{authorizes, originator_of};
 
-    /// That of the VRP.
+    /// The originator of the VRP.
     pub(crate) fn of(vrp: &Vrp) -> Originator
         ensures { result ≡ originator_of vrp.now }
     {

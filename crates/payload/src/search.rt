@@ -20,10 +20,10 @@ use addr::{Asn, Origin, Prefix, Route, Vrp};
 
 /// The state of the route over VRPs that rise.
 ///
-/// A VRP that covers the route sorts at or before it. So the search goes back from the route's place.
-/// Of the VRPs of a prefix that covers the route it looks at one or two for each maxLength. From a VRP
-/// that does not cover the route it goes past all that do not reach from that one to the route, and
-/// it ends where no prefix is short enough for that.
+/// A VRP that covers the route sorts at or before it, so the search goes back from the route's
+/// place. At a prefix that covers the route it looks at one or two VRPs for each maxLength. From a
+/// VRP that does not cover the route it goes on where prefixes may contain both that one's prefix
+/// and the route's, and it ends where no prefix is short enough for that.
 pub(crate) fn validity(vrps: &[Vrp], shortest: Shortest, route: &Route) -> Validity
     requires rising { AreRising vrps.now }
     requires no_shorter { AreNoShorter shortest vrps.now }
@@ -66,7 +66,7 @@ fn past_unlike<'a>(before: &'a [Vrp], vrp: &Vrp, route: &Route) -> &'a [Vrp]
     }
 }
 
-/// A VRP such that none from it on, and before the given one, matches the route.
+/// A VRP such that no VRP from it up to the given one, but not including that, matches the route.
 fn first_unlike(vrp: &Vrp, route: &Route) -> Vrp
     ensures { (v : Vrp) → vrp_cmp v vrp.now ≡ Less → is_below v result ≡ false
         → matches v route.now ≡ false }
@@ -83,7 +83,7 @@ fn first_unlike(vrp: &Vrp, route: &Route) -> Vrp
     }
 }
 
-/// An AS such that none from it on, and before the given one, is the origin.
+/// An AS such that no AS from it up to the given one, but not including that, is the origin.
 fn first_other(origin: Origin, asn: Asn) -> Asn
     ensures { (a : Asn) → result.0 ≤ a.0 → a.0 < asn.0 → is_from origin a ≡ false }
 {
@@ -116,7 +116,7 @@ fn is_up_to(vrp: &Vrp, prefix: &Prefix) -> bool
     vrp.prefix <= *prefix
 }
 
-/// As `up_to`, and faster where only few VRPs at the end sort after the prefix.
+/// As `up_to`, but faster if only few VRPs at the end sort after the prefix.
 fn up_to_from_end<'a>(vrps: &'a [Vrp], prefix: &Prefix) -> &'a [Vrp]
     requires { AreRising vrps.now }
     ensures { IsFrontUpTo prefix.now vrps.now result.now }

@@ -1,7 +1,7 @@
-//! The shortest prefixes of a list.
+//! How short the prefixes of a list are.
 use addr::{Family, Prefix, Vrp};
 
-/// For each family a number of bits that no prefix of a list is shorter than.
+/// For each family a length that no prefix of a list is shorter than.
 #[derive(Clone, Copy, Debug)]
 pub(crate) struct Shortest {
     v4: u8,
@@ -13,14 +13,14 @@ impl Shortest {
     ghost use Rattle.addr.specs.declared.family.Family.{Family};
     ghost use Rattle.payload.specs.steps.Shortest.{shortest_in, AreNoShorter};
 
-    /// Of no VRPs.
+    /// The lengths for an empty list.
     pub(crate) fn new() -> Shortest
         ensures { AreNoShorter result [] }
     {
         Shortest { v4: 32, v6: 128 }
     }
 
-    /// Of these VRPs.
+    /// The lengths for these VRPs.
     pub(crate) fn of(vrps: &[Vrp]) -> Shortest
         ensures { AreNoShorter result vrps.now }
     {
@@ -31,7 +31,7 @@ impl Shortest {
         shortest
     }
 
-    /// Of one more prefix.
+    /// The lengths for the list with one more prefix.
     pub(crate) fn with(self, prefix: &Prefix) -> Shortest
         ensures here { shortest_in result prefix.now.family ≤ prefix.now.length }
         ensures others { (f : Family) → shortest_in result f ≤ shortest_in self f }
@@ -48,7 +48,7 @@ impl Shortest {
         }
     }
 
-    /// Of this family.
+    /// The length for the family.
     pub(crate) fn in_family(self, family: Family) -> u8
         ensures { result ≡ shortest_in self family }
     {

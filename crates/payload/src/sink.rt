@@ -14,10 +14,10 @@ pub trait Sink {
     /// them. A sink that holds a `&mut` says here that its `ghost_name` stays.
     ghost took: { Self → List Vrp → Self → Type 0 };
 
-    /// Whether it stopped at the last one.
+    /// Whether the sink stopped at the last VRP.
     ghost has_stopped: { Self → Bool };
 
-    /// Of a sink that takes more once it has stopped, nothing is known.
+    /// Takes one more VRP. Once the sink has stopped, nothing is known of a further call.
     fn take(&mut self, vrp: &Vrp) -> Result<(), Stop>
         ensures took { has_stopped self.old ≡ false → took self.old (vrp.now ∷ []) self.new }
         ensures stopped { is_err result ≡ has_stopped self.new };

@@ -67,7 +67,7 @@ impl Trie {
         Ok(trie)
     }
 
-    /// As `validity`, with the number of lengths at which the set has something to look at, up to
+    /// Like `validity`, with the number of lengths at which the set has something to look at, up to
     /// the first VRP that matches: the root's always, a node's, and those that a node skips.
     pub fn validity_counted(&self, route: &Route) -> (Validity, u32)
         ensures state { state_of result.0 ≡ validation_state (set.items self.now) route.now }

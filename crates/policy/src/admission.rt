@@ -20,14 +20,14 @@ use crate::{Access, Auth, AuthTerms, Charter, Granted, HolderRows, LAST_NUMBER, 
 use addr::{Asn, Day, Holdings, Name, Prefix};
 use registry::{MOST_AUTHORIZATIONS, MOST_GRANTS, RoaPrefix, are_permitted, has_access};
 
-/// The rule where it does not hold.
+/// `Err(rule)` unless `holds`.
 pub(crate) fn require(holds: bool, rule: Rule) -> Result<(), Rule>
     ensures { MatchResult result (λ _. holds ≡ true) (λ first. (holds ≡ false) × (first ≡ rule)) }
 {
     if holds { Ok(()) } else { Err(rule) }
 }
 
-/// The rows of a holder that is registered.
+/// The rows of the holder; the rule `holder` if it is not registered.
 pub(crate) fn registered(rows: Option<&HolderRows>) -> Result<&HolderRows, Rule>
     ensures { (history : History) (h : List ℕ)
         → RowsIfAny history h (rows_if_any (option_copied rows.entry))
@@ -38,7 +38,7 @@ pub(crate) fn registered(rows: Option<&HolderRows>) -> Result<&HolderRows, Rule>
     rows.ok_or(Rule::Holder)
 }
 
-/// The grants of the rows; none where there are no rows.
+/// The grants of the rows; none if there are no rows.
 pub(crate) fn grants_of(rows: Option<&HolderRows>) -> &[Granted]
     ensures { result.now ≡ grants_if_any (option_copied rows.entry) }
 {
@@ -48,7 +48,7 @@ pub(crate) fn grants_of(rows: Option<&HolderRows>) -> &[Granted]
     }
 }
 
-/// The addresses of the rows, where there are rows.
+/// The addresses of the rows, if there are rows.
 pub(crate) fn holdings_of(rows: Option<&HolderRows>) -> Option<&Holdings>
     ensures { option_copied result
         ≡ option_map (λ r. r.holdings) (rows_if_any (option_copied rows.entry)) }
@@ -59,7 +59,7 @@ pub(crate) fn holdings_of(rows: Option<&HolderRows>) -> Option<&Holdings>
     }
 }
 
-/// How many grants were made, of the rows; none where there are no rows.
+/// How many grants were made at the holder; `None` if there are no rows.
 pub(crate) fn made_of(rows: Option<&HolderRows>) -> Option<u32>
     ensures { (history : History) (h : List ℕ)
         → RowsIfAny history h (rows_if_any (option_copied rows.entry))
@@ -79,7 +79,7 @@ pub(crate) fn is_steward(charter: &Charter, grants: &[Granted], day: Day, caller
     charter.is_operator(caller) || has_access(grants, day, caller, Access::Manage)
 }
 
-/// The rule where none of the grants gives the caller the access, whatever the scope.
+/// The rule `grant`, unless one of the grants gives the caller the access, whatever its scope.
 pub(crate) fn require_access(
     grants: &[Granted],
     day: Day,
@@ -95,7 +95,8 @@ pub(crate) fn require_access(
     require(has_access(grants, day, caller, access), Rule::Grant)
 }
 
-/// The rows of a holder at which the caller has the access, whatever the scope.
+/// The rows if one of their grants gives the caller the access, whatever its scope; otherwise the
+/// rule `grant`.
 pub(crate) fn rows_with_access<'a>(
     rows: Option<&'a HolderRows>,
     day: Day,
@@ -129,7 +130,7 @@ pub(crate) fn holds_entries(rows: &HolderRows, entries: &[RoaPrefix]) -> bool
     ensures { (history : History) (h : List ℕ) → RowsOf history h (rows_of rows.now)
         → (IsTrue result ↔ HoldsEntries history h entries.now) }
 {
-    // one run covers a prefix whose addresses are all held, since the runs are maximal
+    // For the proof alone: the runs are maximal, so one run covers a prefix that is held.
     let _ = rows.holdings.spans();
     are_covered(&rows.holdings, entries)
 }
@@ -142,14 +143,14 @@ fn are_covered(holdings: &Holdings, entries: &[RoaPrefix]) -> bool
     entries.iter().all(|entry| holdings.holds(&entry.prefix))
 }
 
-/// The authorization of the number.
+/// The authorization that has the number, if there is one.
 pub(crate) fn auth_of_number(auths: &[Auth], number: u32) -> Option<&Auth>
     ensures { option_copied result ≡ auth_of_number number auths.now }
 {
     auths.iter().find(|auth| auth.number == number)
 }
 
-/// The grants of the rows, and their authorization of the number; none where there are no rows.
+/// The grants of the rows, and their authorization of the number; none if there are no rows.
 pub(crate) fn numbered_of(rows: Option<&HolderRows>, number: u32) -> (&[Granted], Option<&Auth>)
     ensures { (charter : CharterValue) → OfRows charter (rows_if_any (option_copied rows.entry))
         (λ history h. AnswersNumber history h number result.0.now (option_copied result.1)) }
@@ -173,7 +174,8 @@ pub(crate) fn is_permitted_terms(
     are_permitted(grants, day, caller, access, auth.entries.as_slice())
 }
 
-/// The authorization that was found, where the caller has the access to it.
+/// The authorization that was found, if the caller has the access to it; otherwise the rule
+/// `number`.
 pub(crate) fn found_with_access<'a>(
     grants: &[Granted],
     found: Option<&'a Auth>,
@@ -260,7 +262,7 @@ pub(crate) fn has_room_for_grant(grants: &[Granted], made: u32) -> bool
     grants.len() < MOST_GRANTS && made < LAST_NUMBER
 }
 
-/// Whether no more authorizations may be active.
+/// Whether the holder has as many active authorizations as it may have.
 pub(crate) fn is_full(rows: &HolderRows) -> bool
     ensures { (history : History) (h : List ℕ) → RowsOf history h (rows_of rows.now)
         → ((result ≡ false)

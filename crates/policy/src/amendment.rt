@@ -29,7 +29,8 @@ pub struct Amendment<'a> {
     pub until: Day,
 }
 
-/// The authorization that was found, where all rules of an amendment of it hold.
+/// The authorization that was found, if all rules of an amendment of it hold; otherwise the first
+/// that fails.
 fn auth_to_amend<'a>(
     grants: &[Granted],
     found: Option<&'a Auth>,
@@ -55,9 +56,9 @@ fn auth_to_amend<'a>(
     Ok(auth)
 }
 
-/// What an amendment of a number does at a holder with these grants, where this authorization of
-/// the number was found; or the first rule of its line that does not hold. `is_shared` is whether
-/// another active one gives an AS, prefix and maxLength that the amended one would give.
+/// The change that an amendment makes, or the first rule that fails. `grants` are the holder's,
+/// `found` is its authorization of the number, if there is one, and `is_shared` is whether another
+/// active one gives an AS, prefix and maxLength that the amended one would give.
 pub fn amend_found(
     holder: &Name,
     grants: &[Granted],

@@ -24,15 +24,14 @@ use addr::{Day, Name};
 use registry::{are_permitted, fit_lengths};
 use std::alloc::AllocError;
 
-/// Whether another authorization may be made: neither are too many active, nor were too many made.
+/// Whether another authorization may be made: neither too many are active, nor were too many made.
 fn has_room(answers: CreateAnswers) -> bool
     ensures { IsTrue result ↔ ((answers.is_full ≡ false) × (answers.created < LAST_NUMBER)) }
 {
     !answers.is_full && answers.created < LAST_NUMBER
 }
 
-/// The number of the authorization that a create of the terms makes, or the first rule of its line
-/// that does not hold.
+/// The number of the authorization that a create of the terms makes, or the first rule that fails.
 fn new_number(
     grants: &[Granted],
     answers: CreateAnswers,
@@ -59,8 +58,8 @@ fn new_number(
     Ok(answers.created + 1)
 }
 
-/// What a create of the terms does at a holder with these grants, of which these are the answers;
-/// or the first rule of its line that does not hold.
+/// The change that a create of the terms makes, or the first rule that fails. `grants` are the
+/// holder's, and `answers` are what else the rules read.
 pub fn create_answered(
     holder: &Name,
     grants: &[Granted],
@@ -80,7 +79,7 @@ pub fn create_answered(
     Ok(change_of(holder, Edit::Create(auth)))
 }
 
-/// What a create of the terms is judged on beside the grants, of these rows.
+/// What the rules of a create of the terms read of these rows, beside the grants.
 pub(crate) fn answers_of(rows: &HolderRows, terms: &AuthTerms) -> CreateAnswers
     ensures { (history : History) (h : List ℕ) → RowsOf history h (rows_of rows.now)
         → AnswersCreate history h terms.now rows.now.grants.items result }
@@ -102,7 +101,7 @@ fn put(rows: &mut HolderRows, auth: &Auth) -> Result<(), AllocError>
     Ok(())
 }
 
-/// Puts the authorization that a create of the terms makes among the rows; where no rule denies it.
+/// Puts the authorization that a create of the terms makes among the rows, unless a rule denies it.
 pub(crate) fn create(
     rows: &mut HolderRows,
     day: Day,

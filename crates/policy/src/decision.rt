@@ -42,7 +42,7 @@ struct Basis<'a> {
     caller: &'a Name,
 }
 
-/// A holder that a command names, and its rows; none where it is not registered.
+/// A holder that a command names, and its rows; `None` if it is not registered.
 #[derive(Clone, Copy)]
 struct Holder<'a> {
     name: &'a Name,
@@ -106,7 +106,7 @@ fn decide_delegate(
     )
 }
 
-/// The rows of the holder, where all rules of a reclaim hold.
+/// The rows of the holder if all rules of a reclaim hold; otherwise the first that fails.
 fn rows_for_reclaim<'a>(
     charter: &Charter,
     caller: &Name,
@@ -244,7 +244,8 @@ fn decide_withdraw(basis: Basis<'_>, holder: Holder<'_>, number: u32) -> Result<
     withdraw_found(holder.name, grants, found, basis.day, basis.caller, number)
 }
 
-/// The rows of the giver and of the taker, where all rules of a transfer hold.
+/// The rows of the giver and of the taker if all rules of a transfer hold; otherwise the first that
+/// fails.
 fn rows_for_transfer<'a>(
     charter: &Charter,
     caller: &Name,
@@ -305,7 +306,7 @@ fn decide_transfer(
     })
 }
 
-/// Decides a set of SLURM files. It is taken whole, whatever the last one was.
+/// Decides a set of SLURM files. It replaces the last set as a whole.
 fn decide_slurm(alloc: Global, basis: Basis<'_>, files: &SlurmSet) -> Result<Change, Refusal>
     ensures answer { (history : History) → IsLegal basis.entry.charter.now history
         → IsAnswer basis.entry.charter.now history basis.entry.day basis.entry.caller.now
@@ -317,11 +318,14 @@ fn decide_slurm(alloc: Global, basis: Basis<'_>, files: &SlurmSet) -> Result<Cha
     Ok(Change::Exceptions(files.clone()?))
 }
 
-/// What a command of the caller on the day does, or the first rule of its line that does not hold.
+/// The change that a command of the caller on the day makes, or the first rule that fails.
 ///
-/// Of a history whose rows the view has it gives that history's answer; of other rows it gives
-/// some answer. It allocates only to delegate, to reclaim, to create, to amend, to import and to take
-/// SLURM files.
+/// The desk calls this for reclaim, import and SLURM files; a transfer has `decide_two`, and the
+/// other commands have functions that take only what their rules read.
+///
+/// If the view has the rows of a legal history, the answer is that history's; of other rows nothing
+/// is promised. It allocates only for a delegation, a reclaim, a create, an amendment, an import
+/// and SLURM files.
 pub fn decide(
     alloc: Global,
     charter: &Charter,
@@ -394,8 +398,8 @@ pub fn decide(
     }
 }
 
-/// What a transfer does, or the first rule of its line that does not hold, on the rows of the giver
-/// and of the taker; for equal names the same rows twice.
+/// The change that a transfer makes, or the first rule that fails, on the rows of the giver and of
+/// the taker; for equal names the same rows twice.
 pub fn decide_two(
     alloc: Global,
     charter: &Charter,

@@ -19,8 +19,8 @@ use crate::{Change, Charter, Edit, Refusal, Rule};
 use addr::{Holdings, Name, Prefix};
 use std::alloc::Global;
 
-/// What the registration of a holder does, which is registered or not yet; or the first rule of its
-/// line that does not hold. It takes no memory.
+/// The change that the registration of a holder makes, or the first rule that fails. `registered`
+/// is whether the holder is registered already. Allocates nothing.
 pub fn register_answered(
     charter: &Charter,
     holder: &Name,
@@ -41,7 +41,7 @@ pub fn register_answered(
     Ok(change_of(holder, Edit::Register))
 }
 
-/// The addresses of a holder that is registered.
+/// The addresses of the holder; the rule `holder` if it is not registered.
 fn registered_holdings(holdings: Option<&Holdings>) -> Result<&Holdings, Rule>
     ensures { MatchResult result (λ runs. option_copied holdings.entry ≡ Some runs.now)
         (λ rule. (option_copied holdings.entry ≡ None) × (rule ≡ Rule.Holder)) }
@@ -49,7 +49,7 @@ fn registered_holdings(holdings: Option<&Holdings>) -> Result<&Holdings, Rule>
     holdings.ok_or(Rule::Holder)
 }
 
-/// The addresses of the holder, where all rules of a delegation hold.
+/// The addresses of the holder if all rules of a delegation hold; otherwise the first that fails.
 fn holdings_for_delegation<'a>(
     charter: &Charter,
     caller: &Name,
@@ -69,9 +69,9 @@ fn holdings_for_delegation<'a>(
     Ok(held)
 }
 
-/// What the delegation of a prefix does at a holder of these addresses, where some address of the
-/// prefix is held or none is; or the first rule of its line that does not hold. A holder that is
-/// not registered has no addresses to give here.
+/// The change that the delegation of a prefix makes, or the first rule that fails. `holdings` are
+/// the holder's addresses, `None` if it is not registered; `taken` is whether some holder has an
+/// address of the prefix.
 pub fn delegate_answered(
     alloc: Global,
     charter: &Charter,

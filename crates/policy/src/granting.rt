@@ -13,7 +13,7 @@ use crate::part::change_of;
 use crate::{Change, Charter, Edit, Granted, Role, Rule, Scope};
 use addr::{Day, Name};
 
-/// What a grant is to say, before it has a number.
+/// The terms of a grant, before it has a number.
 #[derive(Clone, Copy)]
 pub struct GrantTerms {
     pub caller: Name,
@@ -44,9 +44,9 @@ impl GrantTerms {
     }
 }
 
-/// What a grant of the terms does at a holder with these grants, where so many were made; or the
-/// first rule of its line that does not hold. At a holder that is not registered none is counted.
-/// It takes no memory.
+/// The change that a grant of the terms makes, or the first rule that fails. `grants` are the
+/// holder's, and `made` is how many were ever made, `None` if it is not registered. Allocates
+/// nothing.
 pub fn grant_counted(
     charter: &Charter,
     holder: &Name,
@@ -74,8 +74,8 @@ pub fn grant_counted(
     Ok(change_of(holder, Edit::Grant(grant)))
 }
 
-/// What the revocation of a number does at a holder with these grants; or the first rule of its
-/// line that does not hold. It takes no memory.
+/// The change that the revocation of a number makes, or the first rule that fails. `grants` are the
+/// holder's. Allocates nothing.
 pub fn revoke_among(
     charter: &Charter,
     holder: &Name,

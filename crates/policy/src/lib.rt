@@ -1,5 +1,5 @@
-//! The rules of the desk: for a request on the rows of a holder, the first rule that does not hold,
-//! or the change of the rows. Nothing here reads or writes a store.
+//! The rules of the desk: for a request on the rows of a holder, the first rule that fails, or the
+//! change of the rows. Nothing here reads or writes a store.
 #![tactic(auto)]
 
 mod admission;

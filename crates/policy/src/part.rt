@@ -1,4 +1,4 @@
-//! Changes of one holder, and refusals of requests of several parts.
+//! Changes of one holder, and refusals of requests with several parts.
 
 ghost use Rattle.std.specs.Prelude.{◌≡◌, None};
 ghost use Rattle.policy.specs.steps.Part.{refusal_at};
@@ -20,7 +20,7 @@ pub(crate) fn change_of(holder: &Name, edit: Edit) -> Change
     }
 }
 
-/// The refusal of a request of several parts for the one in this place.
+/// The refusal of a request with several parts, for the part in this place.
 pub(crate) fn refusal_at(refusal: Refusal, place: u64) -> Refusal
     ensures { result ≡ refusal_at place refusal }
 {

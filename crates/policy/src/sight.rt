@@ -15,9 +15,9 @@ use crate::{Access, Auth, Granted, HolderRows, Refusal, Rule};
 use addr::{Day, Name};
 use std::alloc::{AllocError, Global};
 
-/// Of the authorization of a number that was found at a holder with these grants: it, where the
-/// caller may see it on the day. A hidden authorization and a missing one get the same reply. It
-/// takes no memory.
+/// The authorization that was found, if the caller may see it on the day; otherwise the rule that
+/// denies it. `grants` are the holder's. A hidden authorization and a missing one get the same
+/// reply. Allocates nothing.
 pub fn see_found<'a>(
     grants: &[Granted],
     found: Option<&'a Auth>,
@@ -34,7 +34,7 @@ pub fn see_found<'a>(
     found_with_access(grants, found, day, caller, Access::Look)
 }
 
-/// The authorization of the number, where the caller may see it on the day, as `see_found` sees it.
+/// The authorization of the number, if the caller may see it on the day, as `see_found` decides.
 pub fn see<'a>(
     rows: Option<&'a HolderRows>,
     day: Day,

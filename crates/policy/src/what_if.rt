@@ -16,7 +16,7 @@ use crate::{Charter, HolderRows, Proposed, Refusal, Rule, View};
 use addr::{Day, Name};
 use std::alloc::Global;
 
-/// Makes one change of the rows, where no rule denies it.
+/// Makes one change of the rows, unless a rule denies it.
 fn apply_change(
     rows: &mut HolderRows,
     day: Day,

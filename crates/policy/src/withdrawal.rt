@@ -16,7 +16,7 @@ use crate::part::change_of;
 use crate::{Access, Auth, Change, Edit, Granted, HolderRows, Rule};
 use addr::{Day, Name};
 
-/// Whether all rules of a withdrawal hold; else the first that does not.
+/// `Ok` if all rules of a withdrawal hold; otherwise the first that fails.
 fn may_withdraw(
     grants: &[Granted],
     found: Option<&Auth>,
@@ -35,8 +35,8 @@ fn may_withdraw(
     Ok(())
 }
 
-/// What the withdrawal of a number does at a holder with these grants, where this authorization of
-/// the number was found; or the first rule of its line that does not hold. It takes no memory.
+/// The change that the withdrawal of a number makes, or the first rule that fails. `grants` are the
+/// holder's, and `found` is its authorization of the number, if there is one. Allocates nothing.
 pub fn withdraw_found(
     holder: &Name,
     grants: &[Granted],
@@ -57,14 +57,14 @@ pub fn withdraw_found(
     Ok(change_of(holder, Edit::Withdraw(number)))
 }
 
-/// Takes the authorization of the number from among the rows.
+/// Removes the authorization of the number from the rows.
 fn take_away(rows: &mut HolderRows, number: u32)
     ensures { rows_of rows.new ≡ edited (Edit.Withdraw number) (rows_of rows.old) }
 {
     rows.auths.retain(|auth| auth.number != number);
 }
 
-/// Takes the authorization of the number from among the rows, where no rule denies it.
+/// Removes the authorization of the number from the rows, unless a rule denies it.
 pub(crate) fn withdraw(
     rows: &mut HolderRows,
     day: Day,

@@ -35,7 +35,7 @@ abbrev pub is_transfer : Command → Bool
 is_transfer (Transfer p giver taker) = true
 is_transfer _ = false
 
--- the holder that the command names; of a transfer the giver, and of SLURM files none
+-- the holder that the command names: for a transfer the giver, and for SLURM files none
 abbrev pub holder_of : Command → Option (List ℕ)
 holder_of (Register holder) = Some holder
 holder_of (Delegate holder p) = Some holder
@@ -49,7 +49,7 @@ holder_of (Withdraw holder n) = Some holder
 holder_of (Import holder rows) = Some holder
 holder_of (Slurm files) = None
 
--- the taker of a transfer; of another command its holder
+-- the taker of a transfer; for another command its holder
 abbrev pub taker_of : Command → Option (List ℕ)
 taker_of (Transfer p giver taker) = Some taker
 taker_of command = holder_of command
@@ -81,7 +81,7 @@ abbrev pub imported : Change → ℕ
 imported (Holders first second) = edit_imported first.edit
 imported (Exceptions files) = 0
 
--- no run of addresses that an edit puts is one that it takes away
+-- no run of addresses that an edit puts is one that it deletes
 abbrev pub PutsNoneBack : Edit → Type 0
 PutsNoneBack (Hold removed added ended) = list_all (λ s. not (is_one_of removed.items s)) added.items ≡ true
 PutsNoneBack _ = Unit {0}
@@ -152,12 +152,12 @@ pub record IsAccepted (charter : Charter) (history : History) (day : ℕ) (calle
   pub sparing : IsSparing change
   pub of_command : IsOfCommand command change
 
--- no rule denies the command. Of an import nothing is said: its rows take memory while they are judged.
+-- no rule denies the command. For an import nothing is said: its rows take memory while they are judged.
 abbrev pub IsDeniedByNone : Charter → History → ℕ → List ℕ → Command → Type 0
 IsDeniedByNone charter history day caller (Import holder rows) = Unit {0}
 IsDeniedByNone charter history day caller command = Verdict charter history day caller command None
 
--- denied exactly by the rules; else accepted, unless memory was refused
+-- denied exactly by the rules; otherwise accepted, unless an allocation failed
 abbrev pub IsAnswer : Charter → History → ℕ → List ℕ → Command → Result Change Refusal → Type 0
 IsAnswer charter history day caller command (Err (Denied rule row)) =
     IsDenied charter history day caller command rule row
@@ -208,7 +208,7 @@ pub record AnswersGrant (history : History) (h : List ℕ) (granted : List Grant
   pub counter : IsMadeIfAny history h made
 
 -- What a create of the terms is judged on: the grants and the counter are those of the history. An answer has to be
--- right only where those before it let its rule be reached, so that it need not be asked elsewhere.
+-- right only if the answers before it deny nothing, so that it need not be looked up otherwise.
 pub record AnswersCreate (history : History) (h : List ℕ) (terms : AuthTerms) (granted : List Granted) (answers : CreateAnswers) : Type 0 where
   pub grants : granted ≡ grant_terms history h
   pub created : answers.created ≡ authorizations_made history h
@@ -237,7 +237,7 @@ IsListed history h day caller listed =
     ListVerdict history h day caller None
     × OfActive history h (λ active. listed ≡ filter (λ x. is_permitted_terms (grant_terms history h) day caller Look x) active)
 
--- a list is denied exactly by the verdict; where it is not, memory may be refused
+-- a list is denied exactly by the verdict; if it is not, an allocation may fail
 abbrev pub IsListRefusal : History → List ℕ → ℕ → List ℕ → Refusal → Type 0
 IsListRefusal history h day caller (Denied rule row) = ListVerdict history h day caller (Some rule) × (row ≡ None)
 IsListRefusal history h day caller Memory = ListVerdict history h day caller None
@@ -253,7 +253,7 @@ AnswersRows charter rows day caller command result =
     (history : History) → IsLegal charter history → RowsOfNamed history (holder_of command) rows
     → IsAnswer charter history day caller command result
 
--- the same of what takes no memory
+-- the same for what takes no memory
 abbrev pub JudgesRows : Charter → Option Rows → ℕ → List ℕ → Command → Result Change Rule → Type 0
 JudgesRows charter rows day caller command result =
     (history : History) → IsLegal charter history → RowsOfNamed history (holder_of command) rows

@@ -1,5 +1,5 @@
--- The entries of a history that name a holder. By themselves those of a legal history may be no legal
--- one: a transfer from another holder is among them, but not the registration of that holder.
+-- The entries of a history that name a holder. By themselves the entries of a legal history may be no legal history: a
+-- transfer from another holder is among them, without the registration of that holder.
 use Rattle.std.specs.Prelude.{ℕ, Bool, false, ◌||◌, List, [], filter, Option, Some, None}
 use Rattle.registry.specs.declared.command.Command.{Command}
 use Rattle.registry.specs.declared.command.Command.TheVariants.{Transfer}

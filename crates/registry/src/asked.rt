@@ -10,8 +10,8 @@ pub enum Request {
     Query(Query),
 }
 
-/// A request with the day on which it is judged and its caller, as an authenticating front named
-/// it.
+/// A request with its caller, as an authenticating front named it, and the day on which it is
+/// judged.
 #[derive(Debug, Drop)]
 pub struct Asked {
     pub day: Day,

@@ -27,7 +27,8 @@ impl RoaPrefix {
         self.prefix.is(prefix) && self.max == max
     }
 
-    /// The VRP of the entry for the AS; `None` where the maxLength is out of range, as in no history.
+    /// The VRP of the entry for the AS; `None` if the maxLength is out of range, which it is in no
+    /// history.
     pub fn vrp(&self, asn: Asn) -> Option<Vrp>
         ensures some { IsSome result ↔ FitsMaxLength self.now.prefix self.now.max }
         ensures value { IfSome result (IsVrpOfEntry self.now asn) }

@@ -13,8 +13,8 @@ use std::slice;
 pub enum Edit {
     /// Puts the holder's row. It has no other rows, and both counters are 0.
     Register,
-    /// Takes away these runs of addresses, puts others in their place, and takes away the
-    /// authorizations of these numbers. A run that stays is in neither list.
+    /// Deletes these runs of addresses, puts others in their place, and deletes the authorizations
+    /// of these numbers. A run that stays is in neither list.
     Hold {
         removed: Vec<Span>,
         added: Vec<Span>,
@@ -22,7 +22,7 @@ pub enum Edit {
     },
     /// Puts a grant and sets the counter of grants to its number.
     Grant(Granted),
-    /// Takes away the grant of this number.
+    /// Deletes the grant of this number.
     Revoke(u32),
     /// Puts an authorization and sets the counter of authorizations to its number.
     Create(Auth),
@@ -31,9 +31,9 @@ pub enum Edit {
         auths: Vec<Auth>,
         created: u32,
     },
-    /// Puts an authorization in the place of the one of its number.
+    /// Replaces the authorization of the same number.
     Amend(Auth),
-    /// Takes away the authorization of this number.
+    /// Deletes the authorization of this number.
     Withdraw(u32),
 }
 
@@ -47,12 +47,12 @@ pub struct HolderChange {
 /// What an accepted command does to the rows.
 #[derive(Drop)]
 pub enum Change {
-    /// Edits those of one holder, for a transfer of two.
+    /// Edits the rows of one holder, or for a transfer of two.
     Holders {
         first: HolderChange,
         second: Option<HolderChange>,
     },
-    /// Puts these SLURM files in the place of all that there were.
+    /// Replaces all SLURM files by these.
     Exceptions(SlurmSet),
 }
 
@@ -90,7 +90,7 @@ impl Edit {
         }
     }
 
-    /// How many authorizations the edit of an import makes; of another edit 0.
+    /// How many authorizations the edit of an import makes; 0 for another edit.
     fn imported(&self) -> usize
         ensures { result ≡ edit_imported self.now }
     {
@@ -100,8 +100,8 @@ impl Edit {
         }
     }
 
-    /// Whether the edit ends the authorization of this number: takes it away, or puts another in
-    /// its place. A registration ends all, of which a holder that was not registered has none.
+    /// Whether the edit ends the authorization of this number: deletes or replaces it. A
+    /// registration ends all, since a holder that was not registered has none.
     pub fn ends(&self, number: u32) -> bool
         ensures { result ≡ ends self.now number }
     {
@@ -114,8 +114,8 @@ impl Edit {
         }
     }
 
-    /// The authorizations that the edit begins, where the holder has these. An amendment begins
-    /// its own only where one of them has its number.
+    /// The authorizations that the edit begins at a holder that has those of `beside`. An amendment
+    /// begins its own only if one of them has its number.
     pub fn begun(&self, beside: &[Auth]) -> &[Auth]
         ensures { result.now ≡ begun self.now beside.now }
     {
@@ -146,7 +146,7 @@ impl Change {
         }
     }
 
-    /// How many authorizations the change of an import makes; of another change 0.
+    /// How many authorizations the change of an import makes; 0 for another change.
     pub fn imported(&self) -> usize
         ensures { result ≡ imported self.now }
     {

@@ -6,7 +6,7 @@ use crate::{AuthTerms, ImportRow, Role, Scope};
 use addr::{Day, Name, Prefix, Route};
 use slurm::SlurmSet;
 
-/// A request that enters the history where it is accepted.
+/// A request that enters the history if it is accepted.
 #[derive(Debug, Drop)]
 pub enum Command {
     /// Makes the holder known to the desk; it has no addresses yet.
@@ -66,7 +66,7 @@ pub enum Command {
         holder: Name,
         rows: Vec<ImportRow>,
     },
-    /// Puts these SLURM files in the place of all that there were.
+    /// Replaces all SLURM files by these.
     Slurm {
         files: SlurmSet,
     },
@@ -124,7 +124,7 @@ impl Command {
         matches!(self, Command::Transfer { .. })
     }
 
-    /// The holder that the command names; of a transfer the giver, and of SLURM files none.
+    /// The holder that the command names: for a transfer the giver, and for SLURM files none.
     pub fn holder(&self) -> Option<&Name>
         ensures { option_copied result ≡ holder_of self.now }
     {

@@ -1,5 +1,5 @@
-//! Laws of the definitions. `entry_fits` and `operators_fit` are about their arguments: they read
-//! them all, for the proofs alone.
+//! Theorems, stated as contracts of functions. `entry_fits` and `operators_fit` are about their
+//! arguments, which they read for the proof alone; the other bodies are empty.
 
 ghost use Rattle.std.specs.Prelude.{◌≡◌, IsTrue};
 ghost use Rattle.std.specs.List.{AllByRecursion};
@@ -36,8 +36,8 @@ pub fn operators_fit(charter: &Charter)
     names_fit(charter.operators());
 }
 
-/// The limits of the rule `room` and of the entries of an authorization in numbers, so that a
-/// changed constant is not proved.
+/// States the limits of the rule `room` and of the entries of an authorization as numbers, so that
+/// the proof fails if a constant changes.
 pub fn limits()
     ensures grants { MOST_GRANTS ≡ 64 }
     ensures authorizations { MOST_AUTHORIZATIONS ≡ 1000 }

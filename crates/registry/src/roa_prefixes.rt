@@ -12,7 +12,7 @@ use thiserror::Error;
 /// How many entries an authorization may have.
 const MOST_ENTRIES: usize = 64;
 
-/// Why a list is not that of the entries of an authorization. Of both faults the first counts.
+/// Why a list is not that of the entries of an authorization. If both apply, the first one counts.
 #[derive(Clone, Copy, Debug, PartialEq, Eq, Error)]
 pub enum RoaPrefixesFault {
     /// There are not 1 to 64 entries.
@@ -59,7 +59,7 @@ impl RoaPrefixes {
         Ok(RoaPrefixes { entries })
     }
 
-    /// The list of these entries, where they are those of an authorization in order.
+    /// The list of these entries, if they are those of an authorization in order.
     pub fn in_order(entries: Vec<RoaPrefix>) -> Option<RoaPrefixes>
         ensures { MatchOption result (¬ AreEntries entries.items) (λ made.
             AreEntries made × (made ≡ entries.items)) }
@@ -88,7 +88,7 @@ impl RoaPrefixes {
         &self.entries
     }
 
-    /// Sets the maxLengths, one an entry in order; where there are fewer, the others stay.
+    /// Sets the maxLengths, one an entry in order; if there are fewer, the others stay.
     pub fn set_maxes(&mut self, maxes: &[u8])
         ensures { self.new ≡ with_maxes maxes.now self.old }
     {

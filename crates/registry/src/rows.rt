@@ -6,8 +6,8 @@ use std::alloc::AllocError;
 
 /// The rows of one registered resource holder.
 ///
-/// The type itself promises nothing of them beyond each row: they are those of a history only
-/// where whoever keeps them says so.
+/// The type promises no more than the types of its fields. If the rows are those of a history, a
+/// contract says so.
 #[derive(Drop)]
 pub struct HolderRows {
     /// The address space that the holder holds.
@@ -42,23 +42,25 @@ impl Clone for HolderRows {
 /// What a command is judged on.
 #[derive(Drop)]
 pub struct View {
-    /// The rows of the holder that the command names; none where it is not registered.
+    /// The rows of the holder that the command names; `None` if it is not registered.
     pub holder: Option<HolderRows>,
     /// For a delegation, whether some address of the prefix has a resource holder. Not read for
     /// any other command.
     pub taken: bool,
 }
 
-/// What a create of some terms is judged on at a holder, beside its grants. Each of the tests has to
-/// be right only where those before it let its rule be reached.
+/// What the rules of a create read at a holder, beside its grants. `gives` has to be right only if
+/// `holds` is true, and `is_full` only if also `gives` is false: otherwise an earlier rule denies
+/// the create.
 #[derive(Clone, Copy)]
 pub struct CreateAnswers {
     /// How many authorizations were made at the holder.
     pub created: u32,
     /// Whether the holder holds every address of the terms.
     pub holds: bool,
-    /// Whether an active authorization gives the AS of the terms with some entry of theirs.
+    /// Whether an active authorization of the holder gives the AS of the terms with one of their
+    /// entries.
     pub gives: bool,
-    /// Whether no more authorizations may be active.
+    /// Whether the holder has as many active authorizations as it may have.
     pub is_full: bool,
 }

@@ -6,7 +6,7 @@ ghost use Rattle.registry.specs.declared.rule.Refusal.TheVariants.{Denied, Memor
 use std::alloc::{AllocError, AllocFailed};
 use std::fmt;
 
-/// The rules of admission. Each request has a line of them; the first that does not hold denies it.
+/// The admission rules. Each kind of request has a list of them; the first that fails denies it.
 #[derive(Clone, Copy, Debug, PartialEq, Eq)]
 pub enum Rule {
     /// The caller is an operator of the desk.
@@ -90,7 +90,8 @@ impl fmt::Display for Rule {
 /// Why a request was refused.
 #[derive(Clone, Copy, Debug, PartialEq, Eq)]
 pub enum Refusal {
-    /// The first rule that does not hold, and for a request of several rows the row, from 1.
+    /// The first rule that fails; for an import also the row, and for a what-if the change, counted
+    /// from 1.
     Denied(Rule, Option<u64>),
     /// An allocation failed.
     Memory,

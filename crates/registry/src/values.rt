@@ -1,5 +1,5 @@
-//! The ranges that the types of values promise. Elsewhere a contract sees a day, a name and a number
-//! of a type as any number and any text.
+//! Proof only: each function brings in the range that a type promises, since a contract sees a day
+//! or a number as any number, and a name as any text. The loops run, and change nothing.
 
 ghost use Rattle.std.specs.Prelude.{All, IsTrue};
 ghost use Rattle.std.specs.List.{AllByRecursion};

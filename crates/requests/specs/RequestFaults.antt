@@ -231,7 +231,7 @@ file_list d value =
 abbrev pub file_choice : Choice
 file_choice = ((codes "file", file) ∷ [], (codes "files", file_list) ∷ [])
 
--- ---- what is asked
+-- ---- actions
 
 -- the requests, in the order of their table
 abbrev pub all_actions : List Action

@@ -129,8 +129,8 @@ abbrev pub SaysRows : RowsBrought → List ImportRow → Type 0
 SaysRows (in_member member) rows = HasItems HasRow member rows
 SaysRows (in_text text) rows = IsImportText text rows
 
--- what a request says outside of the members that lines and bodies have in common: what it asks, the holder and
--- the number that it names, and the SLURM file, the list of such files or the rows that it brings
+-- what a request says outside of the members that lines and bodies have in common: its action, the holder and the
+-- number that it names, and the SLURM file, the list of such files or the rows that it brings
 pub record Heading : Type 0 where
   pub action : Option Action
   pub holder : Option (List ℕ)

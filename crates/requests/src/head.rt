@@ -18,13 +18,13 @@ pub const FIELD_LIMIT: usize = 32;
 #[derive(Clone, Copy, Debug)]
 pub struct Head<'a> {
     pub action: Action,
-    /// The path's piece that names a holder, where the path has one.
+    /// The path's piece that names a holder, if the path has one.
     pub holder: &'a [u8],
-    /// The path's piece that is a number, where the path has one.
+    /// The path's piece that is a number, if the path has one.
     pub number: &'a [u8],
-    /// The value of the one field `Desk-Caller`; `None` where there is none, or more than one.
+    /// The value of the one field `Desk-Caller`; `None` if there is none, or more than one.
     pub caller: Option<&'a [u8]>,
-    /// The length of the body, where the request has one.
+    /// The length of the body, if the request has one.
     pub body_length: Option<usize>,
 }
 
@@ -41,7 +41,7 @@ pub fn read_request_head<'a>(routes: &Routes, head: &'a [u8]) -> Result<Head<'a>
     head_of(routes, head, method, target, &spans[..request.headers])
 }
 
-/// The head where it is one of exactly these bytes.
+/// The head that is exactly these bytes, if there is one.
 fn parse_head(head: &[u8], fields: &mut [HeaderSpan]) -> Option<RequestSpans>
     ensures some { IfSome result (λ spans. (h : RequestHead)
         × IsRequestAt head.now fields.new spans h × ReadsRequest head.now h []) }

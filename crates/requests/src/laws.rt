@@ -1,4 +1,4 @@
-//! Laws of the definitions. Each function does nothing: what it ensures is the law.
+//! Theorems, stated as contracts of functions with empty bodies.
 ghost use Rattle.std.specs.Prelude.{◌≡◌};
 ghost use Rattle.requests.specs.declared.head.TheConstants.{FIELD_LIMIT};
 ghost use Rattle.requests.specs.declared.request.TheConstants.{LINE_LENGTH_LIMIT};
@@ -7,7 +7,7 @@ ghost use Rattle.requests.specs.declared.request.lists.TheConstants.{MOST_ITEMS,
 ghost use Rattle.slurm.specs.declared.set.TheConstants.{MOST_FILES};
 ghost use Rattle.requests.specs.declared.request.members.TheConstants.{GREATEST_MAX};
 
-/// The limits of a request in numbers, so that a changed constant is not proved.
+/// States the limits of a request as numbers, so that the proof fails if a constant changes.
 pub fn limits()
     ensures line { LINE_LENGTH_LIMIT ≡ 1048576 }
     ensures fields { FIELD_LIMIT ≡ 32 }

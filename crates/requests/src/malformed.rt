@@ -1,15 +1,15 @@
-//! What a request is refused for before the desk sees it.
+//! Why a request is refused before the desk sees it.
 ghost use Rattle.std.specs.Prelude.{◌≡◌};
 
 use crate::request::fault::Fault;
 use addr::digits;
 use arrayvec::ArrayString;
 
-/// Why a request is none: the number of its lowest fault.
+/// Why bytes are no request: the number of their lowest fault.
 #[derive(Clone, Copy, Debug, PartialEq, Eq)]
 pub struct Malformed {
     pub number: u8,
-    /// Of a SLURM file (RFC 8416) that is refused, the number of its own fault.
+    /// If a SLURM file (RFC 8416) is refused, the number of the file's own fault.
     pub slurm: Option<u8>,
 }
 

@@ -26,7 +26,7 @@ impl Model for Routes {
 }
 
 impl Routes {
-    /// Only an allocation can fail.
+    /// The routes of all paths. Only an allocation can fail.
     #[tactic(auto, unfolding(crate::specs::Paths::path_routes))]
     pub fn new(alloc: Global) -> Result<Routes, AllocError>
         ensures { IfOk result (λ made. made ≡ path_routes) }
@@ -69,7 +69,7 @@ fn has_query(target: &[u8]) -> bool
     target.iter().any(|byte| *byte == b'?' || *byte == b'#')
 }
 
-/// No two of the paths conflict, so that only an allocation can fail.
+/// Adds a path. No two of them conflict, so only an allocation can fail.
 fn add(router: &mut Router<Path>, template: &str, path: Path) -> Result<(), AllocError>
     ensures { OnOk result (router.new ≡ with_path router.old (template.now, path)) }
 {

@@ -36,10 +36,10 @@ pub(crate) const ACTIONS: &[Action] = &[
 /// A row of the table: how a request is written.
 #[derive(Clone, Copy, Debug)]
 pub(crate) struct RequestForm {
-    /// Its word in `do`; `None` where no line asks for it.
+    /// Its word in `do`; `None` if no line is such a request.
     pub(crate) word: Option<&'static str>,
-    /// The members of its line: those of every line, what it names, and those of its body. Of a
-    /// choice both lists are there.
+    /// The members of its line: those of every line, those that name something, and those of its
+    /// body. A choice has the members of both lists.
     pub(crate) line_members: &'static [&'static str],
     pub(crate) body_members: &'static [&'static str],
     pub(crate) method: Method,

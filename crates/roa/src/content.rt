@@ -18,7 +18,7 @@ pub struct Entry {
     pub max: u8,
 }
 
-/// Why a list of entries is no content. Of several faults the lowest counts.
+/// Why a list of entries is no content. If several faults apply, the lowest one counts.
 #[derive(Clone, Copy, Debug, PartialEq, Eq, Error)]
 pub enum ContentFault {
     /// There is no entry.
@@ -75,8 +75,8 @@ impl Content {
     /// The most entries that a content has.
     pub const MAX_ENTRIES: usize = 64;
 
-    /// The content of the entries, which it puts in order. Of several faults it reports the lowest,
-    /// over all entries.
+    /// The content of the entries, which it puts in order. If several faults apply, it reports the
+    /// lowest, over all entries.
     pub fn make(asn: Asn, mut entries: Vec<Entry>) -> Result<Content, ContentFault>
         ensures asn { IfOk result (λ content. content.asn ≡ asn) }
         ensures same_entries { IfOk result
@@ -100,7 +100,8 @@ impl Content {
         Ok(Content { asn, entries })
     }
 
-    /// None where there is no entry, or where the entries do not rise strictly.
+    /// The content of these entries; `None` if there is no entry, or the entries do not rise
+    /// strictly.
     pub(crate) fn from_rising(asn: Asn, entries: Vec<Entry>) -> Option<Content>
         requires few { length entries.items ≤ MAX_ENTRIES }
         requires in_range { list_all is_in_range entries.items ≡ true }

@@ -1,12 +1,12 @@
-//! What holds of the octets of contents by their definition alone.
+//! Theorems about the octets of contents, stated as contracts of functions with empty bodies.
 
 ghost use Rattle.std.specs.Prelude.{◌≡◌, ℕ, List, ◌++◌, ◌↔◌};
 ghost use Rattle.roa.specs.RoaContent.{RouteOriginAttestation, IsContent, Encodes};
 ghost use Rattle.roa.specs.ContentOctets.{content_octets};
 ghost use Rattle.roa.specs.declared.content.TheConstants.Content.{MAX_ENTRIES};
 
-/// No octets of a content begin those of another: from whatever follows, both the content and where
-/// it ends are known. So of one content there are no two.
+/// No content's octets begin with another content's: whatever follows them, the content and where
+/// it ends are known. So no octets are those of two contents.
 pub fn prefix_free()
     ensures { (a b : RouteOriginAttestation) (s t x y : List ℕ) → IsContent a → IsContent b
         → Encodes a s → Encodes b t → s ++ x ≡ t ++ y → (a ≡ b) × (s ≡ t) × (x ≡ y) }
@@ -18,7 +18,7 @@ pub fn one_spelling()
         → Encodes content octets ↔ (octets ≡ content_octets content) }
 {}
 
-/// The limit of a content in numbers, so that a changed constant is not proved.
+/// States the limit of a content as a number, so that the proof fails if the constant changes.
 pub fn limits()
     ensures { MAX_ENTRIES ≡ 64 }
 {}

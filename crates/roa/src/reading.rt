@@ -75,7 +75,7 @@ fn number_of(octets: &[u8]) -> u128
     number
 }
 
-/// The number of an INTEGER, by its contents; None where it has more than 32 bits.
+/// The number of an INTEGER, by its contents; `None` if it has more than 32 bits.
 #[tactic(auto, unfolding(crate::specs::steps::Reading::integer_of))]
 fn read_integer(contents: &[u8]) -> Option<u32>
     ensures { Gives (λ n. n) result (integer_of contents.now) }
@@ -191,7 +191,7 @@ fn take_block(family: Family, octets: &[u8]) -> Option<(&[u8], &[u8])>
     Some((addresses, rest))
 }
 
-/// Adds the entries of a family, where a block of it begins here. The octets after it.
+/// Adds the entries of a family, if a block of it begins here; returns the octets after the block.
 #[tactic(auto, unfolding(crate::specs::steps::Reading::family_at))]
 fn read_family<'a>(
     family: Family,

@@ -109,7 +109,7 @@ fn push_entries(
     Ok(())
 }
 
-/// Adds the block of the family, where there are entries of it.
+/// Adds the block of the family, if there are entries of it.
 fn push_family(
     alloc: Global,
     out: &mut Vec<u8>,

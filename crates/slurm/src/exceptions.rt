@@ -52,8 +52,8 @@ impl Slurm {
     ghost use Rattle.slurm.specs.SlurmEntries.{SaysExceptions};
     ghost use Rattle.slurm.specs.SlurmFaults.{slurm_fault};
 
-    /// The exceptions of these lists, which are kept as they are; `TooMany` where they have more
-    /// than 4096 entries together.
+    /// The exceptions of these lists, which are kept as they are; `TooMany` if they have more than
+    /// 4096 entries together.
     pub fn make(filters: Vec<Filter>, assertions: Vec<Vrp>) -> Result<Slurm, SlurmFault>
         ensures { result ≡ exceptions_of filters.items assertions.items }
     {

@@ -6,7 +6,7 @@ use json_values::Fault;
 use std::alloc::AllocError;
 use thiserror::Error;
 
-/// Why something is no SLURM file. Where several faults apply, the one of the lowest number is
+/// Why something is no SLURM file. If several faults apply, the one with the lowest number is
 /// reported.
 #[derive(Clone, Copy, Debug, PartialEq, Eq, Error)]
 pub enum SlurmFault {
@@ -15,7 +15,7 @@ pub enum SlurmFault {
     NotJson = 1,
     #[error("the file is not an object")]
     NotObject,
-    /// An object or array is something else, or a member is missing or unknown.
+    /// An object or an array is expected, or a member is missing or unknown.
     #[error("an object or array is wanted, or a member is missing or unknown")]
     Members,
     #[error("slurmVersion is not 1")]
@@ -39,7 +39,7 @@ pub enum SlurmFault {
 }
 
 impl SlurmFault {
-    /// 1 for `NotJson` to 12 for `Memory`.
+    /// The number of the fault, from 1 for `NotJson` to 12 for `Memory`.
     pub fn number(self) -> u8
         ensures { result ≡ slurm_fault_number self }
     {

@@ -5,14 +5,14 @@ ghost use Rattle.slurm.specs.Filter.{filter_matches};
 
 use addr::{Asn, Prefix, Vrp};
 
-/// A prefix filter (RFC 8416 section 3.3.1): which VRPs are taken away.
+/// A prefix filter (RFC 8416 section 3.3.1), which removes VRPs.
 #[derive(Clone, Copy, Debug, PartialEq, Eq)]
 pub enum Filter {
-    /// Of this prefix, or one in it.
+    /// The VRPs of this prefix or one in it.
     Under(Prefix),
-    /// Of this AS.
+    /// The VRPs of this AS.
     By(Asn),
-    /// Of this AS, and of this prefix or one in it.
+    /// The VRPs of this AS, and of this prefix or one in it.
     Both(Prefix, Asn),
 }
 

@@ -9,7 +9,7 @@ use addr::Vrp;
 use std::alloc::{AllocError, Global};
 use std::marker::Model;
 
-/// Prefix filters that are asked about many VRPs: each VRP takes two binary searches.
+/// Prefix filters for matching many VRPs: each VRP takes two binary searches.
 #[derive(Debug, Drop)]
 pub struct FilterIndex {
     filters: Vec<Filter>,

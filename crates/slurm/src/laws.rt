@@ -1,8 +1,8 @@
-//! Laws of the definitions. Each function does nothing: what it ensures is the law.
+//! Theorems, stated as contracts of functions with empty bodies.
 ghost use Rattle.std.specs.Prelude.{◌≡◌};
 ghost use Rattle.slurm.specs.declared.exceptions.TheConstants.{MOST_ENTRIES};
 
-/// The limit of a file in numbers, so that a changed constant is not proved.
+/// States the limit of a file as a number, so that the proof fails if the constant changes.
 pub fn limits()
     ensures { MOST_ENTRIES ≡ 4096 }
 {}

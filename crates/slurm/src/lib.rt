@@ -1,5 +1,5 @@
-//! SLURM files (RFC 8416): local exceptions to the VRPs of a relying party, as filters that take
-//! VRPs away and assertions that add some.
+//! SLURM files (RFC 8416): local exceptions to the VRPs of a relying party, as filters that remove
+//! VRPs and assertions that add some.
 #![tactic(auto)]
 
 mod entries;

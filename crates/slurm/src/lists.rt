@@ -35,7 +35,7 @@ fn entries_in<T: FromJson<SlurmFault>>(alloc: Global, value: &Value, name: &str)
     }
 }
 
-/// The array of that name has to be there, and to be empty.
+/// Checks that the array of that name is there and empty.
 fn bgpsec_in(value: &Value, name: &str) -> Result<(), SlurmFault>
     ensures { result ≡ bgpsec_from (array_at name.now (view value.now)) }
 {
@@ -64,8 +64,8 @@ fn part<T: FromJson<SlurmFault>>(
     Ok(unless(unless(listed, known), unused))
 }
 
-/// The part of that name: an object of the entries, and of the BGPsec entries, of which there must
-/// be none.
+/// The part of that name: an object with the entries, and with the BGPsec entries, of which there
+/// must be none.
 pub(crate) fn required_part<T: FromJson<SlurmFault>>(
     alloc: Global,
     value: &Value,

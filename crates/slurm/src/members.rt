@@ -60,7 +60,7 @@ impl FromJson<SlurmFault> for Comment {
     }
 }
 
-/// A `slurmVersion`: there is version 1 alone.
+/// A `slurmVersion`: 1 is the only one.
 #[derive(Clone, Copy)]
 pub(crate) struct Version;
 

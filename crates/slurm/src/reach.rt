@@ -1,4 +1,4 @@
-//! What filters reach, in an order in which few have to be looked at for a VRP.
+//! What filters reach, in an order in which few of them have to be looked at for a VRP.
 ghost use Rattle.std.specs.Prelude.{◌≡◌, ◌||◌, ◌&&◌, ◌==◌, IfOk, OnOk};
 ghost use Rattle.addr.specs.Address.{contains};
 ghost use Rattle.addr.specs.Family.{family_eq};
@@ -13,7 +13,7 @@ use crate::Filter;
 use addr::{Asn, Family, Prefix, Vrp};
 use std::alloc::{AllocError, Global};
 
-/// VRPs of this prefix or one in it: of this AS or, where there is none, of any.
+/// The VRPs of this prefix or one in it, by this AS or, if there is none, by any.
 ///
 /// Reaches rise by AS, with none first, and by prefix.
 #[derive(Clone, Copy, Debug, PartialEq, Eq, PartialOrd, Ord)]
@@ -46,7 +46,7 @@ pub(crate) fn reaches_of(alloc: Global, filters: &[Filter]) -> Result<Vec<Reach>
     Ok(reaches)
 }
 
-/// A filter without a prefix reaches all of each family.
+/// Adds what the filter reaches. One without a prefix reaches all of each family.
 fn push_reaches(reaches: &mut Vec<Reach>, filter: &Filter) -> Result<(), AllocError>
     ensures { OnOk result ((v : Vrp) → some_reaches reaches.new.items v
         ≡ (some_reaches reaches.old.items v || filter_matches filter.now v)) }
@@ -109,8 +109,8 @@ pub(crate) fn some_reaches(reaches: &[Reach], vrp: &Vrp) -> bool
     some_encloses(reaches, &of_any) || some_encloses(reaches, &of_one)
 }
 
-/// Of the reaches up to the wanted one only the last can enclose it: one before that would enclose
-/// the last too.
+/// Whether some reach encloses the wanted one. Only the last one up to it can: one before that
+/// would enclose the last too.
 fn some_encloses(reaches: &[Reach], wanted: &Reach) -> bool
     requires { AreWidest reaches.now }
     ensures { result ≡ some_encloses reaches.now wanted.now }

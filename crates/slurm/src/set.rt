@@ -31,7 +31,7 @@ impl Clone for NamedSlurm {
     }
 }
 
-/// Why files are no set. Of both faults the first counts.
+/// Why files are no set. If both faults apply, the first one counts.
 #[derive(Clone, Copy, Debug, PartialEq, Eq, Error)]
 pub enum SlurmSetFault {
     #[error("there are more than 16 files")]

@@ -36,8 +36,8 @@ impl NamedPrefix {
 }
 
 impl SlurmSet {
-    /// Whether some two files of the set overlap. It takes memory for the prefixes that they name, and
-    /// no more time than it takes to sort these; where memory is refused, the time of all pairs.
+    /// Whether some two files of the set overlap. It takes memory for the prefixes that they name,
+    /// and no more time than it takes to sort these; if an allocation fails, the time of all pairs.
     pub fn has_overlap(&self, alloc: Global) -> bool
         ensures some { IsTrue result ↔ SomeOverlap self.now }
         ensures by_test { result ≡ some_overlap self.now }
@@ -139,8 +139,8 @@ fn push_assertions(
     Ok(())
 }
 
-/// Only the outermost prefix is looked at again: a prefix that shares an address with one that lies in
-/// it shares that address with it.
+/// Only the outermost prefix is looked at again: whatever shares an address with a prefix in it
+/// shares that address with it.
 fn some_clash(prefixes: &[NamedPrefix]) -> bool
     requires { IsSortedByKey (λ p. p.prefix) prefix_cmp prefixes.now }
     ensures { result ≡ some_clash prefixes.now }

@@ -14,13 +14,13 @@ use std::default::MadeWith;
 
 /// A vector of these items, wherever it keeps them.
 pub trait Items<T>: AsSlice<T> {
-    /// Puts the item at this place.
+    /// Inserts the item at this place.
     fn insert(&mut self, at: usize, item: T) -> Result<(), AllocError>
         requires { at ≤ length (Self.items self.old) }
         ensures ok { OnOk result (Self.items self.new ≡ insert (Self.items self.old) at item) }
         ensures err { OnErr result (Self.items self.new ≡ Self.items self.old) };
 
-    /// Takes out the item at this place.
+    /// Removes the item at this place.
     fn remove(&mut self, at: usize)
         requires { at < length (Self.items self.old) }
         ensures { Self.items self.new ≡ remove (Self.items self.old) at };
@@ -46,7 +46,7 @@ impl<T: MadeWith<Global> + Drop, const N: usize> Items<T> for SmallVec<T, N> {
     }
 }
 
-/// Whether the item is there.
+/// Whether the items have this one.
 pub fn contains<T: Ord>(items: &[T], item: &T) -> bool
     requires { RiseBy T.cmp items.now }
     ensures { result ≡ list_any (eq_by_cmp T.cmp item.now) items.now }
@@ -54,7 +54,7 @@ pub fn contains<T: Ord>(items: &[T], item: &T) -> bool
     items.binary_search(item).is_ok()
 }
 
-/// Puts the item in its place. Whether it is new.
+/// Inserts the item in its place; returns whether it was new.
 pub fn insert<T: Ord + Drop, V: Items<T>>(items: &mut V, item: T) -> Result<bool, AllocError>
     requires { RiseBy T.cmp (V.items items.old) }
     ensures new { IfOk result (λ is_new.
@@ -73,7 +73,7 @@ pub fn insert<T: Ord + Drop, V: Items<T>>(items: &mut V, item: T) -> Result<bool
     }
 }
 
-/// Takes the item out. Whether it was there.
+/// Removes the item; returns whether it was there.
 pub fn remove<T: Ord + Drop, V: Items<T>>(items: &mut V, item: &T) -> bool
     requires { RiseBy T.cmp (V.items items.old) }
     ensures found { result ≡ list_any (eq_by_cmp T.cmp item.now) (V.items items.old) }
@@ -90,7 +90,7 @@ pub fn remove<T: Ord + Drop, V: Items<T>>(items: &mut V, item: &T) -> bool
     }
 }
 
-/// Sorts the items, and keeps one of those that compare alike.
+/// Sorts the items, and keeps one of those that compare equal.
 pub fn sort_and_dedup<T: Ord + Drop>(items: &mut Vec<T>)
     ensures rising { IsStrictlySortedBy T.cmp items.new.items }
     ensures members { (x : T)

@@ -8,10 +8,9 @@ use Rattle.making.specs.declared.fault.StoreFault.{StoreFault}
 use Rattle.making.specs.declared.fault.StoreFault.TheVariants.{Schema}
 use Rattle.database.specs.Opening.{IsOfAnotherSchema, LeavesOldOrMoved}
 
--- The connection is given back with the fault. Where the disk returned what was written, the fault is `Schema`
--- only of what was found as a database of another schema, the database is as it was found while the connection
--- is open, and a crash leaves what it left before, or, of a database of schema 1, the trees of a desk with what its
--- tables held.
+-- The connection is returned with the fault. If the disk returned what was written, the fault is `Schema` only of what
+-- was found as a database of another schema, the database is as it was found while the connection is open, and a crash
+-- leaves what it left before, or, of a database of schema 1, the trees of a desk with what its tables held.
 pub record IsGivenBack {S : Type 0} (g : Ghosts S) (found : State) (fault : StoreFault) (returned : Held S) : Type 0 where
   pub clean : HasCleanDisk (state g returned) → HasCleanDisk found
   pub schema : HasCleanDisk (state g returned) → fault ≡ Schema → IsOfAnotherSchema found.now

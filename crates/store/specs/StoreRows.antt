@@ -31,19 +31,19 @@ view_code {S} store =
 abbrev pub connection_state : {S : Type 0} → Ghosts S → StoreView S → State
 connection_state g store = state g store.connection
 
--- The tables hold the store's charter and these rows. Nothing is said where the disk returned what was not written, or where a
--- failure of the disk shut the connection, which then answers nothing more.
+-- The tables hold the store's charter and these rows. Nothing is said if the disk returned what was not written, or if
+-- a failure of the disk shut the connection, which then answers nothing more.
 abbrev pub Holds : {S : Type 0} → Ghosts S → StoreView S → AllRows → Type 0
 Holds g store rows =
     HasCleanDisk (connection_state g store) → IsTrue (connection_state g store).is_open
     → TablesHold store.charter rows (connection_state g store).now.trees
 
--- it is so of the rows that a store holds
+-- this holds for the rows that a store holds
 abbrev pub OfHeldRows :
     {S : Type 0} → Ghosts S → StoreView S → (AllRows → Type 0) → Type 0
 OfHeldRows g store so = (rows : AllRows) → Holds g store rows → so rows
 
--- it is so, unless the disk returned what was not written
+-- this holds, unless the disk returned what was not written
 abbrev pub IfClean : {S : Type 0} → Ghosts S → StoreView S → Type 0 → Type 0
 IfClean g store so = HasCleanDisk (connection_state g store) → so
 
@@ -51,20 +51,20 @@ IfClean g store so = HasCleanDisk (connection_state g store) → so
 abbrev pub HoldsAfter : {S : Type 0} → Ghosts S → StoreView S → StoreView S → RowChange → Type 0
 HoldsAfter g old new to = (rows : AllRows) → Holds g old rows → Holds g new (to rows)
 
--- A crash leaves what it left before, or the trees of a desk with rows turned so.
+-- A crash leaves what it left before, or the trees of a desk with the rows after the change.
 abbrev pub MayLeave : {S : Type 0} → Ghosts S → StoreView S → StoreView S → RowChange → Type 0
 MayLeave g old new to =
     (trees : Trees) → (connection_state g new).may_leave trees
     → (connection_state g old).may_leave trees
     ⊎ (IsDeskTrees trees × ((rows : AllRows) → Holds g old rows → TablesHold old.charter (to rows) trees))
 
--- A crash leaves the trees of a desk with rows turned so, and nothing else.
+-- A crash leaves the trees of a desk with the rows after the change, and nothing else.
 abbrev pub LeavesOnly : {S : Type 0} → Ghosts S → StoreView S → StoreView S → RowChange → Type 0
 LeavesOnly g old new to =
     (rows : AllRows) → Holds g old rows → (trees : Trees)
     → (connection_state g new).may_leave trees → TablesHold old.charter (to rows) trees × IsDeskTrees trees
 
--- the tables are so after the change, and a crash leaves them so
+-- the change places the exceptions in the tables, and a crash leaves them so
 pub record LeavesPlaced {S : Type 0} (g : Ghosts S) (change : Change) (old new : StoreView S) : Type 0 where
   pub shown : PlacesExceptions change (connection_state g old).now.trees (connection_state g new).now.trees
   pub left :

@@ -1,5 +1,4 @@
-//! Laws over the definitions alone: each function's contract states one, and its body at most calls
-//! laws of `histories` and `tables`.
+//! Theorems, stated as contracts of functions whose bodies at most call other theorems.
 ghost use Rattle.store.specs.Laws.{AuthsOfHistoriesGive, FilesOfHistoriesFit, HistoriesRead};
 ghost use Rattle.store.specs.Laws.{LoadsAmendOfHistories, LoadsCreateOfHistories};
 ghost use Rattle.store.specs.Laws.{LoadsGrantOfHistories, LoadsHoldingsOfHistories};
@@ -9,20 +8,20 @@ ghost use Rattle.store.specs.Laws.{OldHistoriesRead, OldTablesThatReadAreOurs, R
 ghost use Rattle.store.specs.Laws.{RowsOfHistoriesFit, RowsOfTheRegistered, RowsThatReadFit};
 ghost use Rattle.store.specs.Laws.{RunsOfHistoriesAreApart, TablesThatReadAreOurs};
 
-/// Where the tables hold the rows of a history, what is loaded of a holder are its rows after that
-/// history, as `registry` defines them.
+/// If the tables hold the rows of a history, the rows that are loaded of a holder are its rows
+/// after that history, as `registry` defines them.
 #[tactic(auto, using(crate::proofs::HistoryRows::loads_rows))]
 pub fn rows_of_a_history()
     ensures { LoadsRowsOfHistories }
 {}
 
-/// The runs of the rows of a history are apart, as `Store::is_taken` asks.
+/// The runs of the rows of a history are apart, as `Store::is_taken` requires.
 #[tactic(auto, using(crate::proofs::HistoryRows::runs_apart))]
 pub fn runs_of_histories_are_apart()
     ensures { RunsOfHistoriesAreApart }
 {}
 
-/// Where the tables hold the rows of a legal history, the grants and the authorization of a number
+/// If the tables hold the rows of a legal history, the grants and the authorization of a number
 /// that are loaded of a holder are those of that history.
 pub fn number_of_a_history()
     ensures { LoadsNumberOfHistories }
@@ -30,22 +29,24 @@ pub fn number_of_a_history()
     registry::laws::unregistered_have_nothing();
 }
 
-/// Where the tables hold the rows of a legal history, what is loaded of a holder for a grant or a
-/// revocation is what the rules ask of that history.
+/// If the tables hold the rows of a legal history, what is loaded of a holder for a grant or a
+/// revocation is what the rules read of that history.
 pub fn grant_of_a_history()
     ensures { LoadsGrantOfHistories }
 {
     registry::laws::unregistered_have_nothing();
 }
 
-/// So is what is loaded of a holder for a create.
+/// If the tables hold the rows of a legal history, what is loaded of a holder for a create is what
+/// the rules read of that history.
 pub fn create_of_a_history()
     ensures { LoadsCreateOfHistories }
 {
     registry::laws::unregistered_have_nothing();
 }
 
-/// And so is what is loaded of a holder for an amendment.
+/// If the tables hold the rows of a legal history, what is loaded of a holder for an amendment is
+/// what the rules read of that history.
 pub fn amend_of_a_history()
     ensures { LoadsAmendOfHistories }
 {
@@ -85,7 +86,7 @@ pub fn auths_of_a_history_give()
     histories::laws::legal_rows_fit();
 }
 
-/// Where the tables hold a charter and the rows of a legal history whose values are those of their
+/// If the tables hold a charter and the rows of a legal history whose values are those of their
 /// types, no opening answers `Schema`.
 pub fn tables_of_a_history_read()
     ensures { HistoriesRead }
@@ -95,7 +96,8 @@ pub fn tables_of_a_history_read()
     tables::laws::exceptions_are_counted();
 }
 
-/// Nor does one where tables of schema 1 hold them.
+/// If tables of schema 1 hold a charter and the rows of a legal history whose values are those of
+/// their types, no opening answers `Schema`.
 pub fn old_tables_of_a_history_read()
     ensures { OldHistoriesRead }
 {
@@ -112,13 +114,13 @@ pub fn rows_that_read_fit()
     ensures give { RowsInRangeGive }
 {}
 
-/// A connection to memory is honest, so that what is said of an honest disk is said of it.
+/// A connection to memory is honest, so what contracts say of an honest disk holds for it.
 pub fn memory_is_honest()
     ensures { MemoryIsHonest }
 {}
 
-/// A connection to memory is open after every call, so that what is said of an open store is said
-/// of one in memory.
+/// A connection to memory is open after every call, so what contracts say of an open store holds
+/// for one in memory.
 pub fn memory_stays_open()
     ensures open { MemoryStaysOpen }
     ensures rows { MemoryHoldsRows }

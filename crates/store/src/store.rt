@@ -35,8 +35,8 @@ fn commit_change<S: Alter>(conn: &mut Connection<S>, change: &Change) -> Result<
     ensures crash { CommitsAtMost S.Store (MayCommit change.now) conn.old conn.new }
     ensures no_schema { result ≢ Err StoreFault.Schema }
 {
-    // Two clauses are for the proof: outside a transaction all that is shown is committed, and what
-    // is shown obeys the schema.
+    // For the proof: their contracts say that outside a transaction all that is shown is committed,
+    // and that it obeys the schema.
     let _idle = conn.is_autocommit();
     let _schema = conn.schema();
     let mut tx = conn.transaction();
@@ -47,8 +47,8 @@ fn commit_change<S: Alter>(conn: &mut Connection<S>, change: &Change) -> Result<
 
 /// The rows of a desk, in a database.
 ///
-/// Where a disk fails, the connection may shut. Then the store answers faults alone, and the rows
-/// are those that an open of the files finds.
+/// If a disk fails, the connection may shut. Then every call answers a fault, and the rows are
+/// those that an open of the files finds.
 #[derive(Drop)]
 pub struct Store<S: Alter> {
     conn: Connection<S>,
@@ -98,9 +98,9 @@ impl<S: Alter + Drop> Store<S> {
         })
     }
 
-    /// A store over a database that has the tables of a desk. A connection in a transaction is
-    /// refused, and a limit of its steps is lifted. Nothing is written: indexes and views are left
-    /// alone.
+    /// A store over a database that has the tables of a desk. One of schema 1 is moved in one
+    /// commit; otherwise nothing is written, and indexes and views are left alone. A connection in
+    /// a transaction is refused, and a limit of its steps is lifted.
     pub fn open_from(alloc: Global, conn: Connection<S>) -> Result<Self, StoreFault>
         ensures opened { IfOk result (λ store. IfClean S.Store store
             (IsOpened S.Store (state S.Store conn) store)) }
@@ -116,8 +116,8 @@ impl<S: Alter + Drop> Store<S> {
         }
     }
 
-    /// As `open_from`, and gives the connection back where it is refused, so that whether its disk
-    /// returned what was written can be said of it.
+    /// Like `open_from`, but returns the connection if it is refused, so that a contract can say
+    /// whether its disk returned what was written.
     pub fn open_or_return(
         alloc: Global,
         mut conn: Connection<S>,
@@ -132,8 +132,8 @@ impl<S: Alter + Drop> Store<S> {
     {
         match open_tables(&mut conn, alloc) {
             Ok(charter) => {
-                // Two clauses are for the proof: the charter keeps its rules, and what is shown
-                // obeys the schema.
+                // For the proof: their contracts say that the operators and the pool make a
+                // charter, and that what is shown obeys the schema.
                 let _rising = charter.operators();
                 let _schema = conn.schema();
                 Ok(Store { conn, charter })
@@ -163,7 +163,7 @@ impl<S: Alter> Store<S> {
         &self.charter
     }
 
-    /// The rows of the holder; none where it is not registered.
+    /// The rows of the holder; `None` if it is not registered.
     pub fn load_holder(
         &mut self,
         alloc: Global,
@@ -178,7 +178,7 @@ impl<S: Alter> Store<S> {
         load_rows(&mut self.conn, alloc, holder)
     }
 
-    /// The grants of the holder, and its authorization that has the number; neither where it is not
+    /// The grants of the holder, and its authorization that has the number; neither if it is not
     /// registered.
     pub fn load_numbered(
         &mut self,
@@ -196,7 +196,7 @@ impl<S: Alter> Store<S> {
         load_numbered(&mut self.conn, alloc, holder, number)
     }
 
-    /// What a grant or a revocation at the holder is judged on.
+    /// What the rules of a grant or a revocation at the holder read.
     pub fn load_for_grant(&mut self, alloc: Global, holder: &Name) -> Result<ForGrant, StoreFault>
         ensures read { IsRead S.Store self.old self.new }
         ensures found { IfClean S.Store self.new (IfOk result (λ loaded.
@@ -207,7 +207,7 @@ impl<S: Alter> Store<S> {
         load_for_grant(&mut self.conn, alloc, holder)
     }
 
-    /// What a create of the terms at the holder is judged on.
+    /// What the rules of a create of the terms at the holder read.
     pub fn load_for_create(
         &mut self,
         alloc: Global,
@@ -223,8 +223,8 @@ impl<S: Alter> Store<S> {
         load_for_create(&mut self.conn, alloc, holder, terms)
     }
 
-    /// What an amendment of the holder's authorization that has the number, to these maxLengths, is
-    /// judged on.
+    /// What the rules read for an amendment of the holder's authorization of the number to these
+    /// maxLengths.
     pub fn load_for_amend(
         &mut self,
         alloc: Global,
@@ -254,7 +254,7 @@ impl<S: Alter> Store<S> {
         is_registered(&mut self.conn, alloc, holder)
     }
 
-    /// The addresses of the holder; none where it is not registered.
+    /// The addresses of the holder; `None` if it is not registered.
     pub fn load_holdings(
         &mut self,
         alloc: Global,
@@ -301,7 +301,8 @@ impl<S: Alter> Store<S> {
         Ok(some_overlap(&mut self.conn, prefix)?)
     }
 
-    /// What `overlapping` answers, by one row, where runs are apart, as those of a history are.
+    /// Like `overlapping`, but reads one row at most. The answer is right if runs are apart, as
+    /// those of a history are.
     pub fn is_taken(&mut self, prefix: &Prefix) -> Result<bool, StoreFault>
         ensures read { IsRead S.Store self.old self.new }
         ensures found { IfClean S.Store self.new (IfOk result (λ taken.
@@ -326,7 +327,7 @@ impl<S: Alter> Store<S> {
         load_vrps(&mut self.conn, alloc, day)
     }
 
-    /// The SLURM files in force, rising by name; none where there is no exception.
+    /// The SLURM files in force, rising by name; none if there is no exception.
     pub fn slurm_files(&mut self, alloc: Global) -> Result<Vec<Slurm>, StoreFault>
         ensures read { IsRead S.Store self.old self.new }
         ensures found { IfClean S.Store self.new (IfOk result (λ files.
@@ -337,8 +338,8 @@ impl<S: Alter> Store<S> {
         load_files(&mut self.conn, alloc)
     }
 
-    /// Makes the change in one transaction: all of it, or after a fault nothing. Where it is made,
-    /// the rows before it give no VRP twice.
+    /// Makes the change in one transaction: all of it, or after a fault nothing. If it is made, the
+    /// rows before it gave no VRP twice.
     pub fn apply(&mut self, change: &Change) -> Result<(), StoreFault>
         ensures charter { self.new.charter ≡ self.old.charter }
         ensures limit { self.new.connection.step_limit ≡ self.old.connection.step_limit }
@@ -362,7 +363,7 @@ impl<S: Alter> Store<S> {
             (OnOk result (IsTrue (connection_state S.Store self.new).is_open)) }
         ensures no_schema { result ≢ Err StoreFault.Schema }
     {
-        // Its clause `live` is for the proof: the rows obey the schema.
+        // For the proof: its contract says that what the connection shows obeys the schema.
         let _schema = self.conn.schema();
         database::laws::claims_differ();
         database::laws::entries_differ();

@@ -17,6 +17,8 @@ use std::io::{self, ErrorKind, Read, Write};
 #[derive(Drop)]
 pub struct Device<T> {
     inner: T,
+    /// Calls made so far. At `u64::MAX` every further call fails with `TimedOut`, so that each
+    /// retry loop ends.
     calls: u64,
     has_ended: bool,
     has_failed: bool,
@@ -24,7 +26,7 @@ pub struct Device<T> {
 }
 
 impl<T> Device<T> {
-    /// A device that nothing has passed.
+    /// A device through which nothing has passed.
     pub fn new(inner: T) -> Device<T>
         ensures inner { device_inner result ≡ inner }
         ensures bytes { device_bytes result ≡ [] }
@@ -65,7 +67,7 @@ impl<T: Read> Source for Device<T> {
         ensures counted { OnOk result (device_calls_left self.new < device_calls_left self.old) }
         ensures few { device_calls_left self.old < 2 ^ 64 }
 
-        // The bytes are the reader's, where those are known.
+        // The bytes are the reader's, if those are known.
         ensures reads { ReadConsumes (T.remaining (device_inner self.old))
             (T.remaining (device_inner self.new)) result buffer.new }
     {
@@ -85,7 +87,7 @@ impl<T: Read> Source for Device<T> {
 }
 
 impl<T: Read> Device<T> {
-    /// A read, made again where it was interrupted.
+    /// A read, repeated if it is interrupted.
     fn read_uninterrupted(&mut self, buffer: &mut [u8]) -> io::Result<usize>
         ensures bound { ReadsAtMost result buffer.new }
         ensures reads { ReadConsumes (T.remaining (device_inner self.old))
@@ -124,7 +126,7 @@ impl<T: Write> Drain for Device<T> {
         ensures ended { device_has_ended self.new ≡ device_has_ended self.old }
         ensures calls { device_calls_left self.new ≤ device_calls_left self.old }
 
-        // The writer has what passed, whether the call failed or not, where what it has is known.
+        // The writer has what passed, whether the call failed or not, if its contents are known.
         ensures writes { Appends (T.contents (device_inner self.old))
             (T.contents (device_inner self.new))
             (appended_bytes (device_bytes self.old) (device_bytes self.new)) }
@@ -168,7 +170,7 @@ impl<T: Write> Device<T> {
         }
     }
 
-    /// A write, made again where it was interrupted.
+    /// A write, repeated if it is interrupted.
     fn write_uninterrupted(&mut self, bytes: &[u8]) -> io::Result<usize>
         ensures bound { WritesAtMost result bytes.now }
         ensures writes { WriteAppends (T.contents (device_inner self.old))
@@ -206,7 +208,7 @@ impl<T: Write> Device<T> {
         Ok(())
     }
 
-    /// A flush, made again where it was interrupted.
+    /// A flush, repeated if it is interrupted.
     fn flush_uninterrupted(&mut self) -> io::Result<()>
         ensures writes { Keeps (T.contents (device_inner self.old))
             (T.contents (device_inner self.new)) }

@@ -1,5 +1,5 @@
-//! Where bytes come from and where they go: the traits that readers of requests and writers of replies are generic in, and
-//! the readers and writers of std as such.
+//! Sources and drains of bytes: the traits over which readers of requests and writers of replies
+//! are generic, and the readers and writers of std as both.
 #![tactic(auto)]
 
 mod device;

@@ -1,5 +1,5 @@
-//! Where bytes come from and where they go, each modelled by what has passed so far, since what a file
-//! or a socket will give is not known.
+//! Sources and drains of bytes, each modelled by the bytes that have passed so far, since what a
+//! file or a socket will give is not known.
 ghost use Rattle.std.specs.Prelude.{◌≡◌, ℕ, Bool, List, true, ◌++◌, ◌<◌, ◌≤◌, ◌^◌, ◌&&◌, ◌==◌, nat_lt, length, take, is_err, IsErr, IfOk, OnOk, OnErr};
 ghost use Rattle.streams.specs.Streams.{AppendsBeginning};
 
@@ -7,7 +7,7 @@ ghost use Rattle.streams.specs.Streams.{AppendsBeginning};
 #[derive(Clone, Copy, Debug, PartialEq, Eq)]
 pub struct Failed;
 
-/// What gives bytes. An end is a read that had room and was given nothing.
+/// A source of bytes. It has ended if a read had room and got nothing.
 pub trait Source {
     // The bytes given so far.
     ghost handed_out: { Self → List ℕ };
@@ -17,10 +17,10 @@ pub trait Source {
 
     ghost has_failed: { Self → Bool };
 
-    // How many more reads may be answered at most. So read number 2^64 fails at the latest.
+    // How many more reads may succeed at most. So read number 2^64 fails at the latest.
     ghost reads_left: { Self → ℕ };
 
-    /// Puts the next bytes at the buffer's start, and returns how many. The rest of the buffer may
+    /// Puts the next bytes at the buffer's start; returns how many. The rest of the buffer may
     /// change.
     fn read(&mut self, buffer: &mut [u8]) -> Result<usize, Failed>
         ensures bound { IfOk result (λ n. n ≤ length buffer.new) }
@@ -37,7 +37,7 @@ pub trait Source {
         ensures few { reads_left self.old < 2 ^ 64 };
 }
 
-/// What takes bytes. Taking none of some bytes is a failure.
+/// A drain for bytes. Taking none of some bytes is a failure.
 pub trait Drain {
     // The bytes written so far.
     ghost written: { Self → List ℕ };

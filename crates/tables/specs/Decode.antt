@@ -63,6 +63,6 @@ pub record EntryRowFits (e : EntryRow) : Type 0 where
   pub asn : IsU32 e.asn.0
   pub max : FitsMaxLength e.entry.prefix e.entry.max
 
--- the name is one, and what stands beside it is in its range
+-- the name is one, and what is beside it is in its range
 abbrev pub NamedFits : {X : Type 0} → (X → Type 0) → OfHolder X → Type 0
 NamedFits fits x = IsTrue (is_name x.holder) × fits x.row

@@ -181,7 +181,7 @@ with_tables tables s = record s { tables = tables }
 abbrev pub desk_beside : Schema → Schema
 desk_beside = with_tables desk_tables
 
--- it is so of the tables of a desk, whatever indexes and views are beside them
+-- this holds for the tables of a desk, whatever indexes and views are beside them
 abbrev pub OverDesk : (Schema → Type 0) → Type 0
 OverDesk so = (s : Schema) → so (desk_beside s)
 

@@ -1,4 +1,4 @@
-//! Authorizations, out of their claims and the rows of their entries.
+//! Joins claims and the rows of their entries into authorizations.
 ghost use Rattle.std.specs.Prelude.{◌≡◌, map, IfOk, MatchOption};
 ghost use Rattle.tables.specs.Authorizations.{AreAuths, HasNoAuths, NumbersRise};
 ghost use Rattle.tables.specs.steps.Ungrouping.{auth_of};
@@ -8,7 +8,7 @@ use crate::{Claim, EntryRow};
 use registry::Auth;
 use std::alloc::{AllocError, Global};
 
-/// The authorization that the claim with its entries is.
+/// The authorization of a claim with its entries.
 fn auth_of(group: Group<Claim>) -> Auth
     ensures { result ≡ auth_of group }
 {
@@ -22,15 +22,15 @@ fn auth_of(group: Group<Claim>) -> Auth
     }
 }
 
-/// The authorizations that the claims with their entries are.
+/// The authorizations of claims with their entries.
 fn ungroup(alloc: Global, groups: Vec<Group<Claim>>) -> Result<Vec<Auth>, AllocError>
     ensures { IfOk result (λ auths. auths.items ≡ map auth_of groups.items) }
 {
     groups.into_iter().map(auth_of).collect(alloc)
 }
 
-/// The authorizations that have these claims, and the rows of whose entries, one after the other,
-/// are these. There are none where `None` is the result and the claims are by rising number.
+/// Joins claims and the rows of their entries, both in one order, into authorizations. If the
+/// claims rise by number, `None` means that no authorizations have just these claims and rows.
 pub fn auths_of(
     alloc: Global,
     claims: &[Claim],

@@ -8,14 +8,14 @@ ghost use Rattle.tables.specs.Cells.{address_bytes, number_cell, family_number, 
 use addr::{Family, Name, Prefix};
 use sqlite::types::{ToSql, ValueRef};
 
-/// The bytes of an address, the greatest first.
+/// The bytes of an address, the most significant first.
 pub fn address_bytes(number: u128) -> [u8; 16]
     ensures { result ≡ address_bytes number }
 {
     number.to_be_bytes()
 }
 
-/// How the tables number the families.
+/// The number of a family in the tables.
 pub fn family_number(family: Family) -> u32
     ensures { result ≡ family_number family }
 {

@@ -23,11 +23,11 @@ pub const CREATE_CLAIM: &str = "\
 pub const INSERT_CLAIM: &str = "\
     INSERT INTO claim (holder, number, asn, opens, ends) VALUES (?1, ?2, ?3, ?4, ?5)";
 
-/// Sets the columns of a claim of a holder but its number.
+/// Sets the columns of a claim of a holder, except its number.
 pub const UPDATE_CLAIM: &str = "\
     UPDATE claim SET asn = ?3, opens = ?4, ends = ?5 WHERE holder = ?1 AND number = ?2";
 
-/// Takes a claim of a holder away.
+/// Deletes a claim of a holder.
 pub const DELETE_CLAIM: &str = "DELETE FROM claim WHERE holder = ?1 AND number = ?2";
 
 /// The claims of a holder.
@@ -38,7 +38,8 @@ pub const SELECT_HOLDER_CLAIMS: &str = "\
 pub const SELECT_NUMBERED_CLAIM: &str = "\
     SELECT number, asn, opens, ends FROM claim WHERE holder = ?1 AND number = ?2 ORDER BY number";
 
-/// A row, if the holder has 1000 claims, as many as it may.
+/// One row if the holder has 1000 claims, as many as it may have. The offset is
+/// `MOST_AUTHORIZATIONS` minus 1.
 pub const SELECT_THOUSANDTH_CLAIM: &str = "\
     SELECT 1 FROM claim WHERE holder = ?1 LIMIT 1 OFFSET 999";
 

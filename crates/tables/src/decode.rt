@@ -1,4 +1,4 @@
-//! Typed values of the cells that show them.
+//! Reads typed values from the cells that show them.
 ghost use Rattle.std.specs.Prelude.{◌≡◌, ◌≢◌, [], ◌∷◌, length, ⊤, IfSome, IsTrue};
 ghost use Rattle.std.specs.Bool.{OnTrue, OnFalse};
 ghost use Rattle.addr.specs.Address.{FitsMaxLength};
@@ -16,7 +16,7 @@ use registry::{LAST_NUMBER, Role, Scope};
 use sqlite::Row;
 use sqlite::types::ValueRef;
 
-/// The number whose 16 bytes they are, the greatest first.
+/// The number that 16 bytes are, the most significant first.
 fn address_from_bytes(bytes: &[u8]) -> Option<u128>
     ensures some { IfSome result (λ number. bytes.now ≡ address_bytes number) }
     ensures none { result ≡ None → length bytes.now ≢ 16 }
@@ -148,7 +148,7 @@ pub(crate) fn decode_max_length(prefix: &Prefix, value: ValueRef<'_>) -> Option<
     prefix.fits_max_length(max).then_some(max)
 }
 
-/// The scope that three columns show, which are NULL where it is all prefixes.
+/// The scope that three columns show, which are NULL if it is all prefixes.
 pub(crate) fn decode_scope(
     family: ValueRef<'_>,
     first: ValueRef<'_>,

@@ -19,7 +19,7 @@ use registry::RoaPrefix;
 use sqlite::Row;
 use sqlite::types::{ToSql, ValueRef};
 
-/// Makes the table. Each entry has the AS too, so that a key keeps two authorizations from
+/// Makes the table. Each entry has the AS too, so that a key prevents two authorizations from
 /// giving one VRP.
 pub const CREATE_ENTRY: &str = "\
     CREATE TABLE entry (holder TEXT NOT NULL, number INTEGER NOT NULL, asn INTEGER NOT NULL, \
@@ -32,7 +32,7 @@ pub const INSERT_ENTRY: &str = "\
     INSERT INTO entry (holder, number, asn, family, lo, len, max) \
     VALUES (?1, ?2, ?3, ?4, ?5, ?6, ?7)";
 
-/// Takes the entries of an authorization away.
+/// Deletes the entries of an authorization.
 pub const DELETE_ENTRIES: &str = "DELETE FROM entry WHERE holder = ?1 AND number = ?2";
 
 /// The entries of a holder's authorizations.

@@ -26,7 +26,7 @@ pub const INSERT_EXCEPTION: &str = "\
     INSERT INTO slurm (file, kind, position, family, lo, len, max, asn) \
     VALUES (?1, ?2, ?3, ?4, ?5, ?6, ?7, ?8)";
 
-/// Takes all exceptions away.
+/// Deletes all exceptions.
 pub const DELETE_EXCEPTIONS: &str = "DELETE FROM slurm";
 
 /// The names of the SLURM files.
@@ -57,7 +57,7 @@ pub enum Exception {
 #[derive(Clone, Copy, Debug, PartialEq, Eq)]
 pub struct ExceptionRow {
     pub file: Name,
-    /// Counted from 1.
+    /// The place, counted from 1.
     pub position: u32,
     pub exception: Exception,
 }
@@ -106,7 +106,7 @@ fn decode_position(value: ValueRef<'_>) -> Option<u32>
     }
 }
 
-/// The exception that the columns show beside those of the file and the position.
+/// The exception that the other columns show, after those of the file and the position.
 fn decode_exception(row: &Row) -> Option<Exception>
     ensures { Decodes (λ e. number_cell (kind_number e) ∷ exception_cells e) ExceptionFits
         (columns (1 ∷ 3 ∷ 4 ∷ 5 ∷ 6 ∷ 7 ∷ []) row.now) result }
@@ -150,7 +150,7 @@ fn decode_filter(
     }
 }
 
-/// The first address of the prefix of an exception, as a number; 0 where it has none.
+/// The first address of the prefix of an exception, as a number; 0 if it has none.
 pub fn exception_first(exception: &Exception) -> u128
     ensures { result ≡ exception_first exception.now }
 {

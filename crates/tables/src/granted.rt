@@ -23,7 +23,7 @@ pub const INSERT_GRANT: &str = "\
     INSERT INTO granted (holder, number, caller, role, family, lo, len, until) \
     VALUES (?1, ?2, ?3, ?4, ?5, ?6, ?7, ?8)";
 
-/// Takes a grant of a holder away.
+/// Deletes a grant of a holder.
 pub const DELETE_GRANT: &str = "DELETE FROM granted WHERE holder = ?1 AND number = ?2";
 
 /// The grants at a holder.
@@ -35,7 +35,7 @@ pub const SELECT_HOLDER_GRANTS: &str = "\
 pub const SELECT_ALL_GRANTS: &str = "\
     SELECT number, caller, role, family, lo, len, until, rowid FROM granted ORDER BY rowid";
 
-/// How the table numbers the roles.
+/// The number of a role in the table.
 fn role_number(role: Role) -> u32
     ensures { result ≡ role_number role }
 {
@@ -46,7 +46,7 @@ fn role_number(role: Role) -> u32
     }
 }
 
-/// The first address of the scope's prefix, as a number; 0 where the scope is all prefixes.
+/// The first address of the scope's prefix, as a number; 0 if the scope is all prefixes.
 pub fn scope_first(scope: &Scope) -> u128
     ensures { result ≡ scope_first scope.now }
 {

@@ -1,4 +1,4 @@
-//! Claims with their entries, out of a list of claims and one of the rows of entries.
+//! Joins a list of claims and a list of the rows of their entries.
 ghost use Rattle.std.specs.Prelude.{◌≡◌, Option, Some, IfOk, MatchOption};
 ghost use Rattle.registry.specs.declared.authorization.RoaPrefix.{RoaPrefix};
 ghost use Rattle.tables.specs.Cells.{claim_cells, entry_cells, named_cells};
@@ -20,19 +20,19 @@ pub struct Group<C> {
     pub entries: RoaPrefixes,
 }
 
-/// What is a claim or a row of an entry, with the name of its holder.
+/// A claim, or a row of an entry, with the name of its holder.
 #[derive(Clone, Copy, Debug)]
 pub struct OfHolder<T> {
     pub holder: Name,
     pub row: T,
 }
 
-/// A claim, of which each entry is a row of another type.
+/// A claim whose entries are rows of another type.
 pub trait HasEntries<R>: Copy {
-    // The row of an entry of it.
+    // The row of an entry of the claim.
     ghost written: { Self → RoaPrefix → R };
 
-    // The entry of it that a row is, if it is one.
+    // The entry of the claim that a row is, if it is one.
     ghost entry_if: { Self → R → Option RoaPrefix };
 
     /// The entry of the claim that the row is, if it is one.
@@ -45,7 +45,7 @@ pub trait HasEntries<R>: Copy {
     ghost only: { (c : Self) (r : R) (e : RoaPrefix) → entry_if c r ≡ Some e → r ≡ written c e };
 }
 
-/// The entries of the claim that the first rows are, up to the first row that is none.
+/// The entries that the first rows are, up to the first row that is no entry of the claim.
 fn first_entries<R, C: HasEntries<R>>(
     alloc: Global,
     claim: &C,
@@ -64,8 +64,8 @@ fn first_entries<R, C: HasEntries<R>>(
     Ok(entries)
 }
 
-/// The claims with their entries that have these two lists, if there are any. There are none where
-/// `None` is the result and no row is that of entries of two claims.
+/// Joins claims and the rows of their entries, both in one order. If no row can be an entry of two
+/// of the claims, `None` means that no claims with entries have just these claims and rows.
 pub fn group_entries<R, C: HasEntries<R>>(
     alloc: Global,
     claims: &[C],

@@ -22,7 +22,7 @@ pub const CREATE_HOLDING_INDEX: &str = "CREATE INDEX holding_of ON holding (hold
 pub const INSERT_HOLDING: &str = "\
     INSERT INTO holding (family, lo, hi, holder) VALUES (?1, ?2, ?3, ?4)";
 
-/// Takes a run of a holder away.
+/// Deletes a run of a holder.
 pub const DELETE_HOLDING: &str = "\
     DELETE FROM holding WHERE family = ?1 AND lo = ?2 AND hi = ?3 AND holder = ?4";
 
@@ -33,7 +33,7 @@ pub const SELECT_HOLDER_SPANS: &str = "\
 /// All runs, and their rowids.
 pub const SELECT_ALL_SPANS: &str = "SELECT family, lo, hi, rowid FROM holding ORDER BY rowid";
 
-/// One row, if some holder has an address from `?2` to `?3`.
+/// One row if some holder has an address from `?2` to `?3`.
 pub const SELECT_OVERLAP: &str = "\
     SELECT 1 FROM holding WHERE family = ?1 AND lo <= ?3 AND hi >= ?2 LIMIT 1";
 

@@ -1,7 +1,7 @@
-//! Laws of the definitions. Each function does nothing: what it ensures is the law.
+//! Theorems, stated as contracts of functions with empty bodies.
 ghost use Rattle.tables.specs.Laws.{DeskTablesAreNamed, ExceptionsAreCounted};
 
-/// The tables of a desk have their own names, so that no test by names refuses them.
+/// The tables of a desk have their own names, so `has_names` accepts them.
 #[tactic(auto, using(crate::proofs::DeskTables::names_there))]
 pub fn desk_tables_are_named()
     ensures { DeskTablesAreNamed }

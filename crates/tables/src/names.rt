@@ -31,7 +31,7 @@ fn is_table_among(table: &Table, tables: &[Table]) -> bool
     })
 }
 
-/// Whether SQL does not reach a table of this name, such as one with a trigger.
+/// Whether a table of this name is there that SQL does not reach, such as one with a trigger.
 fn is_out_of_reach(name: &[u8], views: &[View]) -> bool
     ensures { result ≡ spec.is_out_of_reach name.now views.now }
 {

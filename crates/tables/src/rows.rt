@@ -1,4 +1,4 @@
-//! How rows are read as values. A row that shows no value of its type is one of another schema.
+//! Reads rows as values. A row that shows no value of its type is of another schema.
 ghost use Rattle.std.specs.Prelude.{◌≡◌, ◌≤◌, ℕ, [], map, length, vec_capacity};
 ghost use Rattle.sqlite_value.specs.Order.{Row as Cells};
 ghost use Rattle.tables.specs.Decode.{Decodes, DecodesAll, first_columns};
@@ -21,7 +21,7 @@ pub trait FromRow: Drop {
         ensures { Decodes cells fits (first_columns width row.now) result };
 }
 
-/// The values that the rows show, in their order, in a vector that has room for them; none where
+/// The values that the rows show, in their order, in a vector that has room for them; `None` if
 /// some row shows no value.
 pub fn in_rows<T: FromRow>(mut values: Vec<T>, rows: &[Row]) -> Option<Vec<T>>
     requires empty { values.items ≡ [] }

@@ -16,8 +16,8 @@ KeepsAll g old new =
     × OnHistories g old new (λ before after. (after ≡ before)
     × LeavesAlong g (charter_of old) old before (λ pending. pending) new after)
 
--- the response to what the bytes ask, a list in the form that the request wants; what is refused or malformed does not
--- reach the desk
+-- the response to the request that the bytes are, a list in the form that it asks for; what is refused or malformed
+-- does not reach the desk
 abbrev pub AnswersHttp : {S : Type 0} → Ghosts S → Desk S → HttpRequest → List ℕ → Desk S → Type 0
 AnswersHttp g old (refused refusal) text new = (text ≡ refusal_response refusal) × (new ≡ old)
 AnswersHttp g old (malformed fault) text new = (text ≡ malformed_response fault) × (new ≡ old)
@@ -25,8 +25,8 @@ AnswersHttp g old (asked form request) text new =
     (reply : Reply) × (text ≡ reply_response form reply) × RepliesAt g old request reply new
 
 -- The response of a desk to the bytes that were read, on a day. Where an allocation failed, the response says so and
--- nothing has changed: it failed before the request was known, and the desk was not asked; or for what a request without
--- a fault shows. What is refused by its head, or malformed without a body, never has this response.
+-- nothing has changed: it failed before the request was known, so that the request did not reach the desk, or for what
+-- a request without a fault shows. What is refused by its head, or malformed without a body, never has this response.
 abbrev pub RespondsTo : {S : Type 0} → Ghosts S → Desk S → ℕ → List ℕ → List ℕ → Desk S → Type 0
 RespondsTo g old day bytes text new =
     ((request : HttpRequest) × ReadsHttp day bytes request × AnswersHttp g old request text new)

@@ -51,7 +51,7 @@ reply_response form reply =
 abbrev pub unavailable_response : List ℕ
 unavailable_response = json_response ServiceUnavailable unavailable_text
 
--- the bytes begin with the status line of an error, which is every status but 200
+-- the bytes begin with the status line of an error, which is every status except 200
 abbrev pub HasErrorStatus : List ℕ → Type 0
 HasErrorStatus bytes =
     (status : Status) × (rest : List ℕ) × (status ≢ DoneStatus)

@@ -51,17 +51,17 @@ entry_text e = codes "{" ++ prefix_members e.prefix e.max ++ codes "}"
 abbrev pub entries_list : List RoaPrefix → List ℕ
 entries_list es = codes "\"entries\":[" ++ comma_joined (map entry_text es) ++ codes "]"
 
--- of one entry its members, else the list
+-- the members of the entry if there is only one, else the list
 abbrev pub entries_text : List RoaPrefix → List ℕ
 entries_text (e ∷ []) = prefix_members e.prefix e.max
 entries_text es = entries_list es
 
--- what stands before the entries
+-- what comes before the entries
 abbrev pub auth_start : Auth → List ℕ
 auth_start auth =
     codes "{\"number\":" ++ decimal auth.number ++ codes ",\"asn\":" ++ decimal auth.asn.0 ++ codes ","
 
--- what stands after them
+-- what comes after the entries
 abbrev pub auth_end : Auth → List ℕ
 auth_end auth =
     codes ",\"from\":\"" ++ day_text auth.from ++ codes "\",\"until\":\"" ++ day_text auth.until ++ codes "\"}"

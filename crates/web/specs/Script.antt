@@ -4,7 +4,7 @@ use Rattle.std.specs.Prelude.{◌≡◌, ℕ, List, [], ◌∷◌, ◌++◌, Opt
 use Rattle.streams.specs.Streams.{AppendsBeginning}
 use Rattle.web.specs.ScriptLines.{within_limit}
 
--- the text is the replies to the lines, each line asked on the state that the one before it left
+-- the text is the replies to the lines, each line answered on the state that the one before it left
 abbrev pub Replies : {State : Type 0} → (State → Option (List ℕ) → List ℕ → State → Type 0)
     → State → List (List ℕ) → List ℕ → State → Type 0
 Replies answers old [] text new = (text ≡ []) × (new ≡ old)

@@ -99,7 +99,7 @@ BreaksOffLines g old new lines written_old written_new =
     × OnHistories g old new (λ before after.
     BreaksOff (AnswersLineOn (charter_of old)) before after lines written_old written_new)
 
--- the reply to an accepted command stands somewhere in the text
+-- the reply to an accepted command is somewhere in the text
 abbrev pub SaysAccepted : List ℕ → Type 0
 SaysAccepted text =
     (before after : List ℕ) × (reply : Reply)

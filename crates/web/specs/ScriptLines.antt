@@ -7,7 +7,7 @@ use Rattle.requests.specs.declared.request.TheConstants.{LINE_LENGTH_LIMIT}
 abbrev pub pieces : List ℕ → List (List ℕ)
 pieces text = slice_split (λ byte. byte == 10) text
 
--- all the pieces but the last
+-- all the pieces except the last
 abbrev pub all_but_last : List (List ℕ) → List (List ℕ)
 all_but_last [] = []
 all_but_last (piece ∷ []) = []
@@ -37,6 +37,6 @@ abbrev pub lines_read : Bool → List ℕ → List (List ℕ)
 lines_read true text = script_lines text
 lines_read false text = whole_lines text
 
--- a line as it is asked: its bytes, or nothing where it is over the limit
+-- a line as it is answered: its bytes, or nothing if it is over the limit
 unfoldable pub within_limit : List ℕ → Option (List ℕ)
 within_limit line = if nat_le (length line) LINE_LENGTH_LIMIT then Some line else None

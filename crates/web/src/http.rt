@@ -28,7 +28,7 @@ use streams::{Drain, Source};
 pub enum WebFault {
     /// A read failed, or the stream ended before a whole request. Nothing was acted on.
     Read,
-    /// A write failed. The request was acted on where its status would be 200.
+    /// A write failed. The request was acted on if its status would be 200.
     Write,
 }
 
@@ -55,7 +55,7 @@ pub enum Extent {
 }
 
 /// Answers the one request of a connection on the desk, on this day. No byte is read past the head,
-/// nor past the body where one is read.
+/// nor past the body if one is read.
 pub fn serve_one<S: Source, D: Drain, A: Alter>(
     alloc: Global,
     source: &mut S,
@@ -94,7 +94,7 @@ pub fn serve_one<S: Source, D: Drain, A: Alter>(
 }
 
 /// Answers the one request of a connection as [`serve_one`] does, and returns how much of it was
-/// read. The routes, which all connections share, are made for this one where there are none.
+/// read. The routes, which all connections share, are made for this one if there are none.
 pub fn serve_request<S: Source, D: Drain, A: Alter>(
     alloc: Global,
     routes: Option<&Routes>,

@@ -9,8 +9,8 @@ use requests::LINE_LENGTH_LIMIT;
 use std::alloc::{AllocError, Global};
 use std::marker::Model;
 
-/// The bytes of one line. Of a line that is too long nothing but that is known. The room for a line
-/// is taken once, when it is made.
+/// The bytes of one line, or that it is too long. Room for the longest line is allocated once, when
+/// the buffer is made.
 #[derive(Drop)]
 pub(crate) struct LineBuffer {
     bytes: Vec<u8>,
@@ -39,7 +39,7 @@ impl LineBuffer {
         })
     }
 
-    /// Puts the bytes at the line's end.
+    /// Appends the bytes to the line.
     pub(crate) fn append(&mut self, bytes: &[u8])
         ensures { (line : List ℕ) → self.old ≡ within_limit line
             → self.new ≡ within_limit (line ++ bytes.now) }
@@ -71,7 +71,7 @@ impl LineBuffer {
         !self.is_too_long && self.bytes.is_empty()
     }
 
-    /// The line, or `None` where it is too long.
+    /// The line, or `None` if it is too long.
     pub(crate) fn line(&self) -> Option<&[u8]>
         ensures { option_copied result ≡ self.now }
     {

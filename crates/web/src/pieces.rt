@@ -31,7 +31,7 @@ impl<'a, D: Drain> Pieces<'a, D> {
         pieces
     }
 
-    /// Adds the text, and writes what waits where there is no room beside it. Once the drain has
+    /// Adds the text, after writing what waits if there is no room beside it. Once the drain has
     /// failed, what is added is lost.
     pub(crate) fn add(&mut self, text: &str)
         requires { length text.now ≤ 4096 }
@@ -41,7 +41,7 @@ impl<'a, D: Drain> Pieces<'a, D> {
         self.piece.push_str(text);
     }
 
-    /// Writes what waits where a text of this length has no room beside it.
+    /// Writes what waits if a text of this length has no room beside it.
     pub(crate) fn make_room(&mut self, length: usize)
         requires { length ≤ 4096 }
         ensures sent { HasAdded D.written D.has_failed self.old [] self.new }
@@ -65,7 +65,7 @@ impl<'a, D: Drain> Pieces<'a, D> {
         Ok(())
     }
 
-    /// Writes what waits. Where the drain fails, the rest of it is lost.
+    /// Writes what waits. If the drain fails, the rest of it is lost.
     fn send(&mut self)
         ensures sent { HasAdded D.written D.has_failed self.old [] self.new }
         ensures piece { self.new.piece.bytes ≡ [] }

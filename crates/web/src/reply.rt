@@ -53,7 +53,7 @@ pub fn short_text(reply: &Reply) -> Option<ArrayString<128>>
     }
 }
 
-/// Of an accepted command, with the number of the grant or authorization that it made.
+/// The text for an accepted command, with the number of the grant or authorization that it made.
 pub(crate) fn done_text(number: Option<u32>) -> ArrayString<128>
     ensures { result.bytes ≡ done_text number }
 {
@@ -69,7 +69,8 @@ pub(crate) fn done_text(number: Option<u32>) -> ArrayString<128>
     text
 }
 
-/// Of an import: how many authorizations it made, and how many of its rows were there already.
+/// The text for an import: how many authorizations it made, and how many of its rows were already
+/// authorized.
 pub(crate) fn imported_text(made: u64, present: u64) -> ArrayString<128>
     ensures { result.bytes ≡ imported_text made present }
 {
@@ -82,7 +83,7 @@ pub(crate) fn imported_text(made: u64, present: u64) -> ArrayString<128>
     text
 }
 
-/// Writes what one authorization is.
+/// Writes the text that shows one authorization.
 fn write_shown<D: Drain>(auth: &Auth, drain: &mut D) -> Result<(), Failed>
     ensures ok { OnOk result (D.written drain.new ≡ D.written drain.old ++ shown_text auth.now) }
     ensures err { OnErr result
@@ -95,7 +96,7 @@ fn write_shown<D: Drain>(auth: &Auth, drain: &mut D) -> Result<(), Failed>
     pieces.finish()
 }
 
-/// Writes a content, given in hex.
+/// Writes the text for a ROA content, which is given in hex.
 fn write_content<D: Drain>(hex: &str, drain: &mut D) -> Result<(), Failed>
     ensures ok { OnOk result (D.written drain.new ≡ D.written drain.old ++ content_text hex.now) }
     ensures err { OnErr result
@@ -108,7 +109,7 @@ fn write_content<D: Drain>(hex: &str, drain: &mut D) -> Result<(), Failed>
     Ok(())
 }
 
-/// Of a denial: its rule, and the row of the import that it is about.
+/// The text for a denial: its rule, and the row of an import or the change of a what-if.
 pub(crate) fn denied_text(rule: Rule, row: Option<u64>) -> ArrayString<128>
     ensures { result.bytes ≡ denied_text rule row }
 {
@@ -126,7 +127,7 @@ pub(crate) fn denied_text(rule: Rule, row: Option<u64>) -> ArrayString<128>
     text
 }
 
-/// Where an allocation or the store failed.
+/// The text for a failure of an allocation or the store.
 pub(crate) fn unavailable_text() -> ArrayString<128>
     ensures { result.bytes ≡ unavailable_text }
 {

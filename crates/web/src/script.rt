@@ -109,8 +109,8 @@ fn answer_last<D: Drain, E: AnswerLines>(
 }
 
 /// Answers the lines of the source, each as soon as it is whole and before more is read. A line
-/// that is too long is answered at its end. A last line without a line feed is answered where the
-/// source ends, and dropped where it fails.
+/// that is too long is answered at its end. A last line without a line feed is answered if the
+/// source ends, and dropped if it fails.
 pub(crate) fn run_lines<S: Source, D: Drain, E: AnswerLines>(
     alloc: Global,
     source: &mut S,

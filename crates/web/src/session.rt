@@ -115,8 +115,8 @@ pub fn run_script<S: Source, D: Drain, A: Alter>(
         (appended_bytes (S.handed_out source.old) (S.handed_out source.new)))
         (D.written drain.old) (D.written drain.new) }
 
-    // Where no command is said to be accepted, the rows stay. Of a reply that broke off nothing is
-    // said.
+    // If no reply says that a command was accepted, the rows stay. Nothing is said if a reply broke
+    // off.
     ensures kept { result ≢ Err ScriptFault.Write
         → ¬ SaysAccepted (appended_bytes (D.written drain.old) (D.written drain.new))
         → KeepsRows A.Store desk.old desk.new }

@@ -11,7 +11,7 @@ use crate::{Family, Prefix};
 use arrayvec::ArrayString;
 use std::net::Ipv6Addr;
 
-/// Where the separator first is.
+/// The place of the first separator.
 fn find_byte(text: &[u8], separator: u8) -> Option<usize>
     ensures { result ≡ position (λ byte. byte == separator) text.now }
 {

@@ -19,13 +19,13 @@ use std::net::{Shutdown, TcpListener, TcpStream};
 use std::time::{Clock, Instant};
 use web::{Device, Drain, Extent, Failed, Source, WebFault, serve_request};
 
-/// What answers connections, one after the other.
+/// Answers connections, one after the other.
 pub trait AnswerConnections {
     // What may pass on a connection on a day, and which state that leaves.
     ghost answers: { ℕ → Self → Transcript → Self → Type 0 };
 
-    /// Answers the request of a new connection, and returns how much of it was read. The routes
-    /// are those that all connections share, where there was memory for them.
+    /// Answers the request of a new connection, and returns how much of it was read. The routes are
+    /// those that all connections share, if there was memory for them.
     fn answer<S: Source, D: Drain>(
         &mut self,
         alloc: Global,
@@ -60,9 +60,9 @@ impl<A: Alter> AnswerConnections for Desk<A> {
     }
 }
 
-/// Where connections come from.
+/// A source of connections.
 pub trait Connections {
-    // Those that were accepted, where they are known.
+    // The connections that were accepted, if they are known.
     ghost accepted: { Self → Option (List Transcript) } = { λ _. None };
 
     // Whether listening has failed.
@@ -77,7 +77,7 @@ pub trait Connections {
         ensures listens { OnOk result (cannot_listen self.new ≡ cannot_listen self.old) }
         ensures failed { OnErr result (cannot_listen self.new ≡ true) };
 
-    /// Accepts a connection, and has it answered. It has ended when the call returns.
+    /// Accepts a connection and has it answered. The connection has ended when the call returns.
     fn answer_next<E: AnswerConnections>(
         &mut self,
         alloc: Global,
@@ -94,7 +94,7 @@ pub trait Connections {
         ensures listens { cannot_listen self.new ≡ cannot_listen self.old };
 }
 
-/// What binds a socket to an address.
+/// Binds a socket to an address.
 pub trait Network {
     fn bind(&mut self, address: &str) -> io::Result<TcpListener>;
 }
@@ -180,7 +180,7 @@ fn let_response_arrive<R: Clock>(clock: &R, stream: &TcpStream, began: Option<In
 /// How many bytes are discarded at most.
 const DISCARD_LIMIT: usize = 2 * 1_048_576;
 
-/// Takes what the source still gives, until it ends or fails or so many bytes have come.
+/// Discards what the source still gives, until it ends or fails or `DISCARD_LIMIT` bytes have come.
 fn discard<S: Source>(source: &mut S)
     ensures { (bytes : List ℕ) × Gives bytes (S.handed_out source.old) (S.handed_out source.new)
         × (length bytes ≤ discard_limit)
@@ -198,8 +198,8 @@ fn discard<S: Source>(source: &mut S)
     }
 }
 
-/// Has the connection answered whose client sends from one peer, and takes at the other. More of
-/// the stream than the request may be taken into a buffer, which is never looked at.
+/// Answers a connection that is read from one peer and written to the other, each within its time.
+/// More of the stream than the request may be taken into a buffer, which is never looked at.
 pub(crate) fn answer_in_time<P: Peer + Drop, Q: Peer + Drop, E: AnswerConnections>(
     alloc: Global,
     routes: Option<&Routes>,
@@ -220,7 +220,7 @@ pub(crate) fn answer_in_time<P: Peer + Drop, Q: Peer + Drop, E: AnswerConnection
     answer_between(alloc, routes, from, to, engine, day)
 }
 
-/// Has the connection answered that is read from one stream and written to the other.
+/// Answers a connection that is read from one stream and written to the other.
 fn answer_between<R: Read + Drop, W: Write + Drop, E: AnswerConnections>(
     alloc: Global,
     routes: Option<&Routes>,

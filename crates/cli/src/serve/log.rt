@@ -10,9 +10,9 @@ use arrayvec::ArrayString;
 use std::io::Write;
 use web::{Extent, WebFault};
 
-/// Where lines go. One that cannot be written is lost, and the next is tried.
+/// A log of lines. A line that cannot be written is lost, and the next is tried.
 pub trait Log {
-    // What it has, where that is known.
+    // The text of the log, if that is known.
     ghost contents: { Self → Option (List ℕ) } = { λ _. None };
 
     // Whether a line was lost, or a part of one.
@@ -23,7 +23,7 @@ pub trait Log {
             (contents self.new) line.now };
 }
 
-/// The log that a writer is.
+/// A writer as a log.
 #[derive(Drop)]
 pub struct Printed<'a, W> {
     writer: &'a mut W,
@@ -52,7 +52,7 @@ impl<W: Write> Log for Printed<'_, W> {
     }
 }
 
-/// Adds the line for the connection of this number, where it failed.
+/// Adds the line for the connection of this number, if it failed.
 pub(super) fn log_fault<L: Log>(log: &mut L, number: u32, ended: Result<Extent, WebFault>)
     ensures { Logs (L.has_lost log.old) (L.has_lost log.new) (L.contents log.old)
         (L.contents log.new) (line_for number (result_err ended)) }

@@ -30,7 +30,7 @@ pub(crate) trait Peer {
 
     ghost write_timeout: { Self → Option ℕ };
 
-    /// When the connection began; `None` where the clock failed then.
+    /// When the connection began; `None` if the clock failed then.
     fn began(&self) -> Option<Instant>
         ensures { option_map instant_nanos result ≡ began self.now };
 

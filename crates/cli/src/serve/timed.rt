@@ -25,7 +25,7 @@ impl<P: Peer> Timed<P> {
         Timed { peer }
     }
 
-    /// What is left of its time, which is some. Fails where none is, or the clock does.
+    /// The time that is left, more than none. Fails if none is left, or if the clock fails.
     fn time_left(&mut self) -> io::Result<Duration>
         ensures ok { IfOk result (λ left. EndsInTime (P.began self.new.peer)
             (P.last_seen self.new.peer) (Some (as_nanos left))) }
@@ -64,7 +64,7 @@ impl<P: Peer> Write for Timed<P> {
         self.peer.write(bytes)
     }
 
-    /// A stream keeps nothing back.
+    /// Nothing is buffered here.
     fn flush(&mut self) -> io::Result<()> {
         Ok(())
     }

@@ -1,4 +1,4 @@
--- The lines of a check while they are kept: those of rows that stand in the file as they are printed, and others.
+-- The lines of a check while they are kept: those of rows that are in the file as they are printed, and others.
 use Rattle.std.specs.Prelude.{◌≡◌, ◌≤◌, ◌+◌, ℕ, List, [], ◌∷◌, ◌++◌, drop, length, slice_range}
 use Rattle.addr.specs.OriginValidation.{state_text}
 use Rattle.payload.specs.ValidityState.{state_of}

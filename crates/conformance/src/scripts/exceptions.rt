@@ -6,7 +6,7 @@ use super::slurm_sets::set_line;
 use std::alloc::Global;
 use std::test::Fail;
 
-/// A filter that takes the one VRP away, and an assertion of the same VRP.
+/// A filter that removes the one VRP, and an assertion of the same VRP.
 pub(crate) const FILTER_AND_ASSERTION: &str = r#"
 slurm {"prefix":"192.0.2.0/24"} ; {"asn":64496,"prefix":"192.0.2.0/24","maxPrefixLength":24} => {"done":null}
 "#;

@@ -58,25 +58,25 @@ begins_some (Import auths created) = true
 begins_some (Amend x) = true
 begins_some _ = false
 
--- what is kept may be let go: where the change may begin authorizations, or is one of the exceptions
+-- the kept day may be dropped: if the change may begin authorizations, or brings new exceptions
 abbrev pub may_drop : Change → Bool
 may_drop (Holders first None) = begins_some first.edit
 may_drop (Holders first (Some second)) = begins_some first.edit || begins_some second.edit
 may_drop (Exceptions files) = true
 
--- what is kept is of the rows after the change, if it was of the rows before it
+-- the kept day is of the rows after the change, if it was of the rows before it
 abbrev pub Follows :
     Change → Option (Vec Auth) → Option (Vec Auth) → Option KeptDay → Option KeptDay → Type 0
 Follows change one other old new =
     (rows : AllRows) → GivenOnce rows → AreEnoughFor change one other rows
     → IfSome old (IsDayOfRows rows) → IfSome new (IsDayOfRows (changed_rows change rows))
 
--- the day that is kept stays, or is let go where it may be; with other exceptions it is let go
+-- the kept day stays, or is dropped if it may be; new exceptions drop it
 abbrev pub FollowsDay : Change → Option ℕ → Option ℕ → Type 0
 FollowsDay (Exceptions files) old new = new ≡ None
 FollowsDay change old new = (new ≡ old) ⊎ ((new ≡ None) × (may_drop change ≡ true))
 
--- the reply where there is one; a fault is told as unavailable
+-- the reply if there is one; a fault is reported as Unavailable
 abbrev pub reply_of : {E : Type 0} → Result Reply E → Reply
 reply_of (Ok reply) = reply
 reply_of (Err fault) = Unavailable

@@ -1,4 +1,4 @@
-//! Commands that are judged on what their rules ask of the holder, which is read by key.
+//! Commands for which no more of the holder's rows is loaded than their rules read, by key.
 ghost use Rattle.std.specs.Prelude.{◌≡◌, ℕ, option_to_list, IfOk};
 ghost use Rattle.std.specs.Global.{Vec};
 ghost use Rattle.registry.specs.declared.command.Command.{Command};
@@ -15,7 +15,7 @@ use sqlite::Alter;
 use std::alloc::{AllocError, Global};
 use store::{ForCreate, ForGrant};
 
-/// The authorization alone, where there is one.
+/// A list of the authorization alone, if there is one.
 fn listed(alloc: Global, auth: Option<Auth>) -> Result<Vec<Auth>, AllocError>
     ensures { IfOk result (λ auths. auths.items ≡ option_to_list auth) }
 {
@@ -26,7 +26,7 @@ fn listed(alloc: Global, auth: Option<Auth>) -> Result<Vec<Auth>, AllocError>
 }
 
 impl<S: Alter> Desk<S> {
-    /// What a registration does, judged on whether the holder is registered.
+    /// The change of a registration, judged on whether the holder is registered.
     pub(super) fn register(&mut self, caller: &Name, holder: &Name) -> Result<Decided, Reply>
         ensures read { IsRead S.Store self.old.store self.new.store }
         ensures same { self.new.kept ≡ self.old.kept }
@@ -44,8 +44,8 @@ impl<S: Alter> Desk<S> {
         })
     }
 
-    /// What a delegation does, judged on the holder's addresses and on whether some address of the
-    /// prefix is held. It ends nothing.
+    /// The change of a delegation, judged on the holder's addresses and on whether some address of
+    /// the prefix is held. It ends nothing.
     pub(super) fn delegate(
         &mut self,
         caller: &Name,
@@ -81,7 +81,7 @@ impl<S: Alter> Desk<S> {
         })
     }
 
-    /// What a grant does, judged on the grants and on how many were made. It ends nothing.
+    /// The change of a grant, judged on the grants and on how many were made. It ends nothing.
     pub(super) fn grant(
         &mut self,
         day: Day,
@@ -108,7 +108,7 @@ impl<S: Alter> Desk<S> {
         })
     }
 
-    /// What a revocation does, judged on the grants. It ends no authorization.
+    /// The change of a revocation, judged on the grants. It ends no authorization.
     pub(super) fn revoke(
         &mut self,
         day: Day,
@@ -133,7 +133,7 @@ impl<S: Alter> Desk<S> {
         })
     }
 
-    /// What a withdrawal does, judged on the grants and on the authorization of the number.
+    /// The change of a withdrawal, judged on the grants and on the authorization of the number.
     pub(super) fn withdraw(
         &mut self,
         day: Day,
@@ -157,7 +157,7 @@ impl<S: Alter> Desk<S> {
         })
     }
 
-    /// What a create does, judged on the grants and on what its rules ask. It ends nothing.
+    /// The change of a create, judged on the grants and on what its rules read. It ends nothing.
     pub(super) fn create(
         &mut self,
         day: Day,
@@ -170,7 +170,8 @@ impl<S: Alter> Desk<S> {
         ensures decides { Decides S.Store day caller.now (Command.Create holder.now terms.now)
             self.old self.new result }
     {
-        // For the proof alone: there is an entry, so where the terms are held there are rows.
+        // For the proof: its contract says that there is an entry, so a holder that holds the terms
+        // has rows.
         let _entries = terms.entries.as_slice();
         store::laws::create_of_a_history();
         let loaded = self.store.load_for_create(self.alloc, holder, terms)?;
@@ -183,7 +184,7 @@ impl<S: Alter> Desk<S> {
         })
     }
 
-    /// What an amendment does, judged on the grants, on the authorization of the number, and on
+    /// The change of an amendment, judged on the grants, on the authorization of the number, and on
     /// whether another one would share a VRP with it.
     pub(super) fn amend(
         &mut self,

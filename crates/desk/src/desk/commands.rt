@@ -38,7 +38,7 @@ fn accepted(command: &Command, change: &Change) -> Reply
     }
 }
 
-/// The authorizations of the rows, where there are rows.
+/// The authorizations of the rows, if there are rows.
 fn auths_of(rows: Option<HolderRows>) -> Option<Vec<Auth>>
     ensures { result ≡ option_map (λ r. r.auths) rows }
 {
@@ -49,8 +49,8 @@ fn auths_of(rows: Option<HolderRows>) -> Option<Vec<Auth>>
 }
 
 impl<S: Alter> Desk<S> {
-    /// Judges the command, and makes its change where it is accepted. After the commit nothing
-    /// fails: where what is kept cannot follow, it is let go.
+    /// Judges the command, and makes its change if it is accepted. After the commit nothing fails:
+    /// if the kept day cannot follow, it is dropped.
     pub(super) fn carry_out(&mut self, day: Day, caller: &Name, command: &Command) -> Reply
         ensures left { OfHistories S.Store self.old self.new (λ history.
             IsKept S.Store (charter_of self.old) history
@@ -69,7 +69,7 @@ impl<S: Alter> Desk<S> {
             KeepsOthers S.Store (may_change (Request.Command command.now))
             (may_except (Request.Command command.now)) self.old self.new) }
     {
-        // For the proof alone: the laws that it uses, of which the first reads the values.
+        // For the proof: the theorems that it uses. The first reads the values of the request.
         registry::laws::entry_fits(day, caller, command);
         histories::laws::growth_is_legal();
         histories::laws::growth_fits();
@@ -88,7 +88,7 @@ impl<S: Alter> Desk<S> {
         }
     }
 
-    /// What the command does, or the reply that refuses it.
+    /// The change that the command makes, or the reply that refuses it.
     fn decide(&mut self, day: Day, caller: &Name, command: &Command) -> Result<Decided, Reply>
         ensures read { IsRead S.Store self.old.store self.new.store }
         ensures same { self.new.kept ≡ self.old.kept }
@@ -140,7 +140,7 @@ impl<S: Alter> Desk<S> {
             } => self.amend(day, caller, holder, *number, maxes, *until),
             _ => {
                 let holder = self.load_named(command.holder())?;
-                // Only a delegation asks whether some address is held.
+                // Only a delegation reads `taken`, and it is not decided here.
                 let view = View {
                     holder,
                     taken: false,
@@ -176,7 +176,7 @@ impl<S: Alter> Desk<S> {
         self.store.load_two(self.alloc, giver, taker)
     }
 
-    /// The rows of the holder, where the command names one.
+    /// The rows of the holder, if the command names one.
     fn load_named(&mut self, holder: Option<&Name>) -> Result<Option<HolderRows>, StoreFault>
         ensures read { IsRead S.Store self.old.store self.new.store }
         ensures same { self.new.kept ≡ self.old.kept }

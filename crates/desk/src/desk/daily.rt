@@ -37,7 +37,7 @@ fn read_day<S: Alter>(
     Ok((vrps, files))
 }
 
-/// What is kept of the day.
+/// The day as it is to be kept, read from the store.
 fn kept_on<S: Alter>(store: &mut Store<S>, alloc: Global, day: Day) -> Result<Kept, StoreFault>
     ensures read { IsRead S.Store store.old store.new }
     ensures day { IfOk result (λ kept. kept.day ≡ day) }
@@ -50,7 +50,7 @@ fn kept_on<S: Alter>(store: &mut Store<S>, alloc: Global, day: Day) -> Result<Ke
     Ok(Kept::of(alloc, day, vrps, filters, assertions)?)
 }
 
-/// A copy of what is kept, if it is of the day.
+/// A copy of the kept day, if it is this day.
 fn copied(kept: &Option<Kept>, day: Day) -> Result<Option<Kept>, AllocError>
     ensures { IfOk result (λ copy. IfSome copy (λ copied.
         (kept.now ≡ Some copied) × (copied.day ≡ day))) }
@@ -62,16 +62,16 @@ fn copied(kept: &Option<Kept>, day: Day) -> Result<Option<Kept>, AllocError>
 }
 
 impl<S: Alter> Desk<S> {
-    /// The day whose VRPs are kept, if those of one are.
+    /// The day whose VRPs are kept, if any.
     pub fn kept(&self) -> Option<Day>
         ensures { result ≡ day_of self.now.kept }
     {
         self.kept.as_ref().map(Kept::day)
     }
 
-    /// The VRPs of the day with the exceptions in force, or nothing where an allocation fails or
-    /// the database does not answer. They are kept in place of those of another day, so that a
-    /// further question about the day allocates nothing and asks nothing of the database.
+    /// The VRPs of the day with the exceptions in force; `None` if an allocation fails or the
+    /// database does not answer. They are kept in place of those of another day, so that the next
+    /// query about the day neither allocates nor reads the database.
     pub fn payloads(&mut self, day: Day) -> Option<&Trie>
         ensures* { sem 𝓛 (Lends S.row S.Store day self.entry result) }
     {
@@ -82,7 +82,7 @@ impl<S: Alter> Desk<S> {
         }
     }
 
-    /// As `payloads`, with the length of the CSV, which is counted once for the set that is kept.
+    /// Like `payloads`, with the length of the CSV, which is counted once for the kept set.
     pub fn counted_payloads(&mut self, day: Day) -> Option<&CountedVrps>
         ensures* { sem 𝓛 (Lends S.row S.Store day self.entry result) }
     {
@@ -109,8 +109,8 @@ impl<S: Alter> Desk<S> {
         self.kept.as_ref().map(Kept::counted_vrps)
     }
 
-    /// Keeps the VRPs of the day, in place of those of another, which are let go first. Where that
-    /// cannot be done, none are kept.
+    /// Keeps the VRPs of the day in place of those of another, which are dropped first; returns
+    /// whether it did. If it did not, none are kept.
     pub(super) fn prepare(&mut self, day: Day) -> bool
         ensures { IsPrepared S.Store day result self.old self.new }
     {
@@ -135,8 +135,8 @@ impl<S: Alter> Desk<S> {
         self.kept() == Some(day)
     }
 
-    /// The VRPs of the day in a set of their own, which is a copy where they are kept. What is kept
-    /// stays. The holder is looked up even then, so that a database that answers nothing is noticed.
+    /// The VRPs of the day in a set of their own, copied if the day is kept; the kept day stays.
+    /// The holder is looked up even then, so that a database that does not answer is noticed.
     pub(super) fn kept_apart(&mut self, holder: &Name, day: Day) -> Result<Kept, StoreFault>
         ensures read { IsRead S.Store self.old.store self.new.store }
         ensures same { self.new.kept ≡ self.old.kept }
@@ -153,7 +153,7 @@ impl<S: Alter> Desk<S> {
         }
     }
 
-    /// Lets what is kept go, then reads the day and keeps it.
+    /// Drops the kept day, then reads the day and keeps it.
     fn keep_anew(&mut self, day: Day) -> Result<(), StoreFault>
         ensures read { IsRead S.Store self.old.store self.new.store }
         ensures ok { OnOk result (day_of self.new.kept ≡ Some day) }

@@ -1,4 +1,4 @@
-//! How what is kept of a day follows the commands that are accepted.
+//! How the kept day follows accepted commands.
 ghost use Rattle.std.specs.Prelude.{◌≡◌, ◌⊎◌, true, false, None, option_copied, OnOk, OnErr};
 ghost use Rattle.desk.specs.Prepared.{day_of};
 ghost use Rattle.desk.specs.steps.Following.{begins_some, may_drop, EditsTwoApart};
@@ -8,9 +8,9 @@ use kept::Kept;
 use registry::{Auth, Change, Edit};
 use std::alloc::AllocError;
 
-/// What a command does, with those authorizations of each holder whose rows it edits that are enough
-/// to follow the edit: of those that it ends, and whose number it puts, all. None where the holder
-/// has no rows.
+/// The change that a command makes, with what the kept day needs to follow it: of each edited
+/// holder at least the authorizations that the edit ends, and the one whose number it puts. `None`
+/// if the holder has no rows, or no second holder is edited.
 #[derive(Drop)]
 pub(super) struct Decided {
     pub(super) change: Change,
@@ -18,7 +18,7 @@ pub(super) struct Decided {
     pub(super) second: Option<Vec<Auth>>,
 }
 
-/// Follows an edit of the rows of a holder. Where it has none, nothing ends and nothing begins.
+/// Follows an edit of a holder's rows. If the holder has none, nothing ends and nothing begins.
 fn follow_edit(kept: &mut Kept, edit: &Edit, auths: Option<&Vec<Auth>>) -> Result<(), AllocError>
     ensures ok { OnOk result (FollowsEdit edit.now (option_copied auths.entry) kept.old kept.new) }
     ensures err { OnErr result (begins_some edit.now ≡ true) }
@@ -29,8 +29,8 @@ fn follow_edit(kept: &mut Kept, edit: &Edit, auths: Option<&Vec<Auth>>) -> Resul
     }
 }
 
-/// Follows the change, and answers whether that was done. Other exceptions are not followed, nor is
-/// what begins where an allocation fails.
+/// Follows the change; returns whether it did. It does not follow new SLURM files, nor an edit that
+/// begins authorizations if an allocation fails.
 fn follow_change(kept: &mut Kept, decided: &Decided) -> bool
     ensures yes { result ≡ true
         → FollowsChange decided.now.change decided.now.first decided.now.second kept.old kept.new }
@@ -48,7 +48,7 @@ fn follow_change(kept: &mut Kept, decided: &Decided) -> bool
     }
 }
 
-/// Brings what is kept to the rows after the change, or lets it go.
+/// Makes the kept day that of the rows after the change, or drops it.
 pub(super) fn follow(kept: &mut Option<Kept>, decided: &Decided)
     ensures follows { EditsTwoApart decided.now.change
         → Follows decided.now.change decided.now.first decided.now.second kept.old kept.new }

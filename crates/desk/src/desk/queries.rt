@@ -41,7 +41,7 @@ impl<S: Alter> Desk<S> {
         }
     }
 
-    /// As `answer`, except where an allocation fails or the database does not answer.
+    /// Like `answer`, but fails if an allocation fails or the database does not answer.
     fn look_up(&mut self, day: Day, caller: &Name, query: &Query) -> Result<Reply, StoreFault>
         ensures read { IsRead S.Store self.old.store self.new.store }
         ensures held { OfHistories S.Store self.old self.new (HoldsHistory S.Store self.new) }

@@ -19,7 +19,7 @@ use registry::{Auth, HolderRows, Proposed, View};
 use sqlite::Alter;
 use store::StoreFault;
 
-/// The authorizations of the rows; none where there are no rows.
+/// The authorizations of the rows; none if there are no rows.
 fn auths_of(rows: Option<&HolderRows>) -> &[Auth]
     ensures { result.now ≡ auths_if_any (rows_if_any (option_copied rows.entry)) }
 {
@@ -58,7 +58,7 @@ impl<S: Alter> Desk<S> {
     }
 
     /// The holder's rows, and those that the changes would leave, or the reply that refuses them.
-    /// Where there is no change, neither is looked up.
+    /// If there is no change, neither is loaded.
     ///
     /// The rest stays as it is: other holders keep their rows, and none of them gives a VRP that
     /// the holder gives, so to take the holder's out takes nothing of theirs.
@@ -95,7 +95,7 @@ impl<S: Alter> Desk<S> {
     }
 
     /// The states of the routes now, and with the begun authorizations in place of the ended ones.
-    /// The VRPs are a set that is made for this and let go at its end.
+    /// The VRPs are a set that is made for this and dropped at the end.
     fn states_now_and_after(
         &mut self,
         holder: &Name,

@@ -77,7 +77,7 @@ pub record Registers (h : List ℕ) (old new : State) : Type 0 where
 
 -- ---- the exceptions
 
--- the transaction goes on, the schema stays, and every row of a table that has rowids is taken away
+-- the transaction goes on, the schema stays, and every row of a table that has rowids is deleted
 pub record TakesRows (tree : ℕ) (old new : State) : Type 0 where
   pub was_open : IsTrue old.is_open
   pub ready : IsReady new

@@ -1,5 +1,5 @@
 -- Steps of reading: the authorizations of all holders that are in force on a day. Their claims and the payloads of all
--- entries are asked for, and the payloads that are of no such claim are taken away.
+-- entries are queried, and the payloads of no such claim are removed.
 use Rattle.std.specs.Prelude.{◌≡◌, ℕ, ◌≤◌, Bool, true, ◌&&◌, List, [], ◌∷◌, ◌++◌, map, filter, Contains, Some, IsPermutation, IsSorted}
 use Rattle.std.specs.List.{list_any}
 use Rattle.std.specs.declared.cmp.Ordering.{Ordering}

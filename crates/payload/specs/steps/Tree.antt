@@ -53,7 +53,7 @@ abbrev pub has : List Bool → Originator → Tree → Bool
 has [] o tree = list_any (eq_by_cmp originator_cmp o) (here tree)
 has (bit ∷ path) o tree = has path o (below bit tree)
 
--- nothing but a tree below the bit
+-- only a tree below the bit
 abbrev pub above : Bool → Tree → Top
 above false tree = record { originators = []; zero = tree; one = Leaf }
 above true tree = record { originators = []; zero = Leaf; one = tree }
@@ -116,7 +116,7 @@ abbrev pub IsInserted : List Bool → Originator → Tree → Tree → Type 0
 IsInserted path o old new =
     (other : List Bool) (q : Originator) → has other q new ≡ (is_place path o other q || has other q old)
 
--- new has what old has, but not the originator at the end of the path
+-- new has what old has, except the originator at the end of the path
 abbrev pub IsRemoved : List Bool → Originator → Tree → Tree → Type 0
 IsRemoved path o old new =
     (other : List Bool) (q : Originator) → has other q new ≡ (not (is_place path o other q) && has other q old)

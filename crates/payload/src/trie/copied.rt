@@ -1,4 +1,4 @@
-//! The nodes of a trie once more.
+//! Copies of the nodes of a trie.
 ghost use Rattle.std.specs.Prelude.{◌≡◌, IfOk};
 ghost use Rattle.payload.specs.steps.Branch.{top_of};
 ghost use Rattle.payload.specs.steps.Tree.{subtree};

@@ -1,4 +1,4 @@
-//! Putting a VRP into a trie.
+//! Inserting a VRP into a trie.
 ghost use Rattle.std.specs.Prelude.{◌≡◌, ◌≤◌, ◌<◌, not, false, IfOk, OnOk, OnErr, length, take};
 ghost use Rattle.addr.specs.Family.{width};
 ghost use Rattle.payload.specs.steps.Branch.{top_of};
@@ -14,7 +14,7 @@ use std::alloc::{AllocError, Global};
 use std::mem;
 
 impl Node {
-    /// Puts the VRP at the end of its prefix's bits from `at` on. Whether it is new.
+    /// Inserts the VRP at the end of its prefix's bits from `at` on; returns whether it was new.
     #[cycle(insert)]
     pub(crate) fn insert(&mut self, alloc: Global, vrp: &Vrp, at: u8) -> Result<bool, AllocError>
         requires within { at ≤ vrp.now.prefix.length }
@@ -56,7 +56,8 @@ impl Branch {
     }
 }
 
-/// As `Node::insert`. Makes a new node before it joins it to the child's place.
+/// As `Node::insert`, at a child that may be missing. A new node is made before it is put in its
+/// place.
 #[cycle(insert)]
 fn insert_below(
     child: &mut Option<Box<Node>>,

@@ -18,8 +18,8 @@ pub(crate) struct Node {
 
 /// The originators of a prefix, and the nodes of longer prefixes by their next bit.
 ///
-/// It does not know its prefix: whoever goes down to it does. Most prefixes have one originator,
-/// which lies in the node itself.
+/// It does not keep its prefix, which is known from the way down to it. Most prefixes have one
+/// originator, which lies in the node itself.
 #[cycle(node)]
 #[derive(Drop)]
 pub(crate) struct Branch {
@@ -50,7 +50,7 @@ impl Node {
     ghost use Rattle.std.specs.Prelude.{◌≡◌};
     ghost use Rattle.payload.specs.steps.Tree.{bare, is_bare, tree};
 
-    /// With nothing at it or below it.
+    /// A node with nothing at it or below it.
     pub(crate) fn new(alloc: Global) -> Node
         ensures { result ≡ bare }
     {
@@ -73,7 +73,7 @@ impl Branch {
     ghost use Rattle.payload.specs.steps.Branch.{top_of};
     ghost use Rattle.payload.specs.steps.Tree.{bare, is_bare, tree};
 
-    /// With nothing at it or below it.
+    /// A branch with nothing at it or below it.
     pub(crate) fn new(alloc: Global) -> Branch
         ensures { top_of result ≡ bare }
     {

@@ -1,4 +1,4 @@
-//! Taking a VRP out of a trie.
+//! Removing a VRP from a trie.
 ghost use Rattle.std.specs.Prelude.{◌≡◌, ◌≤◌, false};
 ghost use Rattle.addr.specs.Family.{width};
 ghost use Rattle.payload.specs.steps.Branch.{top_of};
@@ -11,7 +11,7 @@ use crate::trie::skipped::Skipped;
 use addr::Vrp;
 
 impl Node {
-    /// Takes out the VRP at the end of its prefix's bits from `at` on. Whether it was there.
+    /// Removes the VRP at the end of its prefix's bits from `at` on; returns whether it was there.
     #[cycle(remove)]
     pub(crate) fn remove(&mut self, vrp: &Vrp, at: u8) -> bool
         requires within { at ≤ vrp.now.prefix.length }
@@ -56,7 +56,7 @@ impl Branch {
     }
 }
 
-/// As `Node::remove`. Drops the child where nothing is left of it.
+/// As `Node::remove`. Drops the child if nothing is left of it.
 #[cycle(remove)]
 fn remove_below(child: &mut Option<Box<Node>>, vrp: &Vrp, at: u8) -> bool
     requires within { at ≤ vrp.now.prefix.length }

@@ -132,7 +132,7 @@ impl Skipped {
         self.count
     }
 
-    /// Whether the prefix has the bit at place `i` too, where it has those before it.
+    /// Whether the prefix has the bit at place `i` too, given that it has those before it.
     fn goes_on(&self, prefix: &Prefix, at: u8, i: u8) -> bool
         requires bit { i < length self.now }
         requires within { at + i ≤ prefix.now.length }

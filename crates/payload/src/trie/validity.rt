@@ -65,7 +65,7 @@ impl Branch {
     }
 }
 
-/// As `Node::validity`. Where there is no child no node is gone to.
+/// As `Node::validity`. If there is no child, no length is counted.
 #[cycle(validity)]
 fn validity_below(
     child: &Option<Box<Node>>,
@@ -96,7 +96,7 @@ fn some_authorizes(originators: &[Originator], route: &Route) -> bool
         .any(|originator| originator.authorizes(route))
 }
 
-/// The state where none of these originators' VRPs, which cover the route, matches it.
+/// The state if none of these originators' VRPs, which cover the route, matches it.
 fn unmatched(originators: &[Originator], above: Validity) -> Validity
     ensures { state_of result
         ≡ state_below (state_of above) (list_any (λ o. true) originators.now) }

@@ -6,7 +6,7 @@ use Rattle.registry.specs.declared.rule.Rule.{Rule}
 use Rattle.registry.specs.History.{History}
 use Rattle.registry.specs.Verdict.{Verdict}
 
--- all rules of the command hold, and of what was found the fact; or the rule is the first that does not hold
+-- all rules of the command hold, and the fact holds for what was found; or the rule is the first that fails
 abbrev pub IsAdmitted :
     {X : Type 0} → Charter → History → ℕ → List ℕ → Command → (X → Type 0) → Result X Rule → Type 0
 IsAdmitted charter history day caller command fact (Ok x) =

@@ -1,6 +1,5 @@
--- A step of the code, not a definition: how it reads a request, from all of its parts at once, so
--- that it finds the lowest fault. `RequestFaults` defines which faults a line has, `RequestText` what it
--- asks.
+-- A step of the code, not a definition: how it reads a request, from all of its parts at once, so that it finds the
+-- lowest fault. `RequestFaults` defines which faults a line has, `RequestText` which request it is.
 use Rattle.std.specs.Prelude.{ℕ, nat_lt, Bool, true, false, List, [], ◌∷◌, length, codes, if◌then◌else◌, Option, Some, None, option_and_then, Result, Ok, Err}
 use Rattle.std.specs.Option.{ok_or}
 use Rattle.std.specs.Result.{result_map_both}
@@ -48,7 +47,7 @@ use Rattle.requests.specs.declared.request.fault.Fault.{Fault}
 use Rattle.requests.specs.declared.request.commands.Subject.{Subject}
 use Rattle.requests.specs.declared.request.fault.Fault.TheVariants.{Json, Members, Holder, Caller, Prefix as PrefixFault, Asn, Max, Day, Role, Number, File, Count, TooLong, Repeated, FileName}
 
--- ---- what is asked, with its maxLengths, rows, changes and routes as lists
+-- ---- requests, with their maxLengths, rows, changes and routes as lists
 
 pub data RequestTerms : Type 0 where
   request : Request → RequestTerms

@@ -18,8 +18,7 @@ use registry::{AuthTerms, Command, Query, Request, Role, Scope};
 use serde_json::Value;
 use std::alloc::Global;
 
-/// The holder and the number that a request names. Where it names none, the fault counts for
-/// nothing.
+/// The holder and the number that a request names. If it names none, the fault is not used.
 #[derive(Clone, Copy, Debug)]
 pub(crate) struct Subject {
     pub(crate) holder: Result<Name, Fault>,

@@ -10,29 +10,30 @@ use slurm::SlurmFault;
 /// What is read of a request.
 pub(crate) type Read<T> = json_values::Read<T, Fault>;
 
-/// Of several faults the one with the lowest number is reported, of SLURM files' faults the one with
-/// the lowest of theirs.
+/// The faults of a request. If several apply, the one with the lowest number is reported; among
+/// faults of SLURM files, the one with the lowest SLURM number.
 #[derive(Clone, Copy, Debug, PartialEq, Eq)]
 pub(crate) enum Fault {
     /// The text is not JSON, or nests deeper than 127.
     Json,
-    /// Not an object, `do` is unknown, a member is missing or unknown, or a list is none.
+    /// The text is no object, `do` is unknown, a member is missing or unknown, or what should be a
+    /// list is none.
     Members,
-    /// `holder`, `giver` or `taker`.
+    /// `holder`, `giver` or `taker` is no name.
     Holder,
-    /// `caller` or `name`.
+    /// `caller` or `name` is no name.
     Caller,
     Prefix,
-    /// An AS number or an origin.
+    /// An AS number or an origin does not read as one.
     Asn,
     /// `max` is no whole number from 0 to 255.
     Max,
     Day,
-    /// `role` or `scope`, or a manager with another scope than all.
+    /// `role` or `scope` does not read as one, or a manager's scope is not all.
     Role,
     /// `number` is not 1 to 999999.
     Number,
-    /// The SLURM file, with its own fault.
+    /// A SLURM file is refused, with its own fault.
     File(SlurmFault),
     /// A list has no items, or too many.
     Count,

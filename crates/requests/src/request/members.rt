@@ -1,4 +1,4 @@
-//! The members of requests: each reader asks one member, which has to be there.
+//! The members of requests: each reader reads one member, which has to be there.
 ghost use Rattle.std.specs.Prelude.{◌≡◌, codes};
 ghost use Rattle.serde_json.specs.View.{view};
 ghost use Rattle.json_values.specs.Values.{as_asn, as_name};
@@ -13,7 +13,7 @@ use json_values::{as_asn, as_day, as_name, as_number_in, as_prefix, member};
 use registry::{LAST_NUMBER, Role, Scope};
 use serde_json::Value;
 
-/// The greatest `max` that a line may have: whether the prefix takes it is no question of the line.
+/// The greatest `max` that a line may have. Whether it fits the prefix, the rules judge.
 const GREATEST_MAX: u64 = 255;
 
 // ---- values

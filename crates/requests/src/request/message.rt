@@ -105,7 +105,7 @@ fn import_body(alloc: Global, subject: Subject, body: Option<&[u8]>) -> Read<Req
     Ok(asked_import(both(subject.holder, rows)))
 }
 
-/// The bytes of a body: none where there is no body.
+/// The bytes of a body: none if there is no body.
 fn body_bytes(body: Option<&[u8]>) -> &[u8]
     ensures { result.now ≡ body_bytes (option_copied body.entry) }
 {

@@ -1,5 +1,5 @@
--- What filters reach: the ASes and the prefixes of which they take VRPs away. Only the widest are
--- kept, in an order in which one of them has to be looked at for an AS and a prefix.
+-- What filters reach: the ASes and the prefixes whose VRPs they remove. Only the widest are kept,
+-- in an order in which one of them has to be looked at for an AS and a prefix.
 use Rattle.std.specs.Prelude.{◌≡◌, Bool, true, false, ◌&&◌, ◌||◌, ◌==◌, List, Some, None}
 use Rattle.std.specs.List.{AllPairs, list_any}
 use Rattle.std.specs.Option.{option_cmp, option_eq}

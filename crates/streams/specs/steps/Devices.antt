@@ -3,7 +3,7 @@ use Rattle.std.specs.Prelude.{◌≡◌, ◌≤◌}
 use Rattle.streams.specs.Device.{device_bytes, device_calls_left, device_has_ended, device_has_failed}
 use Rattle.streams.specs.declared.device.Device.{Device}
 
--- nothing but the reader or writer and the calls has changed, and no call was taken back
+-- only the reader or writer and the calls have changed, and no call was taken back
 pub record IsCalled {T : Type 0} (old new : Device T) : Type 0 where
   pub same_bytes : device_bytes new ≡ device_bytes old
   pub same_end : device_has_ended new ≡ device_has_ended old

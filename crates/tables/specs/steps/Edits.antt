@@ -13,6 +13,6 @@ pub record EditsAmong (tables : List Table) (tree : ℕ) (edit : List Row → Li
   pub rows : IsPermutation (edit (contents (old.trees tree))) (contents (new.trees tree))
   pub whole : IsTree (old.trees tree) → IsTree (new.trees tree)
 
--- so of the tables of a desk
+-- the same for the tables of a desk
 abbrev pub Edits : ℕ → (List Row → List Row) → Database → Database → Type 0
 Edits = EditsAmong desk_tables

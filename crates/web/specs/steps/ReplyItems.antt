@@ -3,12 +3,12 @@ use Rattle.std.specs.Prelude.{ℕ, Bool, true, false, List, [], ◌∷◌, ◌++
 use Rattle.registry.specs.declared.authorization.Auth.{Auth}
 use Rattle.web.specs.ReplyText.{auth_end, auth_start, comma_joined}
 
--- what stands before an item, which is or is not the first
+-- what comes before an item, which is or is not the first
 abbrev pub separator : Bool → List ℕ
 separator true = []
 separator false = codes ","
 
--- an item, behind a comma where it is not the first
+-- an item, after a comma unless it is the first
 abbrev pub item_after : Bool → List ℕ → List ℕ
 item_after is_first text = separator is_first ++ text
 
@@ -27,10 +27,10 @@ items_left false texts = after_commas texts
 abbrev pub auth_item : Bool → Auth → List ℕ → List ℕ
 auth_item is_first auth entries = item_after is_first (auth_start auth ++ entries ++ auth_end auth)
 
--- what stands before the list of its entries
+-- what comes before the list of its entries
 abbrev pub list_opening : Bool → Auth → List ℕ
 list_opening is_first auth = item_after is_first (auth_start auth) ++ codes "\"entries\":["
 
--- what stands after it
+-- what comes after the list
 abbrev pub list_closing : Auth → List ℕ
 list_closing auth = codes "]" ++ auth_end auth

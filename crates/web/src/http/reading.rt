@@ -1,4 +1,4 @@
-//! What a connection asks for, read before anything is acted on.
+//! The request of a connection, read before anything is acted on.
 ghost use Rattle.std.specs.Prelude.{◌≡◌, ◌++◌, ◌<◌, ℕ, List, Ok, None, Some, length, IfSome};
 ghost use Rattle.std.specs.Option.{option_copied};
 ghost use Rattle.http_messages.specs.HeadEnd.{IsWholeHead};
@@ -15,7 +15,7 @@ use requests::{Head, LineFault, Malformed, Routes, read_http_request, read_reque
 use std::alloc::Global;
 use streams::Source;
 
-/// What a connection asks for. It borrows nothing of the bytes that were read.
+/// What was read from a connection. It borrows nothing of the bytes that were read.
 #[derive(Debug, Drop)]
 pub(super) enum Next {
     Refused(HttpRefusal),
@@ -38,8 +38,8 @@ impl Next {
     }
 }
 
-/// Reads what a connection asks for; `None` where the source ended or failed before its end. The
-/// routes are made for this call where there are none.
+/// Reads the request of a connection; `None` if the source ended or failed before its end. The
+/// routes are made for this call if there are none.
 pub(super) fn read_next<S: Source>(
     alloc: Global,
     routes: Option<&Routes>,
@@ -57,14 +57,14 @@ pub(super) fn read_next<S: Source>(
     if let Some(routes) = routes {
         return read_by(alloc, routes, source, day);
     }
-    // Before the head is read, so that nothing that its bytes decide can be out of memory.
+    // Made before the head is read, so that what the head's bytes decide needs no allocation.
     match Routes::new(alloc) {
         Ok(routes) => read_by(alloc, &routes, source, day),
         Err(_) => Some(Next::NotRead),
     }
 }
 
-/// Reads what a connection asks for by its head, and by its body where one is announced.
+/// Reads the request of a connection from its head and, if one is announced, its body.
 fn read_by<S: Source>(alloc: Global, routes: &Routes, source: &mut S, day: Day) -> Option<Next>
     ensures some { IfSome result (λ next. (bytes : List ℕ)
         × Gives bytes (S.handed_out source.old) (S.handed_out source.new)
@@ -85,7 +85,7 @@ fn read_by<S: Source>(alloc: Global, routes: &Routes, source: &mut S, day: Day) 
     }
 }
 
-/// Reads the body that a head announces, if it does, and then what both ask for.
+/// Reads the body that a head announces, if any, and then the request of both.
 fn read_rest<S: Source>(alloc: Global, source: &mut S, day: Day, request: &Head<'_>) -> Option<Next>
     ensures some { IfSome result (λ next. (rest : List ℕ)
         × Gives rest (S.handed_out source.old) (S.handed_out source.new)
@@ -106,7 +106,7 @@ fn read_rest<S: Source>(alloc: Global, source: &mut S, day: Day, request: &Head<
     }
 }
 
-/// What a head and its body ask for.
+/// The request of a head and its body.
 fn next_of(alloc: Global, day: Day, request: &Head<'_>, body: Option<&[u8]>) -> Next
     ensures { (bytes : List ℕ)
         → IsMessage bytes (head_view request.now) (option_copied body.entry)

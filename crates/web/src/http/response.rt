@@ -18,7 +18,7 @@ use sqlite::Alter;
 use std::alloc::Global;
 use streams::{Drain, Failed};
 
-/// Acts on what was asked, and writes the response. What a reply shows is collected first, except
+/// Acts on what was read, and writes the response. What a reply shows is collected first, except
 /// the VRPs of a day; if an allocation fails there, the response says so.
 pub(super) fn respond<D: Drain, A: Alter>(
     alloc: Global,
@@ -177,7 +177,7 @@ fn reply_status(reply: &Reply) -> Status
     }
 }
 
-/// What a reply is sent as, where a list is sent in this form.
+/// The media type of a reply, if a list is sent in this form.
 fn reply_type(form: ContentType, reply: &Reply) -> ContentType
     ensures { result ≡ reply_type form reply.now }
 {
@@ -188,7 +188,7 @@ fn reply_type(form: ContentType, reply: &Reply) -> ContentType
     }
 }
 
-/// Writes the response where an allocation failed.
+/// Writes the response that says that an allocation failed.
 fn write_unavailable<D: Drain>(drain: &mut D) -> Result<(), Failed>
     ensures ok { OnOk result
         (D.written drain.new ≡ D.written drain.old ++ unavailable_response) }

@@ -17,7 +17,7 @@ use streams::Drain;
 pub(super) trait Item {
     ghost text: { Self → List ℕ };
 
-    /// Adds the item, behind a comma where it is not the first of its list.
+    /// Adds the item, after a comma unless it is the first of its list.
     fn add_to<D: Drain>(&self, is_first: bool, pieces: &mut Pieces<'_, D>)
         ensures { HasAdded D.written D.has_failed pieces.old
             (item_after is_first (text self.now)) pieces.new };
@@ -63,7 +63,7 @@ impl Item for Validity {
     }
 }
 
-/// Of a route: its state now, and after changes.
+/// The states of a route now and after changes.
 impl Item for (Validity, Validity) {
     ghost text = { states_text };
 
@@ -80,7 +80,7 @@ impl Item for (Validity, Validity) {
     }
 }
 
-/// Adds an authorization of these entries, behind a comma where it is not the first of its list.
+/// Adds an authorization of these entries, after a comma unless it is the first of its list.
 #[tactic(auto, using(crate::proofs::ReplyLemmas::several_entries))]
 fn add_auth<D: Drain>(
     is_first: bool,
@@ -97,7 +97,7 @@ fn add_auth<D: Drain>(
     }
 }
 
-/// An authorization of this one entry, behind a comma where it is not the first of its list.
+/// An authorization of this one entry, after a comma unless it is the first of its list.
 fn one_entry_item(is_first: bool, auth: &Auth, entry: &RoaPrefix) -> ArrayString<256>
     ensures { result.bytes
         ≡ auth_item is_first auth.now (prefix_members entry.now.prefix entry.now.max) }
@@ -135,7 +135,7 @@ fn list_opening(is_first: bool, auth: &Auth) -> ArrayString<128>
     text
 }
 
-/// The text after it.
+/// The text after the list of an authorization's entries.
 fn list_closing(auth: &Auth) -> ArrayString<128>
     ensures { result.bytes ≡ list_closing auth.now }
 {
@@ -159,7 +159,7 @@ fn auth_start(is_first: bool, auth: &Auth) -> ArrayString<64>
     text
 }
 
-/// The text after them.
+/// The text after an authorization's entries.
 fn auth_end(auth: &Auth) -> ArrayString<64>
     ensures { result.bytes ≡ auth_end auth.now }
 {
@@ -172,7 +172,7 @@ fn auth_end(auth: &Auth) -> ArrayString<64>
     text
 }
 
-/// A VRP, behind a comma where it is not the first of its list.
+/// A VRP, after a comma unless it is the first of its list.
 pub(crate) fn vrp_item(is_first: bool, vrp: &Vrp) -> ArrayString<256>
     ensures { result.bytes ≡ item_after is_first (vrp_text vrp.now) }
 {
