@@ -1,5 +1,5 @@
 -- The edit of an import, row by row.
-use Rattle.std.proofs.Common.{◌≡◌, ℕ, ◌+◌, ◌<◌, Bool, true, false, cond, List, [], ◌∷◌, ◌++◌, length, take, get_or, inl, inr, Option, Some, None, Err, IsSomeAnd, refl, sym, ap, ◌∙◌, subst, append_assoc, append-nil, arith, length-append}
+use Rattle.std.proofs.Common.{◌≡◌, ℕ, ◌+◌, ◌<◌, Bool, true, false, cond, List, [], ◌∷◌, ◌++◌, length, take, get_or, inl, inr, Option, Some, None, Err, IsSomeAnd, refl, sym, ap, ◌∙◌, subst, append_assoc, append-nil, arith, length-append, Contains}
 use Rattle.std.specs.Global.{Vec}
 use Rattle.std.proofs.lemmas.List.{length-take-le}
 use Rattle.std.proofs.lemmas.Bool.{cases_Bool, false≢true, cond-true}
@@ -15,13 +15,14 @@ use Rattle.registry.specs.declared.rule.Refusal.TheVariants.{Denied, Memory}
 use Rattle.registry.specs.declared.rule.Rule.TheVariants.{Grant as GrantRule}
 use Rattle.registry.specs.declared.command.Command.TheVariants.{Import}
 use Rattle.registry.specs.Answer.{IsAnswer}
+use Rattle.registry.specs.Edits.{AreOfRows}
 use Rattle.registry.specs.History.{Entry, History, same_name, is_registered}
 use Rattle.registry.specs.Import.{row_command, JudgesRow, IsImportDenied}
 use Rattle.registry.specs.Permission.{has_access, are_permitted}
 use Rattle.registry.specs.Rows.{Rows, RowsIfAny, edited, edited_if_any, changed, Carries}
 use Rattle.registry.specs.Terms.{grant_terms, authorizations_made, row_terms}
 use Rattle.registry.specs.Verdict.{IsLegal}
-use Rattle.policy.specs.steps.Import.{IsImport, AnswersImport, FindsRow, MakesRow, IsRowDone}
+use Rattle.policy.specs.steps.Import.{IsImport, AnswersImport, FindsRow, MakesRow, IsRowDone, MakesOfRow}
 use Rattle.policy.specs.steps.Part.{IsRefusedBy, refusal_at}
 use Rattle.registry.proofs.Carry.{carried}
 use Rattle.policy.proofs.Growth.{Grows-more, Grows-denied}
@@ -215,3 +216,18 @@ pub answers-denied : (charter : Charter) (history : History) (h : List ℕ) (day
 answers-denied charter history h day caller rows listed (Denied rule place) same denied =
     subst (λ xs. IsSomeAnd place (λ n. IsImportDenied charter day caller h history xs rule n)) (sym same) denied
 answers-denied charter history h day caller rows listed Memory same denied = tt
+
+-- before the first row no authorization was made
+pub of_rows-none : (rows : List ImportRow) (made : List Auth) → made ≡ [] → AreOfRows rows made
+of_rows-none rows made none x has =
+    let among_none = subst (λ (xs : List Auth). Contains xs x) none has in
+    absurd (omega (arith, among_none.1))
+
+-- those that one more row leaves are of the rows too
+pub of_rows-more : (rows : List ImportRow) (i : ℕ) (t : ImportRow) (made more : List Auth) → i < length rows → t ≡ get_or rows i t
+    → AreOfRows rows made → MakesOfRow t made more → AreOfRows rows more
+of_rows-more rows i t made more below at are makes x has =
+    elim (makes x has) [
+      | inl before ↦ are x before
+      | inr of ↦ (t, (i, below, sym at), of)
+    ]

@@ -8,7 +8,7 @@ ghost use Rattle.registry.specs.declared.limits.TheConstants.{LAST_NUMBER};
 ghost use Rattle.registry.specs.History.{History};
 ghost use Rattle.registry.specs.Rows.{rows_of, edited, RowsOf};
 ghost use Rattle.registry.specs.Answer.{AnswersCreate, IsAnswer, OfRows};
-ghost use Rattle.registry.specs.Edits.{HasEditsOf};
+ghost use Rattle.registry.specs.Edits.{HasEditsOf, IsOfTerms};
 ghost use Rattle.registry.specs.Terms.{numbered_terms};
 ghost use Rattle.registry.specs.Verdict.{IsLegal, Verdict};
 ghost use Rattle.policy.specs.steps.Creation.{IsCreated};
@@ -110,6 +110,7 @@ pub(crate) fn create(
 ) -> Result<Auth, Refusal>
     ensures rows { IfOk result
         (λ x. rows_of rows.new ≡ edited (Edit.Create x) (rows_of rows.old)) }
+    ensures terms { IfOk result (IsOfTerms terms.now) }
     ensures judged { (charter : CharterValue) → OfRows charter (Some (rows_of rows.old))
         (λ history h. Judged (IsCreated charter history h day caller.now terms.now)
         (λ rule. Verdict charter history day caller.now (Command.Create h terms.now) (Some rule))

@@ -1,7 +1,9 @@
 -- Which authorizations an edit ends and begins, and which edits a command makes.
-use Rattle.std.specs.Prelude.{◌≡◌, ℕ, ◌==◌, Bool, true, false, List, [], ◌∷◌, filter, Some, None, if◌then◌else◌}
+use Rattle.std.specs.Prelude.{◌≡◌, ℕ, ◌==◌, Bool, true, false, List, [], ◌∷◌, filter, Some, None, if◌then◌else◌, Contains}
 use Rattle.std.specs.List.{list_any}
 use Rattle.registry.specs.declared.authorization.Auth.{Auth}
+use Rattle.registry.specs.declared.authorization.AuthTerms.{AuthTerms}
+use Rattle.registry.specs.declared.authorization.ImportRow.{ImportRow}
 use Rattle.registry.specs.declared.command.Command.{Command}
 use Rattle.registry.specs.declared.command.Command.TheVariants.{Register, Delegate, Transfer, Reclaim, Grant, Revoke, Create, Amend, Withdraw, Import, Slurm}
 use Rattle.registry.specs.declared.change.Change.{Change}
@@ -10,6 +12,7 @@ use Rattle.registry.specs.declared.change.Edit.{Edit}
 use Rattle.registry.specs.declared.change.Edit.TheVariants.{Register as RegisterEdit, Hold, Grant as GrantEdit, Revoke as RevokeEdit, Create as CreateEdit, Import as ImportEdit, Amend as AmendEdit, Withdraw as WithdrawEdit}
 use Rattle.registry.specs.Answer.{holder_of}
 use Rattle.registry.specs.History.{same_name}
+use Rattle.registry.specs.Terms.{numbered_terms, row_terms}
 
 -- the edit takes away the authorization of this number, or puts another in its place
 abbrev pub ends : Edit → ℕ → Bool
@@ -40,22 +43,32 @@ abbrev pub IsHoldEndingNone : Edit → Type 0
 IsHoldEndingNone (Hold removed added ended) = ended.items ≡ []
 IsHoldEndingNone _ = ⊥
 
--- the edit puts any number of authorizations
-abbrev pub IsImportEdit : Edit → Type 0
-IsImportEdit (ImportEdit auths created) = Unit {0}
-IsImportEdit _ = ⊥
+-- the authorization has these terms, whatever its number
+abbrev pub IsOfTerms : AuthTerms → Auth → Type 0
+IsOfTerms t x = x ≡ numbered_terms t x.number
 
--- the edit is one that the command makes of its one holder's rows; a transfer and SLURM files make none
+-- each of the authorizations has the terms of one of the rows
+abbrev pub AreOfRows : List ImportRow → List Auth → Type 0
+AreOfRows rows auths =
+    (x : Auth) → Contains auths x → (r : ImportRow) × Contains rows r × IsOfTerms (row_terms r) x
+
+-- the edit puts any number of authorizations, each of the terms of one of the rows
+abbrev pub IsImportOf : List ImportRow → Edit → Type 0
+IsImportOf rows (ImportEdit auths created) = AreOfRows rows auths.items
+IsImportOf rows _ = ⊥
+
+-- The edit is one that the command makes of its one holder's rows; a transfer and SLURM files make none. A create
+-- puts an authorization of its terms, an amend one with its last day, and an import any number of those of its rows.
 abbrev pub IsEditOf : Command → Edit → Type 0
 IsEditOf (Register holder) edit = edit ≡ RegisterEdit
 IsEditOf (Delegate holder p) edit = IsHoldEndingNone edit
 IsEditOf (Reclaim holder p) edit = IsHold edit
 IsEditOf (Grant holder name role scope until) (GrantEdit g) = Unit {0}
 IsEditOf (Revoke holder n) edit = edit ≡ RevokeEdit n
-IsEditOf (Create holder terms) (CreateEdit x) = Unit {0}
-IsEditOf (Amend holder n maxes until) (AmendEdit x) = Unit {0}
+IsEditOf (Create holder terms) (CreateEdit x) = IsOfTerms terms x
+IsEditOf (Amend holder n maxes until) (AmendEdit x) = x.until ≡ until
 IsEditOf (Withdraw holder n) edit = edit ≡ WithdrawEdit n
-IsEditOf (Import holder rows) edit = IsImportEdit edit
+IsEditOf (Import holder rows) edit = IsImportOf rows.items edit
 IsEditOf _ _ = ⊥
 
 -- The change has the edits of the command and no others: of a transfer that of the giver and that of another taker,

@@ -1,5 +1,5 @@
 -- What the rows of an import make, and the edit of all of them.
-use Rattle.std.specs.Prelude.{◌≡◌, ℕ, ◌+◌, List, [], ◌∷◌, ◌++◌, length, None, ◌⊎◌, Result, Ok, Err, IsSomeAnd}
+use Rattle.std.specs.Prelude.{◌≡◌, ℕ, ◌+◌, List, [], ◌∷◌, ◌++◌, length, None, ◌⊎◌, Result, Ok, Err, Contains, IsSomeAnd}
 use Rattle.std.specs.Global.{Vec}
 use Rattle.registry.specs.declared.authorization.Auth.{Auth}
 use Rattle.registry.specs.declared.authorization.ImportRow.{ImportRow}
@@ -10,6 +10,7 @@ use Rattle.charters.specs.declared.charter.Charter.{Charter}
 use Rattle.registry.specs.declared.rule.Refusal.{Refusal}
 use Rattle.registry.specs.declared.rule.Refusal.TheVariants.{Denied, Memory}
 use Rattle.registry.specs.Answer.{edit_imported, PutsNoneBack}
+use Rattle.registry.specs.Edits.{IsOfTerms}
 use Rattle.registry.specs.History.{History}
 use Rattle.registry.specs.Import.{IsPresent, ImportGrows, IsImportDenied}
 use Rattle.registry.specs.Rows.{Rows, edited, Carries}
@@ -37,6 +38,10 @@ abbrev pub IsRowDone :
 IsRowDone charter history holder day caller t made more before after =
     FindsRow charter history holder day caller t made more before after
     ⊎ MakesRow charter history holder day caller t made more before after
+
+-- each authorization made is one that was made before, or has the terms of the row
+abbrev pub MakesOfRow : ImportRow → List Auth → List Auth → Type 0
+MakesOfRow row made more = (x : Auth) → Contains more x → Contains made x ⊎ IsOfTerms (row_terms row) x
 
 -- no row is denied, and the edit carries all rows to the history with the creates of those that made one
 pub record IsImport (charter : Charter) (history : History) (holder : List ℕ) (day : ℕ) (caller : List ℕ)

@@ -1,6 +1,6 @@
 //! Imports: each row is judged on the rows that those before it left.
 
-ghost use Rattle.std.specs.Prelude.{◌≡◌, Some, Err, option_copied, IfOk};
+ghost use Rattle.std.specs.Prelude.{◌≡◌, Some, Err, option_copied, IfOk, OnOk};
 ghost use Rattle.std.specs.Global.{Vec};
 ghost use Rattle.registry.specs.declared.authorization.ImportRow.{ImportRow as ImportRowValue};
 ghost use Rattle.charters.specs.declared.charter.Charter.{Charter as CharterValue};
@@ -10,8 +10,8 @@ ghost use Rattle.registry.specs.Import.{JudgesRow};
 ghost use Rattle.registry.specs.Verdict.{IsLegal};
 ghost use Rattle.registry.specs.Rows.{rows_of, rows_if_any, RowsIfAny};
 ghost use Rattle.registry.specs.Answer.{OfRows, IsAnswer};
-ghost use Rattle.registry.specs.Edits.{HasEditsOf, IsImportEdit};
-ghost use Rattle.policy.specs.steps.Import.{AnswersImport, IsRowDone};
+ghost use Rattle.registry.specs.Edits.{HasEditsOf, IsImportOf};
+ghost use Rattle.policy.specs.steps.Import.{AnswersImport, IsRowDone, MakesOfRow};
 ghost use Rattle.policy.specs.steps.Part.{Judged};
 
 use super::{Basis, Holder};
@@ -32,11 +32,12 @@ fn import_row(
     caller: &Name,
     row: &ImportRow,
 ) -> Result<(), Refusal>
-    ensures { (charter : CharterValue) → OfRows charter (Some (rows_of rows.old)) (λ history h.
-        Judged
+    ensures judged { (charter : CharterValue) → OfRows charter (Some (rows_of rows.old))
+        (λ history h. Judged
         (λ _. IsRowDone charter history h day caller.now row.now auths.old auths.new
         (rows_of rows.old) (rows_of rows.new))
         (λ rule. JudgesRow charter day caller.now h history row.now (Err rule)) result) }
+    ensures terms { OnOk result (MakesOfRow row.now auths.old.items auths.new.items) }
 {
     let terms = row.terms(alloc)?;
     if is_present(rows, day, caller, &terms) {
@@ -57,7 +58,7 @@ fn import_rows(
 ) -> Result<Edit, Refusal>
     ensures answer { (charter : CharterValue) → OfRows charter (Some (rows_of before.now))
         (λ history h. AnswersImport charter history h day caller.now listed.now result) }
-    ensures shape { IfOk result IsImportEdit }
+    ensures shape { IfOk result (IsImportOf listed.now) }
 {
     let mut rows = before.clone()?;
     let mut auths = Vec::new(alloc);
@@ -87,7 +88,7 @@ fn import_edit(
     ensures answer { (charter : CharterValue)
         → OfRows charter (rows_if_any (option_copied rows.entry))
         (λ history h. AnswersImport charter history h day caller.now listed.now result) }
-    ensures shape { IfOk result IsImportEdit }
+    ensures shape { IfOk result (IsImportOf listed.now) }
 {
     match rows {
         Some(before) => import_rows(alloc, before, day, caller, listed),
@@ -111,7 +112,7 @@ pub(super) fn decide_import(
         → RowsIfAny history holder.entry.name.now (rows_if_any (option_copied holder.entry.rows))
         → IsAnswer basis.entry.charter.now history basis.entry.day basis.entry.caller.now
         (Command.Import holder.entry.name.now rows) result }
-    ensures shape { (rows : Vec ImportRowValue)
+    ensures shape { (rows : Vec ImportRowValue) → rows.items ≡ listed.now
         → IfOk result (HasEditsOf (Command.Import holder.entry.name.now rows)) }
 {
     let edit = import_edit(alloc, holder.rows, basis.day, basis.caller, listed)?;

@@ -12,7 +12,7 @@ returns-in-Import-clause-answer c = λ history legal view.
     rw c.in-Import.is answer
 
 pub returns-in-Import-clause-shape : goal.returns-in-Import-clause-shape
-returns-in-Import-clause-shape c = rw c.in-Import.is (c.decide_import.ensures.shape c.in-Import.listed)
+returns-in-Import-clause-shape c = rw c.in-Import.is (c.decide_import.ensures.shape c.in-Import.listed (sym c.deref-in-Import.ensures.value))
 
 pub returns-in-Amend-clause-answer : goal.returns-in-Amend-clause-answer
 returns-in-Amend-clause-answer c = λ history legal view.

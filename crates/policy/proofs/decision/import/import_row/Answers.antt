@@ -14,8 +14,8 @@ refused_by : {P Q : Rule → Type 0} (refusal : Refusal) → ((rule : Rule) → 
 refused_by (Denied rule place) to denied = to rule denied
 refused_by Memory to refused = tt
 
-pub returns-in_err-auth : goal.returns-in_err-auth
-returns-in_err-auth c charter history h legal are =
+pub returns-in_err-auth-clause-judged : goal.returns-in_err-auth-clause-judged
+returns-in_err-auth-clause-judged c charter history h legal are =
     let refused = err_from_is_err_and c.from_residual-in_err-auth.result c.from_residual-in_err-auth.ensures.1 in
     let judged = rw c.in_ok-terms.ensures at c.in_err-auth.ensures.judged charter history h legal are in
     let a = c.args in
@@ -26,8 +26,8 @@ returns-in_err-auth c charter history h legal are =
       denied,
     )) judged)
 
-pub returns : goal.returns
-returns c charter history h legal are =
+pub returns-clause-judged : goal.returns-clause-judged
+returns-clause-judged c charter history h legal are =
     inr (record {
       auth = c.in_ok-auth.auth;
       absent = λ present. false≢true (sym c.if-is_present.false ∙ (c.is_present.ensures c.args.row.now c.in_ok-terms.ensures history h are.1).1 present);
