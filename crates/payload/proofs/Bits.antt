@@ -5,9 +5,9 @@ use Rattle.addr.specs.Address.{bit_of}
 use Rattle.addr.specs.declared.prefix.Prefix.{Prefix}
 use Rattle.payload.specs.steps.Trie.{last_bits, bits_from}
 
-test : (b : Bool) (n : ℕ) → IsTrue b ↔ (n ≡ 1) → (n == 1) ≡ b
-test true n is = eq-eqb n 1 (is.0 refl)
-test false n is = ne_eqb n 1 (λ e. false≢true (is.1 e))
+pub is_one : (b : Bool) (n : ℕ) → IsTrue b ↔ (n ≡ 1) → (n == 1) ≡ b
+is_one true n is = eq-eqb n 1 (is.0 refl)
+is_one false n is = ne_eqb n 1 (λ e. false≢true (is.1 e))
 
 pub bits_from-end : (p : Prefix) (at : ℕ) → p.length ≤ at → bits_from p at ≡ []
 bits_from-end p at past = let none : p.length - at ≡ 0 = omega arith in ap (last_bits p) none
@@ -20,7 +20,7 @@ next-bit p at b within is =
     ap (last_bits p) more ∙ ap (λ k. (bit_of p k == 1) ∷ last_bits p n) place ∙ ap (λ t. t ∷ last_bits p n) is
 
 pub bits_from-next : (p : Prefix) (at : ℕ) (b : Bool) → at < p.length → IsTrue b ↔ (bit_of p at ≡ 1) → bits_from p at ≡ b ∷ bits_from p (at + 1)
-bits_from-next p at b within is = next-bit p at b within (test b (bit_of p at) is)
+bits_from-next p at b within is = next-bit p at b within (is_one b (bit_of p at) is)
 
 length-last_bits : (p : Prefix) (n : ℕ) → length (last_bits p n) ≡ n
 length-last_bits p zero = refl

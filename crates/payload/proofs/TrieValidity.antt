@@ -1,17 +1,21 @@
 -- The VRPs of a trie: they rise, what state they give a route, and at which lengths a search looks.
-use Rattle.std.proofs.Common.{◌≡◌, ℕ, suc, ◌+◌, ◌≤◌, Bool, true, false, not, ◌&&◌, ◌||◌, nat_lt, get_or, if◌then◌else◌, List, length, sym, ap, ◌∙◌, arith}
-use Rattle.std.proofs.Math.Bool.{and-false, and-true}
+use Rattle.std.proofs.Common.{◌≡◌, ℕ, suc, ◌+◌, ◌≤◌, ◌<◌, Bool, true, false, not, ◌==◌, ◌&&◌, ◌||◌, nat_lt, get_or, if◌then◌else◌, List, [], ◌∷◌, ◌++◌, length, take, drop, filter, refl, sym, ap, ◌∙◌, subst, inl, inr, arith}
+use Rattle.std.proofs.Math.Bool.{and-false, and-true, or-false}
 use Rattle.std.specs.List.{All, list_any, range_with_len}
 use Rattle.std.specs.declared.cmp.Ordering.TheVariants.{Less}
-use Rattle.std.proofs.lemmas.Bool.{false_from_ne_true, and_parts, lt-leb, ne_eqb}
+use Rattle.std.proofs.lemmas.Bool.{cases_Bool, false_from_ne_true, false≢true, and_parts, lt-leb, ne_eqb}
+use Rattle.std.proofs.lemmas.List.{take-append-drop}
 use Rattle.std.proofs.lemmas.List.Elements.{All-weaker}
 use Rattle.std.proofs.lemmas.List.FromFn.{length-range_with_len}
 use Rattle.std.proofs.lemmas.List.Sums.{count_by-le-length, length-filter}
-use Rattle.std.proofs.lemmas.List.Folds.{list_any_none}
-use Rattle.addr.specs.OriginValidation.{Valid, NotFound, covers, matches, validation_state}
+use Rattle.std.proofs.lemmas.List.Folds.{list_any-append, list_any_none}
+use Rattle.addr.specs.Address.{bit_of, contains}
+use Rattle.addr.specs.Family.{width}
+use Rattle.addr.specs.OriginValidation.{ValidationState, Valid, Invalid, NotFound, covers, matches, validation_state}
 use Rattle.addr.specs.Order.{vrp_cmp}
 use Rattle.addr.specs.declared.family.Family.{Family}
 use Rattle.addr.specs.declared.family.Family.TheVariants.{V4, V6}
+use Rattle.addr.specs.declared.prefix.Prefix.{Prefix}
 use Rattle.addr.specs.declared.route.Route.{Route}
 use Rattle.addr.specs.declared.vrp.Vrp.{Vrp}
 use Rattle.addr.proofs.Equality.{same_family}
@@ -20,12 +24,14 @@ use Rattle.payload.specs.Rising.{AreRising}
 use Rattle.payload.specs.SearchDepths.{agrees, is_matched_before, is_reached, search_depths}
 use Rattle.payload.specs.VrpSet as set
 use Rattle.payload.specs.declared.originator.Originator.{Originator}
-use Rattle.payload.specs.steps.Tree.{Tree, Fork, IsPruned, has_on_path, nodes_on_path}
-use Rattle.payload.specs.steps.Trie.{authorizes, bits_from, originator_of, state_below, trie_vrps, vrps_below, walked_state, whole}
+use Rattle.payload.specs.steps.Tree.{Tree, Fork, IsPruned, below, has_on_path, nodes_on_path}
+use Rattle.payload.specs.steps.Trie.{authorizes, bits_from, half_vrps, joined_state, node_vrps, originator_of, state_among, state_below, trie_vrps, vrps_at, vrps_below, walked_state, whole}
 use Rattle.payload.proofs.Depths.{nodes-parts, nodes_below, passing, passing-below, passing-first, passing-same, is_searched}
 use Rattle.payload.proofs.Sets.{items-from_list}
 use Rattle.payload.proofs.TrieOrder.{pairs-append, vrps-rise}
-use Rattle.payload.proofs.TrieVrps.{All-within}
+use Rattle.payload.proofs.Halves.{contains-trans}
+use Rattle.payload.proofs.TrieVisits.{node_vrps-append, node_vrps-more}
+use Rattle.payload.proofs.TrieVrps.{All-within, any-half, any-here, HasLengths, IsRound, vrp_of}
 use Rattle.payload.proofs.TrieWalks.{any-covers, covers_with}
 use Rattle.payload.proofs.Tries.{any-four, any-six, whole-four, whole-six}
 
@@ -120,3 +126,95 @@ search_depths-most vrps route =
     let offers = λ (k : ℕ). is_reached vrps route k && not (is_matched_before vrps route k) in
     let lengths = range_with_len 0 (route.prefix.length + 1) in
     omega (arith, length-filter offers lengths, count_by-le-length offers lengths, length-range_with_len 0 (route.prefix.length + 1))
+
+-- ---- the state of a route over those VRPs that pass a test
+
+joined-twice : (above : ValidationState) (m c m' c' : Bool) → joined_state (joined_state above m c) m' c' ≡ joined_state above (m || m') (c || c')
+joined-twice Valid m c m' c' = refl
+joined-twice Invalid true c m' c' = refl
+joined-twice Invalid false c m' c' = refl
+joined-twice NotFound true c m' c' = refl
+joined-twice NotFound false true m' c' = refl
+joined-twice NotFound false false m' c' = refl
+
+pub joined-none : (above : ValidationState) → joined_state above false false ≡ above
+joined-none Valid = refl
+joined-none Invalid = refl
+joined-none NotFound = refl
+
+any-filter : (test p : Vrp → Bool) (vrps : List Vrp) → list_any test (filter p vrps) ≡ list_any (λ v. p v && test v) vrps
+any-filter test p [] = refl
+any-filter test p (v ∷ vrps) = elim (cases_Bool (p v)) [ inl is ↦ rw is (ap (λ b. test v || b) (any-filter test p vrps)) | inr fails ↦ rw fails (any-filter test p vrps) ]
+
+module _ (passes : Vrp → Bool) (route : Route) where
+  abbrev Matches : Vrp → Bool
+  Matches v = passes v && matches v route
+
+  abbrev Covers : Vrp → Bool
+  Covers v = passes v && covers v route
+
+  -- lists in which each test finds a VRP round the route's prefix, or none, give one state
+  same-found : (above : ValidationState) (vrps others : List Vrp) → ((test : Vrp → Bool) → IsRound route.prefix test → list_any test vrps ≡ list_any test others) → state_among above passes route vrps ≡ state_among above passes route others
+  same-found above vrps others same i =
+      joined_state above (same Matches (λ v is. (and_parts _ _ (and_parts (passes v) _ is).1).0) i) (same Covers (λ v is. (and_parts (passes v) _ is).1) i)
+
+  -- over two lists, one after another
+  among-append : (above : ValidationState) (vrps more : List Vrp) → state_among (state_among above passes route vrps) passes route more ≡ state_among above passes route (vrps ++ more)
+  among-append above vrps more =
+      joined-twice above (list_any Matches vrps) (list_any Covers vrps) (list_any Matches more) (list_any Covers more)
+      ∙ sym (λ i. joined_state above (list_any-append Matches vrps more i) (list_any-append Covers vrps more i))
+
+  -- the state by one originator more
+  module _ (above state next : ValidationState) (p : Prefix) (os : List Originator) (i : ℕ) (d : Originator) (lengths : All (HasLengths p) os) (within : i < length os) (inside : contains p route.prefix ≡ true) (so_far : state ≡ state_among above passes route (node_vrps p (take i os))) where
+    pub among-more : (v : Vrp) (passed : Bool) → v.prefix ≡ p → originator_of v ≡ get_or os i d → passes v ≡ passed → next ≡ joined_state state (passed && authorizes route (get_or os i d)) passed → next ≡ state_among above passes route (node_vrps p (take (i + 1) os))
+    among-more v passed at is pass next_is =
+        let cover : covers v route ≡ true = subst (λ q. contains q route.prefix ≡ true) (sym at) inside in
+        next_is
+        ∙ ap (joined_state state (passed && authorizes route (get_or os i d))) (sym (and-true passed))
+        ∙ sym (λ i. joined_state state (or-false (pass i && (cover i && authorizes route (is i))) i) (or-false (pass i && cover i) i))
+        ∙ ap (λ s. state_among s passes route (v ∷ [])) so_far ∙ among-append above (node_vrps p (take i os)) (v ∷ [])
+        ∙ ap (state_among above passes route) (sym (node_vrps-more p os i d v lengths within at is))
+
+    -- where it changes nothing, whether it passes or not
+    pub among-same : next ≡ state → next ≡ joined_state state (authorizes route (get_or os i d)) true → state ≡ state_among above passes route (node_vrps p (take (i + 1) os))
+    among-same same next_is =
+        let v = vrp_of p (get_or os i d) (lengths i d within) in
+        sym same ∙ elim (cases_Bool (passes v)) [ inl pass ↦ among-more v true refl refl pass next_is | inr fails ↦ among-more v false refl refl fails (same ∙ sym (joined-none state)) ]
+
+  -- once some VRP of a node matches
+  pub among-part : (above : ValidationState) (p : Prefix) (os : List Originator) (i : ℕ) → Valid ≡ state_among above passes route (node_vrps p (take i os)) → Valid ≡ state_among above passes route (node_vrps p os)
+  among-part above p os i is =
+      ap (λ s. state_among s passes route (node_vrps p (drop i os))) is ∙ among-append above (node_vrps p (take i os)) (node_vrps p (drop i os))
+      ∙ ap (state_among above passes route) (sym (node_vrps-append p (take i os) (drop i os)) ∙ ap (node_vrps p) (take-append-drop i os))
+
+  -- VRPs in a prefix that does not contain the route's leave the state
+  pub among-outside : (above : ValidationState) (p : Prefix) (t : Tree) → IsPruned (width p.family) p.length t → contains p route.prefix ≡ false → above ≡ state_among above passes route (vrps_at p t)
+  among-outside above p t pruned out = sym (same-found above (vrps_at p t) [] (λ test round.
+      list_any_none test _ (All-weaker _ (λ v. test v ≡ false) (λ v inside. false_from_ne_true _ (λ is. false≢true (sym out ∙ contains-trans p v.prefix route.prefix inside (round v is)))) _ (All-within p t pruned)))
+      ∙ joined-none above)
+
+  -- a node whose prefix contains the route's, and those below it
+  module _ (above : ValidationState) (p : Prefix) (os : List Originator) (zero one : Tree) (pruned : IsPruned (width p.family) p.length (Fork os zero one)) where
+    pub among-end : route.prefix.length ≤ p.length → state_among above passes route (node_vrps p os) ≡ state_among above passes route (vrps_at p (Fork os zero one))
+    among-end short = same-found above _ _ (λ test round. sym (any-here test p route.prefix os zero one round pruned short))
+
+    pub among-next : (bit : Bool) → (bit_of route.prefix p.length == 1) ≡ bit → (state next : ValidationState) → state ≡ state_among above passes route (node_vrps p os) → next ≡ state_among state passes route (half_vrps bit p (below bit (Fork os zero one))) → next ≡ state_among above passes route (vrps_at p (Fork os zero one))
+    among-next bit is state next here rest =
+        let half = half_vrps bit p (below bit (Fork os zero one)) in
+        rest ∙ ap (λ s. state_among s passes route half) here ∙ among-append above (node_vrps p os) half
+        ∙ same-found above _ _ (λ test round. list_any-append test (node_vrps p os) half ∙ sym (any-half bit test p route.prefix os zero one round pruned is))
+
+  -- the VRPs of one family
+  among-family : (f : Family) (t four six : Tree) → ((test : Vrp → Bool) → IsRound route.prefix test → list_any test (trie_vrps four six) ≡ list_any test (vrps_at (whole f) t)) → state_among NotFound passes route (vrps_at (whole f) t) ≡ validation_state (filter passes (trie_vrps four six)) route
+  among-family f t four six same =
+      sym (same-found NotFound _ _ same)
+      ∙ sym (λ i. joined_state NotFound (any-filter (λ v. matches v route) passes (trie_vrps four six) i) (any-filter (λ v. covers v route) passes (trie_vrps four six) i))
+
+  other-fails : (test : Vrp → Bool) → IsRound route.prefix test → (f g : Family) → route.prefix.family ≡ g → (f ≡ g → ⊥) → (v : Vrp) → v.prefix.family ≡ f → test v ≡ false
+  other-fails test round f g is apart v other = false_from_ne_true (test v) (λ passed. false≢true (sym (other-covers v route f g other is apart) ∙ round v passed))
+
+  pub among-four : (four six : Tree) → IsPruned 128 0 six → route.prefix.family ≡ V4 → state_among NotFound passes route (vrps_at (whole V4) four) ≡ validation_state (filter passes (trie_vrps four six)) route
+  among-four four six pruned is = among-family V4 four four six (λ test round. any-four test four six pruned (other-fails test round V6 V4 is (λ e. cc)))
+
+  pub among-six : (four six : Tree) → IsPruned 32 0 four → route.prefix.family ≡ V6 → state_among NotFound passes route (vrps_at (whole V6) six) ≡ validation_state (filter passes (trie_vrps four six)) route
+  among-six four six pruned is = among-family V6 six four six (λ test round. any-six test four six pruned (other-fails test round V4 V6 is (λ e. cc)))

@@ -12,11 +12,11 @@ use Rattle.payload.specs.steps.Trie.{node_vrps, originator_of, vrp_at}
 use Rattle.payload.proofs.TrieVrps.{HasLengths, node_vrps-cons, vrp_of}
 use Rattle.payload.proofs.Visits.{beginning-part, TookThen}
 
-node_vrps-append : (p : Prefix) (xs ys : List Originator) → node_vrps p (xs ++ ys) ≡ node_vrps p xs ++ node_vrps p ys
+pub node_vrps-append : (p : Prefix) (xs ys : List Originator) → node_vrps p (xs ++ ys) ≡ node_vrps p xs ++ node_vrps p ys
 node_vrps-append p xs ys = filter_map-append (vrp_at p.family p.first p.length) xs ys
 
 -- the VRPs of one originator more
-node_vrps-more : (p : Prefix) (os : List Originator) (i : ℕ) (d : Originator) (v : Vrp) → All (HasLengths p) os → i < length os → v.prefix ≡ p → originator_of v ≡ get_or os i d → node_vrps p (take (i + 1) os) ≡ node_vrps p (take i os) ++ v ∷ []
+pub node_vrps-more : (p : Prefix) (os : List Originator) (i : ℕ) (d : Originator) (v : Vrp) → All (HasLengths p) os → i < length os → v.prefix ≡ p → originator_of v ≡ get_or os i d → node_vrps p (take (i + 1) os) ≡ node_vrps p (take i os) ++ v ∷ []
 node_vrps-more p os i d v lengths within at is =
     let o = get_or os i d in
     let fits : HasLengths p o = lengths i d within in

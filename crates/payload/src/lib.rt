@@ -12,6 +12,6 @@ mod validity;
 
 pub use index::PayloadIndex;
 pub use list::ListIndex;
-pub use sink::{Sink, Stop};
+pub use sink::{Sink, Stop, VrpTest};
 pub use trie::Trie;
 pub use validity::Validity;

@@ -42,17 +42,6 @@ impl ListIndex {
     }
 }
 
-impl Clone for ListIndex {
-    ghost is_clone = { λ index copy. copy ≡ index };
-
-    fn clone(&self) -> Result<ListIndex, AllocError> {
-        Ok(ListIndex {
-            vrps: self.vrps.clone()?,
-            shortest: self.shortest,
-        })
-    }
-}
-
 impl From<Vec<Vrp>> for ListIndex {
     ghost from_gives = { λ vrps index. index ≡ set.from_list vrps.items };
 

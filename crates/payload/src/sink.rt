@@ -1,4 +1,4 @@
-//! Sinks, which take VRPs one after another.
+//! Sinks, which take VRPs one after another, and tests of VRPs.
 ghost use Rattle.std.specs.Prelude.{◌≡◌, List, Bool, false, ◌∷◌, [], ◌++◌, is_err};
 ghost use Rattle.addr.specs.declared.vrp.Vrp.{Vrp};
 
@@ -26,4 +26,14 @@ pub trait Sink {
 
     ghost took_then: { (a b c : Self) (vs ws : List Vrp) → took a vs b → took b ws c
         → took a (vs ++ ws) c };
+}
+
+/// A test that picks a part of a set of VRPs.
+pub trait VrpTest {
+    /// Which VRPs pass.
+    ghost passes: { Self → Vrp → Bool };
+
+    /// Whether the VRP passes.
+    fn passes(&self, vrp: &Vrp) -> bool
+        ensures { result ≡ passes self.now vrp.now };
 }

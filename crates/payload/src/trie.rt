@@ -1,13 +1,14 @@
 //! A set of VRPs in a tree of prefixes.
 ghost use Rattle.std.specs.Prelude.{◌≡◌, ◌≤◌, ◌+◌, length, IfOk};
+ghost use Rattle.std.specs.List.{filter};
 ghost use Rattle.addr.specs.OriginValidation.{validation_state};
 ghost use Rattle.payload.specs.SearchDepths.{search_depths};
 ghost use Rattle.payload.specs.ValidityState.{state_of};
 ghost use Rattle.payload.specs.VrpSet as set;
 ghost use Rattle.payload.specs.steps.Trie.{whole};
 
+mod among;
 mod contains;
-mod copied;
 mod insert;
 mod node;
 mod remove;
@@ -16,7 +17,7 @@ mod validity;
 mod visit;
 
 use crate::trie::node::Node;
-use crate::{PayloadIndex, Sink, Stop, Validity};
+use crate::{PayloadIndex, Sink, Stop, Validity, VrpTest};
 use addr::{Family, Prefix, Route, Vrp};
 use std::alloc::{AllocError, Global};
 use std::marker::Model;
@@ -79,17 +80,19 @@ impl Trie {
             Family::V6 => self.six.validity(route, 0, Validity::NotFound, 0),
         }
     }
-}
 
-impl Clone for Trie {
-    ghost is_clone = { λ trie copy. copy ≡ trie };
-
-    fn clone(&self) -> Result<Trie, AllocError> {
-        Ok(Trie {
-            alloc: self.alloc,
-            four: self.four.copied(self.alloc)?,
-            six: self.six.copied(self.alloc)?,
-        })
+    /// The state of the route over those VRPs of the set that pass the test. Only VRPs that may
+    /// change the state are tested.
+    pub fn validity_among<T: VrpTest>(&self, route: &Route, test: &T) -> Validity
+        ensures { state_of result ≡ validation_state
+            (filter (T.passes test.now) (set.items self.now)) route.now }
+    {
+        let place = whole(route.prefix.family);
+        let above = Validity::NotFound;
+        match route.prefix.family {
+            Family::V4 => self.four.validity_among(&place, route, test, above),
+            Family::V6 => self.six.validity_among(&place, route, test, above),
+        }
     }
 }
 

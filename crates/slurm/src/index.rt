@@ -29,17 +29,6 @@ impl Model for FilterIndex {
         × AreWidest index.reaches.items };
 }
 
-impl Clone for FilterIndex {
-    ghost is_clone = { λ index copy. copy ≡ index };
-
-    fn clone(&self) -> Result<FilterIndex, AllocError> {
-        Ok(FilterIndex {
-            filters: self.filters.clone()?,
-            reaches: self.reaches.clone()?,
-        })
-    }
-}
-
 impl FilterIndex {
     /// The index of these filters, whatever their order.
     pub fn of(alloc: Global, filters: Vec<Filter>) -> Result<FilterIndex, AllocError>

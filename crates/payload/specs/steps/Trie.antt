@@ -1,12 +1,12 @@
 -- VRPs and routes on the nodes of a trie.
 use Rattle.std.specs.Prelude.{refl, ℕ, zero, suc, ◌+◌, ◌-◌, ◌^◌, ◌≤◌, Bool, true, false, ◌==◌, ◌&&◌, nat_le, if◌then◌else◌, List, [], ◌∷◌, ◌++◌, Option, Some, None}
-use Rattle.std.specs.List.{filter_map}
+use Rattle.std.specs.List.{filter_map, list_any}
 use Rattle.std.specs.Option.{option_and_then}
 use Rattle.std.proofs.Common.{lit≤}
 use Rattle.std.proofs.Math.Decide.{dec_le}
 use Rattle.addr.specs.Address.{bit_of}
 use Rattle.addr.specs.Family.{width}
-use Rattle.addr.specs.OriginValidation.{ValidationState, Valid, Invalid, is_from}
+use Rattle.addr.specs.OriginValidation.{ValidationState, Valid, Invalid, NotFound, covers, is_from, matches}
 use Rattle.addr.specs.PrefixText.{prefix_with}
 use Rattle.addr.specs.declared.asn.Asn.{Asn}
 use Rattle.addr.specs.declared.family.Family.{Family}
@@ -33,6 +33,17 @@ abbrev pub walked_state : Route → ValidationState → List Bool → Tree → V
 walked_state route above path t =
     if has_on_path (authorizes route) path t then Valid
     else state_below above (has_on_path (λ o. true) path t)
+
+-- the state of a route, where it is `above` by some VRPs, and of others some match it, and some cover it
+abbrev pub joined_state : ValidationState → Bool → Bool → ValidationState
+joined_state Valid is_matched is_covered = Valid
+joined_state Invalid is_matched is_covered = if is_matched then Valid else Invalid
+joined_state NotFound is_matched is_covered = if is_matched then Valid else if is_covered then Invalid else NotFound
+
+-- the same, where the others are those of a list that pass a test
+abbrev pub state_among : ValidationState → (Vrp → Bool) → Route → List Vrp → ValidationState
+state_among above passes route vrps =
+    joined_state above (list_any (λ v. passes v && matches v route) vrps) (list_any (λ v. passes v && covers v route) vrps)
 
 -- the last n bits of the prefix
 abbrev pub last_bits : Prefix → ℕ → List Bool

@@ -56,16 +56,6 @@ impl Skipped {
         }
     }
 
-    /// The same bits.
-    pub(crate) fn copied(&self) -> Skipped
-        ensures { result ≡ self.now }
-    {
-        Skipped {
-            bits: self.bits,
-            count: self.count,
-        }
-    }
-
     /// How many bits there are.
     #[tactic(auto, using(crate::proofs::Skips::size_of))]
     pub(crate) fn count(&self) -> u8

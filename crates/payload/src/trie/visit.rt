@@ -4,7 +4,7 @@ ghost use Rattle.addr.specs.Family.{width};
 ghost use Rattle.payload.specs.Visit.{TookBeginning};
 ghost use Rattle.payload.specs.steps.Branch.{top_of};
 ghost use Rattle.payload.specs.steps.Tree.{IsPruned, Top, grown, subtree, tree};
-ghost use Rattle.payload.specs.steps.Trie.{half_first, half_vrps, vrps_at};
+ghost use Rattle.payload.specs.steps.Trie.{half_vrps, vrps_at};
 
 use crate::trie::node::{Branch, Node};
 use crate::trie::skipped::Skipped;
@@ -79,7 +79,7 @@ fn visit_below<S: Sink>(
 }
 
 /// The prefix to which the bits lead from this one.
-fn past(prefix: &Prefix, bits: &Skipped) -> Prefix
+pub(crate) fn past(prefix: &Prefix, bits: &Skipped) -> Prefix
     requires { prefix.now.length + length bits.now ≤ width prefix.now.family }
     ensures family { result.family ≡ prefix.now.family }
     ensures length { result.length ≡ prefix.now.length + length bits.now }
