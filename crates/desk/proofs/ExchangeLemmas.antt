@@ -1,18 +1,19 @@
 -- The authorizations that changes at a holder would exchange.
-use Rattle.std.proofs.Common.{◌≡◌, ℕ, ◌↔◌, ◌⊎◌, inl, inr, List, [], ◌∷◌, Option, Err, refl, sym, ap, ◌∙◌, subst, length, Contains, arith}
+use Rattle.std.proofs.Common.{◌≡◌, ℕ, inl, inr, List, [], ◌∷◌, map, Option, Err, refl, sym, ap, length, arith}
+use Rattle.addr.specs.OriginValidation.{validation_state}
 use Rattle.addr.specs.declared.route.Route.{Route}
-use Rattle.addr.specs.declared.vrp.Vrp.{Vrp}
 use Rattle.histories.specs.Growth.{HypotheticalIsLegal}
 use Rattle.histories.specs.SharedVrps.{NoSharedVrp}
 use Rattle.isolation.specs.Isolation.{DifferAtMostAt, HypotheticalKeepsOthers}
 use Rattle.payload.specs.VrpSet as set
+use Rattle.payload.specs.ValidityState.{state_of}
+use Rattle.payload.specs.declared.validity.Validity.{Validity}
 use Rattle.registry.specs.Answer.{IsHypotheticalAnswer}
-use Rattle.registry.specs.DailyVrps.{IsAfterExceptions, IsVrpInForce, IsVrpOn}
-use Rattle.registry.specs.ExceptionsInForce.{exceptions_in_force}
+use Rattle.registry.specs.DailyVrps.{IsVrpOn}
 use Rattle.registry.specs.History.{History}
 use Rattle.registry.specs.HypotheticalHistory.{HypotheticalHistory}
 use Rattle.registry.specs.Rows.{Rows, RowsOf, RowsIfAny}
-use Rattle.registry.specs.RowsOfAll.{AllRows, HasRows, IsGivenOn}
+use Rattle.registry.specs.RowsOfAll.{AllRows, HasRows}
 use Rattle.registry.specs.Terms.{AreActive}
 use Rattle.registry.specs.Verdict.{IsLegal}
 use Rattle.registry.specs.declared.authorization.Auth.{Auth}
@@ -21,18 +22,21 @@ use Rattle.registry.specs.declared.command.Proposed.{Proposed}
 use Rattle.registry.specs.declared.rule.Refusal.{Refusal}
 use Rattle.registry.specs.declared.rule.Refusal.TheVariants.{Denied, Memory}
 use Rattle.slurm.specs.SlurmSets.{union}
-use Rattle.desk.specs.Answer.{refused_with, AnswersWhatIf}
-use Rattle.desk.specs.steps.WhatIf.{ExchangesVrps, WouldExchange}
-use Rattle.kept.specs.Changes.{AreExchanged, IsWithSame}
-use Rattle.kept.specs.Giving.{auths_if_any, AreGivingOn}
-use Rattle.kept.specs.Days.{IsDayOfRows}
-use Rattle.kept.specs.KeptDay.{exceptions_of, HasExceptions, KeptDay}
-use Rattle.kept.proofs.ExceptionLemmas.{after_alike}
-use Rattle.kept.proofs.DailyVrps.{given_on}
-use Rattle.kept.proofs.DayLemmas.{has_same}
-use Rattle.kept.proofs.Follows.{exchange_keeps}
-use Rattle.kept.proofs.Keeps.{after_same}
+use Rattle.sqlite.specs.Store.{Ghosts}
+use Rattle.desk.specs.Answer.{refused_with, AnswersWhatIf, AreStatesOn}
+use Rattle.desk.specs.Desk.{charter_of, IsOnCleanDisk, OfRows}
+use Rattle.desk.specs.declared.desk.Desk.{Desk}
+use Rattle.desk.proofs.ExportLemmas.{states_on}
+use Rattle.desk.specs.steps.WhatIf.{IsDayOfHeld, WouldExchange}
+use Rattle.kept.specs.Changes.{AreExchanged}
+use Rattle.kept.specs.Giving.{auths_if_any}
+use Rattle.kept.specs.Days.{ExchangesVrps}
+use Rattle.kept.specs.KeptDay.{KeptDay}
+use Rattle.kept.proofs.DayLemmas.{day_of_history}
+use Rattle.kept.proofs.Exchanges.{exchanged_day}
 use Rattle.kept.proofs.Members.{none_in_nil}
+use Rattle.kept.proofs.States.{states_such}
+use Rattle.kept.specs.States.{states_after, states_now, HaveStates}
 use Rattle.kept.proofs.Turns.{active_rows, has_active, in_force_then, is_active, EndsAndBegins}
 
 -- ---- the exchange that changes would make
@@ -104,24 +108,23 @@ would_exchange shared legally others_keep charter history after day caller holde
 
 -- ---- a day that is kept
 
--- what is kept of the rows of the one history is after the exchange of the other
-pub exchanged_day : (charter : Charter) (rows : AllRows) (before after : History) → IsLegal charter before → HasRows rows before
-    → (day : ℕ) (ended begun : List Auth) (old new : KeptDay) → old.day ≡ day → IsDayOfRows rows old → IsWithSame old new
-    → ((v : Vrp) → Contains (set.items new.vrps) v ↔ AreExchanged old ended begun v)
-    → ExchangesVrps before after day ended begun → (v : Vrp) → Contains (set.items new.vrps) v ↔ IsVrpOn after day v
-exchanged_day charter rows before after legal has day ended begun old new on is same are exchanges v =
-    let kept = exchange_keeps (λ (w : Vrp). IsGivenOn rows old.day w) ended begun old new same are is.given v in
-    let given = given_on charter rows before legal has day v in
-    let then = exchanges.vrps v in
-    let stays_or_begins : Type 0 = (IsGivenOn rows day v × ¬ AreGivingOn ended day v) ⊎ AreGivingOn begun day v in
-    let to : stays_or_begins → IsVrpInForce after day v =
-    λ giving. then.1 (elim giving [ inl stays ↦ inl (given.0 stays.0, stays.1) | inr begins ↦ inr begins ]) in
-    let from : IsVrpInForce after day v → stays_or_begins =
-    λ in_force. elim (then.0 in_force) [ inl stays ↦ inl (given.1 stays.0, stays.1) | inr begins ↦ inr begins ] in
-    let alike = after_alike (exceptions_of new) v to from in
-    let left : Contains (set.items new.vrps) v
-    ↔ IsAfterExceptions (exceptions_of new) stays_or_begins v =
-    rw on at kept in
-    let has_these = subst (HasExceptions new) (ap union has.files ∙ sym exchanges.exceptions) (has_same old new (union rows.files) same is.exceptions) in
-    let after_these = after_same new (exceptions_in_force after) has_these (IsVrpInForce after day v) v in
-    (λ there. after_these.1 (alike.0 (left.0 there)), λ on_day. left.1 (alike.1 (after_these.0 on_day)))
+module _ {S : Type 0} (g : Ghosts S) (old new : Desk S) (k : KeptDay) (day : ℕ) (routes : List Route)
+    (states : List (Validity × Validity)) where
+  -- the states over what is kept are those on the history
+  pub judged_now : k.day ≡ day → (IsOnCleanDisk g new → IsDayOfHeld g old k)
+      → map state_of (states_now states) ≡ map (λ (r : Route). validation_state (set.items k.vrps) r) routes
+      → OfRows g old new (λ history. AreStatesOn history day routes (states_now states))
+  judged_now on is judged clean history legal held =
+      states_on history day (set.items k.vrps)
+      (λ v. rw on at (day_of_history (charter_of old) held.0 history legal held.1 k (is clean history legal held) v))
+      routes (states_now states) judged
+
+  -- and those over an exchange of it are those on the history that it leaves
+  pub judged_after : (ended begun : List Auth) → k.day ≡ day → (IsOnCleanDisk g new → IsDayOfHeld g old k)
+      → HaveStates (AreExchanged k ended begun) routes (states_after states)
+      → OfRows g old new (λ history. (after : History) → ExchangesVrps history after day ended begun
+      → AreStatesOn after day routes (states_after states))
+  judged_after ended begun on is judged clean history legal held after exchanges =
+      states_such (AreExchanged k ended begun) (IsVrpOn after day)
+      (exchanged_day (charter_of old) held.0 history after legal held.1 day ended begun k on (is clean history legal held) exchanges)
+      routes (states_after states) judged

@@ -1,5 +1,5 @@
 -- What is kept of a day follows a change of the rows.
-use Rattle.std.proofs.Common.{◌≡◌, ◌⊎◌, inl, inr, ◌↔◌, ℕ, Bool, true, false, ◌||◌, List, [], ◌∷◌, Option, Some, None, Result, Ok, Err, refl, sym, ap, arith, ◌∙◌, ◌==◌, filter, subst, Contains}
+use Rattle.std.proofs.Common.{◌≡◌, ◌⊎◌, inl, inr, ◌↔◌, ℕ, Bool, true, false, ◌||◌, List, [], ◌∷◌, Option, Some, None, Result, Ok, Err, refl, sym, ap, arith, ◌∙◌, ◌==◌, ◌≤◌, if◌then◌else◌, filter, subst, Contains}
 use Rattle.std.specs.Global.{Vec}
 use Rattle.std.specs.List.{list_any}
 use Rattle.std.specs.Prelude.{IfSome, OnOk, is_ok, is_err, is_some, option_map, option_to_list}
@@ -11,9 +11,10 @@ use Rattle.kept.proofs.DayLemmas.{has_same}
 use Rattle.kept.proofs.Edits.{rows_stay}
 use Rattle.kept.proofs.ExceptionLemmas.{after_alike}
 use Rattle.kept.proofs.Follows.{follow_keeps, none_given, none_joined}
-use Rattle.kept.proofs.Members.{at_head, in_filter, none_in_nil}
+use Rattle.kept.proofs.Members.{at_head, head_or_tail, in_filter, none_in_nil}
 use Rattle.kept.specs.Changes.{AreJoined, IsSpared, IsWithSame}
 use Rattle.kept.specs.Days.{IsDayOfRows}
+use Rattle.kept.specs.Giving.{AreGivingOn}
 use Rattle.kept.specs.KeptDay.{exceptions_of, KeptDay}
 use Rattle.addr.specs.declared.prefix.Prefix.{Prefix}
 use Rattle.registry.specs.Answer.{holder_of, is_transfer}
@@ -30,7 +31,7 @@ use Rattle.tables.specs.TablesHold.{items_if_any}
 use Rattle.registry.specs.declared.change.Change.{Change}
 use Rattle.registry.specs.declared.change.Change.TheVariants.{Holders, Exceptions}
 use Rattle.registry.specs.declared.change.Edit.{Edit}
-use Rattle.registry.specs.declared.change.Edit.TheVariants.{Hold, Grant as GrantEdit, Create as CreateEdit, Amend as AmendEdit, Revoke as RevokeEdit, Withdraw as WithdrawEdit}
+use Rattle.registry.specs.declared.change.Edit.TheVariants.{Hold, Grant as GrantEdit, Create as CreateEdit, Import as ImportEdit, Amend as AmendEdit, Revoke as RevokeEdit, Withdraw as WithdrawEdit}
 use Rattle.registry.specs.declared.command.Command.{Command}
 use Rattle.registry.specs.declared.command.Command.TheVariants.{Register, Delegate, Transfer, Reclaim, Grant, Revoke, Create, Amend, Withdraw, Import, Slurm as SlurmCommand}
 use Rattle.registry.specs.declared.change.HolderChange.{HolderChange}
@@ -39,9 +40,9 @@ use Rattle.slurm.specs.SlurmSets.{union}
 use Rattle.store.specs.Given.{GivenOnce}
 use Rattle.loads.specs.Loads.{auths_held, AreHeld, AreLoaded}
 use Rattle.desk.proofs.GivenEdits.{edits_given_by_enough, ending_keeps_once, enough_amended, enough_created, enough_loaded, enough_withdrawn}
-use Rattle.desk.specs.DayAfter.{makes_auths, DayAfterCommand}
+use Rattle.desk.specs.DayAfter.{DayAfterCommand, PutsOn, StaysUnless}
 use Rattle.desk.specs.steps.EditsGiven.{auths_of, begun_if_any, ended_if_any, AreEnough}
-use Rattle.desk.specs.steps.Following.{begins_some, listed, AreEnoughFor, EditsTwoApart, Follows, FollowsChange, FollowsDay, FollowsEdit}
+use Rattle.desk.specs.steps.Following.{listed, AreEnoughFor, BeginsOn, EditsTwoApart, Follows, FollowsChange, FollowsDay, FollowsEdit}
 
 -- ---- an edit of one holder
 
@@ -222,49 +223,52 @@ not_loaded (Some r) none = absurd (true≢false none)
 pub enough_to_register : (h : List ℕ) (change : Change) (rows : AllRows) → HasEditsOf (Register h) change → is_some (rows.of_holder h) ≡ false → AreEnoughFor change None None rows
 enough_to_register h change rows edits none = enough_for_one (Register h) change None rows refl edits (not_loaded (rows.of_holder h) none)
 
--- an edit of a command that makes no authorization begins none
-begins_no : (command : Command) (edit : Edit) → IsEditOf command edit → makes_auths command ≡ false → begins_some edit ≡ false
-begins_no (Register h) edit is not = ap begins_some is
-begins_no (Delegate h p) (Hold removed added gone) is not = refl
-begins_no (Delegate h p) other is not = absurd is
-begins_no (Reclaim h p) (Hold removed added gone) is not = refl
-begins_no (Reclaim h p) other is not = absurd is
-begins_no (Grant h name role scope until) (GrantEdit given) is not = refl
-begins_no (Grant h name role scope until) other is not = absurd is
-begins_no (Revoke h n) edit is not = ap begins_some is
-begins_no (Withdraw h n) edit is not = ap begins_some is
-begins_no (Create h terms) edit is not = absurd (true≢false not)
-begins_no (Amend h n maxes until) edit is not = absurd (true≢false not)
-begins_no (Import h rows) edit is not = absurd (true≢false not)
-begins_no (Transfer p giver taker) edit is not = absurd is
-begins_no (SlurmCommand files) edit is not = absurd is
+-- ---- the day that is kept
 
-hold_begins_no : (edit : Edit) → IsHold edit → begins_some edit ≡ false
-hold_begins_no (Hold removed added gone) is = refl
-hold_begins_no other is = absurd is
+-- what an edit begins and gives a VRP on the day was put by it, and is in force on the day
+only_of : (passes : Bool) (x y : Auth) → Contains (if passes then x ∷ [] else []) y → x ≡ y
+only_of true x y there = elim (head_or_tail x [] y there) [ inl same ↦ same | inr none ↦ absurd (none_in_nil y none) ]
+only_of false x y there = absurd (none_in_nil y there)
 
-ending_none_begins_no : (edit : Edit) → IsHoldEndingNone edit → begins_some edit ≡ false
-ending_none_begins_no (Hold removed added gone) is = refl
-ending_none_begins_no other is = absurd is
+pub begins_on : (edit : Edit) (auths : List Auth) (day : ℕ) (v : Vrp) → AreGivingOn (begun edit auths) day v → BeginsOn edit day
+begins_on (CreateEdit x) auths day v gives = rw (only_of true x gives.0 gives.1) (gives.2.0, gives.2.1)
+begins_on (AmendEdit x) auths day v gives = rw (only_of _ x gives.0 gives.1) (gives.2.0, gives.2.1)
+begins_on (ImportEdit more created) auths day v gives = (gives.0, gives.1, gives.2.0, gives.2.1)
+begins_on other auths day v gives = absurd (none_in_nil gives.0 gives.1)
 
-stays_then : (may : Bool) (old new : Option ℕ) → may ≡ false → (new ≡ old) ⊎ ((new ≡ None) × (may ≡ true)) → new ≡ old
-stays_then may old new not (inl same) = same
-stays_then may old new not (inr gone) = absurd (true≢false (sym gone.1 ∙ not))
+-- and the command put it
+puts_on : (command : Command) (edit : Edit) (day : ℕ) → IsEditOf command edit → BeginsOn edit day → PutsOn command day
+puts_on (Create h terms) (CreateEdit x) day is begins = subst (λ (y : Auth). (y.from ≤ day) × (day ≤ y.until)) is begins
+puts_on (Amend h n maxes until) (AmendEdit x) day is begins = subst (λ (u : ℕ). day ≤ u) is begins.1
+puts_on (Import h rows) (ImportEdit auths created) day is begins =
+    let row = is begins.0 begins.1 in
+    let days = subst (λ (y : Auth). (y.from ≤ day) × (day ≤ y.until)) row.2 (begins.2, begins.3) in
+    (row.0, row.1, days.0, days.1)
+puts_on (Register h) edit day is begins = subst (λ (e : Edit). BeginsOn e day) is begins
+puts_on (Revoke h n) edit day is begins = subst (λ (e : Edit). BeginsOn e day) is begins
+puts_on (Withdraw h n) edit day is begins = subst (λ (e : Edit). BeginsOn e day) is begins
+puts_on (Delegate h p) (Hold removed added gone) day is begins = begins
+puts_on (Reclaim h p) (Hold removed added gone) day is begins = begins
+puts_on (Grant h name role scope until) (GrantEdit g) day is begins = begins
+puts_on command edit day is begins = absurd is
 
-stays_or_gone : (P : Type 0) (old new : Option ℕ) → (new ≡ old) ⊎ ((new ≡ None) × P) → (new ≡ old) ⊎ (new ≡ None)
-stays_or_gone P old new (inl same) = inl same
-stays_or_gone P old new (inr gone) = inr gone.0
+two_begin_none : (one other : Edit) (day : ℕ) → IsHold one → IsHoldEndingNone other → ¬ (BeginsOn one day ⊎ BeginsOn other day)
+two_begin_none (Hold removed added gone) (Hold removed' added' gone') day is also begins = elim begins [ inl one ↦ one | inr two ↦ two ]
+two_begin_none (Hold removed added gone) other day is also begins = absurd also
+two_begin_none one other day is also begins = absurd is
+
+stays_unless : (Days Others : ℕ → Type 0) (old new : Option ℕ) → ((day : ℕ) → Days day → Others day)
+    → StaysUnless Days old new → StaysUnless Others old new
+stays_unless Days Others old new so (inl same) = inl same
+stays_unless Days Others None new so (inr gone) = inl gone.0
+stays_unless Days Others (Some day) new so (inr gone) = inr (gone.0, so day gone.1)
 
 -- what becomes of the day by a change becomes of it by the command
 pub day_by : (command : Command) (change : Change) (old new : Option ℕ) → HasEditsOf command change → FollowsDay change old new → DayAfterCommand command old new
 day_by (SlurmCommand files) (Exceptions more) old new edits follows = follows
-day_by (Transfer p giver taker) (Holders first (Some second)) old new edits follows =
-    stays_then (begins_some first.edit || begins_some second.edit) old new
-    (rw (hold_begins_no first.edit edits.1, ending_none_begins_no second.edit edits.3) refl) follows
-day_by (Create h terms) (Holders first None) old new edits follows = stays_or_gone _ old new follows
-day_by (Amend h n maxes until) (Holders first None) old new edits follows = stays_or_gone _ old new follows
-day_by (Import h rows) (Holders first None) old new edits follows = stays_or_gone _ old new follows
 day_by (SlurmCommand files) (Holders first None) old new edits follows = absurd edits.1
+day_by (Transfer p giver taker) (Holders first (Some second)) old new edits follows =
+    stays_unless _ _ old new (λ day begins. absurd (two_begin_none first.edit second.edit day edits.1 edits.3 begins)) follows
 day_by command (Holders first None) old new edits follows =
-    stays_then (begins_some first.edit) old new (begins_no command first.edit edits.1 refl) follows
+    stays_unless _ _ old new (λ day begins. puts_on command first.edit day edits.1 begins) follows
 day_by command change old new edits follows = absurd edits

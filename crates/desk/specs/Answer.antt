@@ -4,13 +4,11 @@
 -- what the history defines, and a what-if reports what the history would define after its changes.
 -- If an allocation fails, or the database does not answer, the reply is Unavailable and nothing
 -- changes while the desk runs; `CrashOutcomes` has what may be found after it stops.
-use Rattle.std.specs.Prelude.{◌≡◌, ℕ, Bool, true, false, List, [], ◌∷◌, Some, None, ◌↔◌, Contains, IsSomeAnd}
+use Rattle.std.specs.Prelude.{◌≡◌, ℕ, Bool, true, false, List, Some, None, ◌↔◌, Contains, IsSomeAnd}
 use Rattle.std.specs.String.{string_bytes}
-use Rattle.addr.specs.OriginValidation.{HasState}
 use Rattle.addr.specs.declared.route.Route.{Route}
 use Rattle.addr.specs.declared.vrp.Vrp.{Vrp}
 use Rattle.payload.specs.Rising.{AreRising}
-use Rattle.payload.specs.ValidityState.{state_of}
 use Rattle.payload.specs.declared.validity.Validity.{Validity}
 use Rattle.registry.specs.Answer.{number_given, AreCounts, IsDenied, IsShown, IsListed, Leaves}
 use Rattle.registry.specs.DailyVrps.{IsVrpOn}
@@ -28,7 +26,7 @@ use Rattle.registry.specs.declared.command.Query.TheVariants.{Show as ShowQuery,
 use Rattle.registry.specs.declared.rule.Refusal.{Refusal}
 use Rattle.registry.specs.declared.rule.Refusal.TheVariants.{Denied as Refused, Memory}
 use Rattle.contents.specs.ContentText.{IsContentText}
-use Rattle.kept.specs.States.{states_after, states_now}
+use Rattle.kept.specs.States.{states_after, states_now, HaveStates}
 use Rattle.sqlite.specs.Store.{Ghosts}
 use Rattle.desk.specs.Desk.{HoldsHistory}
 use Rattle.desk.specs.declared.desk.Desk.{Desk}
@@ -43,11 +41,7 @@ AreVrpsOn history day vrps = AreRising vrps × ((v : Vrp) → Contains vrps v �
 
 -- the state of each route over the VRPs of the day, in the order of the routes
 abbrev pub AreStatesOn : History → ℕ → List Route → List Validity → Type 0
-AreStatesOn history day [] [] = Unit {0}
-AreStatesOn history day [] (s ∷ states) = ⊥
-AreStatesOn history day (r ∷ routes) [] = ⊥
-AreStatesOn history day (r ∷ routes) (s ∷ states) =
-    HasState (IsVrpOn history day) r (state_of s) × AreStatesOn history day routes states
+AreStatesOn history day routes states = HaveStates (IsVrpOn history day) routes states
 
 -- the reply says that a command was accepted
 abbrev pub is_accepted : Reply → Bool

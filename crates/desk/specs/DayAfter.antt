@@ -1,5 +1,6 @@
 -- What a request makes of the day whose VRPs are kept.
-use Rattle.std.specs.Prelude.{◌≡◌, ◌≢◌, ◌⊎◌, ℕ, Bool, true, false, List, [], ◌∷◌, Option, Some, None}
+use Rattle.std.specs.Prelude.{◌≡◌, ◌≢◌, ◌⊎◌, ℕ, ◌≤◌, true, false, List, [], ◌∷◌, Contains, Option, Some, None, IfSome}
+use Rattle.registry.specs.declared.authorization.ImportRow.{ImportRow}
 use Rattle.registry.specs.declared.asked.Asked.{Asked}
 use Rattle.registry.specs.declared.asked.Request.{Request}
 use Rattle.registry.specs.declared.asked.Request.TheVariants.{Command as CommandRequest, Query as QueryRequest}
@@ -11,21 +12,22 @@ use Rattle.desk.specs.Answer.{is_accepted}
 use Rattle.desk.specs.declared.reply.Reply.{Reply}
 use Rattle.desk.specs.declared.reply.Reply.TheVariants.{Unavailable}
 
--- the command makes authorizations, or puts one in the place of another
-abbrev pub makes_auths : Command → Bool
-makes_auths (Create holder terms) = true
-makes_auths (Amend holder n maxes until) = true
-makes_auths (Import holder rows) = true
-makes_auths _ = false
+-- the command puts an authorization in force on the day
+abbrev pub PutsOn : Command → ℕ → Type 0
+PutsOn (Create holder terms) day = (terms.from ≤ day) × (day ≤ terms.until)
+PutsOn (Amend holder n maxes until) day = day ≤ until
+PutsOn (Import holder rows) day = (r : ImportRow) × Contains rows.items r × (r.from ≤ day) × (day ≤ r.until)
+PutsOn command day = ⊥
 
--- An accepted command leaves the day, except that new SLURM files drop it, and a command that makes authorizations may
--- drop it, if an allocation for their VRPs fails.
+-- the day stays, or is dropped; it is dropped only if it is one of these
+abbrev pub StaysUnless : (ℕ → Type 0) → Option ℕ → Option ℕ → Type 0
+StaysUnless Days old new = (new ≡ old) ⊎ ((new ≡ None) × IfSome old Days)
+
+-- An accepted command leaves the day, except that new SLURM files drop it, and a command that puts an authorization in
+-- force on it may drop it, if an allocation for the VRPs fails.
 abbrev pub DayAfterCommand : Command → Option ℕ → Option ℕ → Type 0
 DayAfterCommand (Slurm files) old new = new ≡ None
-DayAfterCommand (Create holder terms) old new = (new ≡ old) ⊎ (new ≡ None)
-DayAfterCommand (Amend holder n maxes until) old new = (new ≡ old) ⊎ (new ≡ None)
-DayAfterCommand (Import holder rows) old new = (new ≡ old) ⊎ (new ≡ None)
-DayAfterCommand command old new = new ≡ old
+DayAfterCommand command old new = StaysUnless (PutsOn command) old new
 
 -- A query for the VRPs of a day keeps that day. If it was not kept, the reply may be Unavailable, and then no day is
 -- kept.

@@ -1,21 +1,20 @@
 -- A day that is kept follows an edit of a holder's rows.
-use Rattle.std.proofs.Common.{◌≡◌, ℕ, ◌≤◌, Bool, true, false, ◌↔◌, ◌⊎◌, inl, inr, List, [], ◌∷◌, ◌++◌, Result, Ok, Err, ap, ◌∙◌, Contains, cond}
-use Rattle.std.specs.Prelude.{Any, OnOk}
+use Rattle.std.proofs.Common.{◌≡◌, ℕ, ◌≤◌, Bool, true, false, ◌↔◌, ◌⊎◌, inl, inr, List, [], ◌∷◌, ◌++◌, ap, ◌∙◌, Contains, cond}
 use Rattle.std.proofs.lemmas.List.{append-nil}
 use Rattle.std.proofs.lemmas.List.Elements.{filter-append}
 use Rattle.addr.specs.declared.asn.Asn.{Asn}
 use Rattle.addr.specs.declared.vrp.Vrp.{Vrp}
 use Rattle.payload.specs.VrpSet as set
+use Rattle.registry.specs.DailyVrps.{IsAfterExceptions}
 use Rattle.registry.specs.Edits.{ended, ends}
 use Rattle.registry.proofs.EntryVrps.{vrp_of_terms}
 use Rattle.registry.specs.Terms.{IsVrpOfEntry}
 use Rattle.registry.specs.declared.authorization.Auth.{Auth}
 use Rattle.registry.specs.declared.authorization.RoaPrefix.{RoaPrefix}
 use Rattle.registry.specs.declared.change.Edit.{Edit}
-use Rattle.slurm.specs.Filter.{FilterMatches}
-use Rattle.kept.specs.Changes.{AreExchanged, AreJoined, AreLeft, IsJoined, IsLeft, IsSpared, IsWithSame}
+use Rattle.kept.specs.Changes.{AreExchanged, AreJoined, IsJoined, IsSpared, IsWithSame}
 use Rattle.kept.specs.Giving.{AreGivingOn, GivesOn}
-use Rattle.kept.specs.KeptDay.{IsKept, KeptDay}
+use Rattle.kept.specs.KeptDay.{exceptions_of, IsKept, KeptDay}
 use Rattle.kept.specs.steps.Entries.{IsJoinedBy, IsLeftWithout, IsVrpOfSome}
 use Rattle.kept.proofs.Members.{none_such, such_among_more}
 use Rattle.kept.proofs.Steps.{joined_more, joined_same, left_more, left_same}
@@ -23,10 +22,10 @@ use Rattle.kept.proofs.Steps.{joined_more, joined_same, left_more, left_same}
 -- ---- what authorizations and entries give
 
 -- with one more
-giving_more : (day : ℕ) (v : Vrp) (xs ys : List Auth) (x : Auth) → ys ≡ xs ++ x ∷ [] → AreGivingOn ys day v ↔ (AreGivingOn xs day v ⊎ GivesOn x day v)
+pub giving_more : (day : ℕ) (v : Vrp) (xs ys : List Auth) (x : Auth) → ys ≡ xs ++ x ∷ [] → AreGivingOn ys day v ↔ (AreGivingOn xs day v ⊎ GivesOn x day v)
 giving_more day v xs ys x grown = such_among_more (λ (y : Auth). GivesOn y day v) xs ys x grown
 
-entry_more : (asn : Asn) (v : Vrp) (es ds : List RoaPrefix) (e : RoaPrefix) → ds ≡ es ++ e ∷ []
+pub entry_more : (asn : Asn) (v : Vrp) (es ds : List RoaPrefix) (e : RoaPrefix) → ds ≡ es ++ e ∷ []
     → IsVrpOfSome ds asn v ↔ (IsVrpOfSome es asn v ⊎ IsVrpOfEntry e asn v)
 entry_more asn v es ds e grown = such_among_more (λ (d : RoaPrefix). IsVrpOfEntry d asn v) es ds e grown
 
@@ -129,58 +128,27 @@ pub auth_left : (old new : KeptDay) (x : Auth) (begun : List Auth) → (x.from �
     → (v : Vrp) → Contains (set.items new.vrps) v ↔ IsLeftWithout old (GivesOn x old.day) begun v
 auth_left old new x begun days left v = left_same (in_force_gives x old.day days v) (left v)
 
--- ---- each ends
-
-pub none_ends : (old : KeptDay) (v : Vrp) → Contains (set.items old.vrps) v ↔ AreLeft old [] v
-none_ends old v = (λ there. (there, inl (none_given old.day v)), λ left. left.0)
-
-pub more_left : (old mid new : KeptDay) (xs ys : List Auth) (x : Auth) → ys ≡ xs ++ x ∷ [] → IsWithSame old mid
-    → ((v : Vrp) → Contains (set.items mid.vrps) v ↔ AreLeft old xs v) → ((v : Vrp) → Contains (set.items new.vrps) v ↔ IsLeft mid x v)
-    → (v : Vrp) → Contains (set.items new.vrps) v ↔ AreLeft old ys v
-more_left old mid new xs ys x grown same before now v =
-    left_more (giving_more old.day v xs ys x grown) (before v) (rw (same.day, same.asserted) at (now v))
-
 -- ---- an exchange
 
-exchanged : (old mid new : KeptDay) (ended begun : List Auth) → IsWithSame old mid
-    → ((v : Vrp) → Contains (set.items mid.vrps) v ↔ AreLeft old ended v)
-    → ((v : Vrp) → Contains (set.items new.vrps) v ↔ AreJoined mid begun v)
-    → (v : Vrp) → Contains (set.items new.vrps) v ↔ AreExchanged old ended begun v
-exchanged old mid new ended begun same left joined v =
-    let is : Contains (set.items new.vrps) v
-    ↔ (Contains (set.items mid.vrps) v ⊎ (AreGivingOn begun old.day v × ¬ Any (λ filter. FilterMatches filter v) old.filters)) =
-    rw (same.day, same.filters) at (joined v) in (
-      λ there. elim (is.0 there) [ inl was ↦ inl ((left v).0 was) | inr begins ↦ inr begins ],
-      λ either. is.1 (elim either [ inl was ↦ inl ((left v).1 was) | inr begins ↦ inr begins ]),
-    )
-
--- where all that begin have joined
-pub exchanged_ok : {T E : Type 0} (r : Result T E) (old mid new : KeptDay) (ended begun : List Auth) → IsWithSame old mid
-    → ((v : Vrp) → Contains (set.items mid.vrps) v ↔ AreLeft old ended v)
-    → OnOk r ((v : Vrp) → Contains (set.items new.vrps) v ↔ AreJoined mid begun v)
-    → OnOk r ((v : Vrp) → Contains (set.items new.vrps) v ↔ AreExchanged old ended begun v)
-exchanged_ok (Ok x) old mid new ended begun same left joined = exchanged old mid new ended begun same left joined
-exchanged_ok (Err e) old mid new ended begun same left joined = tt
-
--- a day that is kept is so without what ends and with what begins
-pub exchange_keeps : (given : Vrp → Type 0) (ended begun : List Auth) (old new : KeptDay) → IsWithSame old new
-    → ((v : Vrp) → Contains (set.items new.vrps) v ↔ AreExchanged old ended begun v) → IsKept given old
-    → IsKept (λ v. (given v × ¬ AreGivingOn ended old.day v) ⊎ AreGivingOn begun old.day v) new
-exchange_keeps given ended begun old new same exchanged kept v = rw (same.filters, same.asserted) (
-  λ there. elim ((exchanged v).0 there) [
-    | inl was ↦ elim ((kept v).0 was.0) [
+-- what an exchange leaves of a day that is kept is what is given without what ends and with what begins, after the exceptions
+pub exchange_keeps : (given : Vrp → Type 0) (ended begun : List Auth) (kept : KeptDay) → IsKept given kept
+    → (v : Vrp) → AreExchanged kept ended begun v
+    ↔ IsAfterExceptions (exceptions_of kept) ((given v × ¬ AreGivingOn ended kept.day v) ⊎ AreGivingOn begun kept.day v) v
+exchange_keeps given ended begun kept is v = (
+  λ exchanged. elim exchanged [
+    | inl was ↦ elim ((is v).0 was.0) [
       | inl on ↦ elim was.1 [ inl none ↦ inl (inl (on.0, none), on.1) | inr asserted ↦ inr asserted ]
       | inr asserted ↦ inr asserted
     ]
     | inr begins ↦ inl (inr begins.0, begins.1)
   ],
-  λ after. (exchanged v).1 (elim after [
+  λ after. elim after [
     | inl on ↦ elim on.0 [
-      | inl stays ↦ inl ((kept v).1 (inl (stays.0, on.1)), inl stays.1)
+      | inl stays ↦ inl ((is v).1 (inl (stays.0, on.1)), inl stays.1)
       | inr begins ↦ inr (begins, on.1)
     ]
-    | inr asserted ↦ inl ((kept v).1 (inr asserted), inr asserted)
-  ]),
+    | inr asserted ↦ inl ((is v).1 (inr asserted), inr asserted)
+  ],
 )
 
 -- ---- an edit

@@ -11,7 +11,7 @@ use Rattle.registry.specs.Terms.{IsVrpOfEntry}
 use Rattle.registry.proofs.EntryVrps.{one_of_entry}
 use Rattle.slurm.specs.Exceptions.{Exceptions}
 use Rattle.slurm.specs.Filter.{FilterMatches}
-use Rattle.kept.specs.Changes.{IsJoined, IsLeft, IsWithSame}
+use Rattle.kept.specs.Changes.{IsLeft}
 use Rattle.kept.specs.Giving.{AreGivingOn, GivesOn}
 use Rattle.kept.specs.KeptDay.{exceptions_of, HasExceptions, IsKept, KeptDay}
 use Rattle.kept.specs.steps.Entries.{IsJoinedBy, IsLeftWithout}
@@ -82,23 +82,6 @@ left_alone old new auth is v = (
   λ left. (is v).1 (left.0, elim left.1 [ inl none ↦ inl none | inr asserted ↦ inr (inr asserted) ]),
 )
 
--- a day that is kept is so without what the authorization gives
-pub end_keeps : (given : Vrp → Type 0) (auth : Auth) (old new : KeptDay) → IsWithSame old new
-    → ((v : Vrp) → Contains (set.items new.vrps) v ↔ IsLeft old auth v) → IsKept given old
-    → IsKept (λ v. given v × ¬ GivesOn auth old.day v) new
-end_keeps given auth old new same left kept v = rw (same.filters, same.asserted) (
-  λ there.
-      let is = (left v).0 there in
-      elim ((kept v).0 is.0) [
-        | inl was ↦ elim is.1 [ inl none ↦ inl ((was.0, none), was.1) | inr asserted ↦ inr asserted ]
-        | inr asserted ↦ inr asserted
-      ],
-  λ after. (left v).1 (elim after [
-    | inl was ↦ ((kept v).1 (inl (was.0.0, was.1)), inl was.0.1)
-    | inr asserted ↦ ((kept v).1 (inr asserted), inr asserted)
-  ]),
-)
-
 -- ---- an entry begins
 
 -- where some filter matches its VRP for the AS, what was there has joined
@@ -127,18 +110,3 @@ inserted_joined old e asn w of_entry none v =
       ],
       λ joined. is.1 (elim joined [ inl was ↦ inl was | inr given ↦ inr (one_of_entry e asn v w given.0 of_entry) ]),
     )
-
--- a day that is kept is so with what the authorization gives
-pub begin_keeps : (given : Vrp → Type 0) (auth : Auth) (old new : KeptDay) → IsWithSame old new
-    → ((v : Vrp) → Contains (set.items new.vrps) v ↔ IsJoined old auth v) → IsKept given old
-    → IsKept (λ v. given v ⊎ GivesOn auth old.day v) new
-begin_keeps given auth old new same joined kept v = rw (same.filters, same.asserted) (
-  λ there. elim ((joined v).0 there) [
-    | inl was ↦ elim ((kept v).0 was) [ inl is ↦ inl (inl is.0, is.1) | inr asserted ↦ inr asserted ]
-    | inr begun ↦ inl (inr begun.0, begun.1)
-  ],
-  λ after. (joined v).1 (elim after [
-    | inl is ↦ elim is.0 [ inl was ↦ inl ((kept v).1 (inl (was, is.1))) | inr begun ↦ inr (begun, is.1) ]
-    | inr asserted ↦ inl ((kept v).1 (inr asserted))
-  ]),
-)

@@ -10,4 +10,6 @@ pub mod DayLemmas
 pub mod RouteStates
 pub mod Edits
 pub mod Turns
-mod States
+pub mod States
+mod GivenVrps
+pub mod Exchanges

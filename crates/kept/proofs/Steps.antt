@@ -48,3 +48,16 @@ left_same same is = (
   λ now. let left = is.0 now in (left.0, elim left.1 [ inl none ↦ inl (λ one. none (same.1 one)) | inr spared ↦ inr spared ]),
   λ left. is.1 (left.0, elim left.1 [ inl none ↦ inl (λ one. none (same.0 one)) | inr spared ↦ inr spared ]),
 )
+
+-- added with P and then with Q, added with R
+pub added_more : {Was Mid Now P Q R : Type 0} → (R ↔ (P ⊎ Q)) → (Mid ↔ (Was ⊎ P)) → (Now ↔ (Mid ⊎ Q)) → Now ↔ (Was ⊎ R)
+added_more either before after = (
+  λ now. elim (after.0 now) [
+    | inl mid ↦ elim (before.0 mid) [ inl was ↦ inl was | inr one ↦ inr (either.1 (inl one)) ]
+    | inr other ↦ inr (either.1 (inr other))
+  ],
+  λ added. after.1 (elim added [
+    | inl was ↦ inl (before.1 (inl was))
+    | inr is ↦ elim (either.0 is) [ inl one ↦ inl (before.1 (inr one)) | inr other ↦ inr other ]
+  ]),
+)

@@ -31,14 +31,6 @@ impl Model for CountedVrps {
     ghost invariant = { λ a. IfSome a.csv_length (λ n. IsCsvLength a.vrps (Some n)) };
 }
 
-impl Clone for CountedVrps {
-    ghost is_clone = { λ vrps copy. copy ≡ vrps };
-
-    fn clone(&self) -> Result<CountedVrps, AllocError> {
-        Ok(CountedVrps::from(self.vrps.clone()?))
-    }
-}
-
 /// The set, not counted yet.
 impl From<Trie> for CountedVrps {
     ghost from_gives = { λ vrps counted. counted ≡ vrps };

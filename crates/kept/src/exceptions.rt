@@ -11,7 +11,7 @@ use slurm::{Filter, FilterIndex, Slurm};
 use std::alloc::{AllocError, Global};
 
 /// Takes away the VRPs that some filter matches.
-fn keep_unfiltered(filters: &FilterIndex, vrps: &mut Vec<Vrp>)
+pub(crate) fn keep_unfiltered(filters: &FilterIndex, vrps: &mut Vec<Vrp>)
     ensures { (v : Vrp) → Contains vrps.new.items v
         ↔ (Contains vrps.old.items v × ¬ Any (λ filter. FilterMatches filter v) filters.now) }
 {

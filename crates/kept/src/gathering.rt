@@ -1,19 +1,13 @@
 //! What is read from an index: its VRPs, and the states of routes.
-ghost use Rattle.std.specs.Prelude.{◌≡◌, ◌↔◌, map, Contains, IfOk, OnOk};
-ghost use Rattle.std.specs.List.{zip};
+ghost use Rattle.std.specs.Prelude.{◌≡◌, map, IfOk};
 ghost use Rattle.addr.specs.OriginValidation.{validation_state};
-ghost use Rattle.addr.specs.declared.vrp.Vrp.{Vrp};
 ghost use Rattle.payload.specs.Rising.{AreRising};
 ghost use Rattle.payload.specs.ValidityState.{state_of};
 ghost use Rattle.payload.specs.VrpSet as set;
-ghost use Rattle.kept.specs.Changes.{AreExchanged, IsWithSame};
-ghost use Rattle.kept.specs.States.{states_after, states_now};
 ghost use Rattle.kept.specs.steps.Gathering.{gathered_none, gathered_then, HasGathered};
 
-use crate::Kept;
 use addr::{Route, Vrp};
 use payload::{PayloadIndex, Sink, Stop, Validity};
-use registry::Auth;
 use std::alloc::{AllocError, Global};
 
 /// VRPs gathered in a vector, until one finds no room.
@@ -72,40 +66,4 @@ pub fn judge<I: PayloadIndex>(
         states.push(index.validity(route))?;
     }
     Ok(states)
-}
-
-/// The states, each with the other of its place, as far as both go.
-fn pair(
-    alloc: Global,
-    ones: &[Validity],
-    others: &[Validity],
-) -> Result<Vec<(Validity, Validity)>, AllocError>
-    ensures { IfOk result (λ pairs. pairs.items ≡ zip ones.now others.now) }
-{
-    ones.iter()
-        .copied()
-        .zip(others.iter().copied())
-        .collect(alloc)
-}
-
-/// The states of the routes over what is kept, and those after the exchange, which is made in it.
-pub fn judge_twice(
-    alloc: Global,
-    kept: &mut Kept,
-    ended: &[Auth],
-    begun: &[Auth],
-    routes: &[Route],
-) -> Result<Vec<(Validity, Validity)>, AllocError>
-    ensures same { IsWithSame kept.old kept.new }
-    ensures exchanged { OnOk result ((v : Vrp) → Contains (set.items kept.new.vrps) v
-        ↔ AreExchanged kept.old ended.now begun.now v) }
-    ensures now { IfOk result (λ states. map state_of (states_now states.items)
-        ≡ map (λ r. validation_state (set.items kept.old.vrps) r) routes.now) }
-    ensures after { IfOk result (λ states. map state_of (states_after states.items)
-        ≡ map (λ r. validation_state (set.items kept.new.vrps) r) routes.now) }
-{
-    let now = judge(alloc, kept.vrps(), routes)?;
-    kept.exchange(ended, begun)?;
-    let after = judge(alloc, kept.vrps(), routes)?;
-    pair(alloc, &now, &after)
 }

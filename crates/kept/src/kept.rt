@@ -1,10 +1,10 @@
 //! The VRPs of a day with the exceptions that they are after.
-ghost use Rattle.std.specs.Prelude.{◌≡◌, ◌≢◌, ◌↔◌, ◌⊎◌, [], Contains, IfOk, IsTrue, OnOk, OnErr};
+ghost use Rattle.std.specs.Prelude.{◌≡◌, ◌↔◌, ◌⊎◌, [], Contains, IfOk, IsTrue, OnOk, OnErr};
 ghost use Rattle.addr.specs.declared.vrp.Vrp.{Vrp};
 ghost use Rattle.payload.specs.VrpSet as set;
 ghost use Rattle.registry.specs.Edits.{begun, ended};
 ghost use Rattle.registry.specs.Terms.{IsVrpOfEntry};
-ghost use Rattle.kept.specs.Changes.{AreExchanged, AreJoined, AreLeft, IsJoined, IsLeft, IsSpared, IsWithSame};
+ghost use Rattle.kept.specs.Changes.{AreJoined, IsJoined, IsLeft, IsSpared, IsWithSame};
 ghost use Rattle.kept.specs.Giving.{AreGivingOn, GivesOn};
 ghost use Rattle.kept.specs.KeptDay.{HasExceptions, IsKept};
 ghost use Rattle.kept.specs.steps.Entries.{IsJoinedBy, IsLeftWithout, IsVrpOfSome};
@@ -42,19 +42,6 @@ impl Model for Kept {
       filters = a.filters;
       asserted = a.asserted;
     } };
-}
-
-impl Clone for Kept {
-    ghost is_clone = { λ kept copy. copy ≡ kept };
-
-    fn clone(&self) -> Result<Kept, AllocError> {
-        Ok(Kept {
-            day: self.day,
-            vrps: self.vrps.clone()?,
-            filters: self.filters.clone()?,
-            asserted: self.asserted.clone()?,
-        })
-    }
 }
 
 impl Kept {
@@ -111,6 +98,18 @@ impl Kept {
         self.vrps.count();
     }
 
+    pub(crate) fn filters(&self) -> &FilterIndex
+        ensures { result.now ≡ self.now.filters }
+    {
+        &self.filters
+    }
+
+    pub(crate) fn is_asserted(&self, vrp: &Vrp) -> bool
+        ensures { result ≡ set.contains self.now.asserted vrp.now }
+    {
+        self.asserted.contains(vrp)
+    }
+
     /// Takes out what the authorization gives on the day, unless it is asserted. Allocates nothing.
     ///
     /// Where another authorization gives the same VRP, it is taken out all the same: over a legal
@@ -144,7 +143,8 @@ impl Kept {
         ensures ok { OnOk result ((v : Vrp) → Contains (set.items self.new.vrps) v
             ↔ (AreJoined self.old (begun edit.now auths.now) v
             × IsSpared self.old (ended edit.now auths.now) (begun edit.now auths.now) v)) }
-        ensures err { OnErr result (begun edit.now auths.now ≢ []) }
+        ensures err { OnErr result ((v : Vrp)
+            × AreGivingOn (begun edit.now auths.now) self.old.day v) }
         ensures same { IsWithSame self.old self.new }
     {
         let begun = edit.begun(auths);
@@ -153,42 +153,16 @@ impl Kept {
         Ok(())
     }
 
-    /// Takes out what each of the ended authorizations gives on the day, unless it is asserted, and
-    /// then puts in what each of the begun ones gives, unless a filter matches it. Only what begins
-    /// allocates; where that fails, the VRPs are of no day any more.
-    ///
-    /// What ends and begins again is taken out and put in: so this takes a step for each
-    /// authorization, where `follow` compares each that ends with each that begins.
-    pub fn exchange(&mut self, ended: &[Auth], begun: &[Auth]) -> Result<(), AllocError>
-        ensures ok { OnOk result ((v : Vrp) → Contains (set.items self.new.vrps) v
-            ↔ AreExchanged self.old ended.now begun.now v) }
-        ensures err { OnErr result (begun.now ≢ []) }
-        ensures same { IsWithSame self.old self.new }
-    {
-        self.end_each(ended);
-        self.begin_all(begun)
-    }
-
     fn begin_all(&mut self, auths: &[Auth]) -> Result<(), AllocError>
         ensures ok { OnOk result ((v : Vrp)
             → Contains (set.items self.new.vrps) v ↔ AreJoined self.old auths.now v) }
-        ensures err { OnErr result (auths.now ≢ []) }
+        ensures err { OnErr result ((v : Vrp) × AreGivingOn auths.now self.old.day v) }
         ensures same { IsWithSame self.old self.new }
     {
         for auth in auths {
             self.begin(auth)?;
         }
         Ok(())
-    }
-
-    fn end_each(&mut self, auths: &[Auth])
-        ensures left { (v : Vrp)
-            → Contains (set.items self.new.vrps) v ↔ AreLeft self.old auths.now v }
-        ensures same { IsWithSame self.old self.new }
-    {
-        for auth in auths {
-            self.end(auth);
-        }
     }
 
     /// Takes out what the authorizations give that the edit ends, and none of the begun ones.
@@ -245,7 +219,7 @@ impl Kept {
         ensures { IsTrue result ↔ (AreGivingOn begun.now self.now.day vrp.now
             ⊎ Contains (set.items self.now.asserted) vrp.now) }
     {
-        self.asserted.contains(vrp) || is_given(vrp, begun, self.day)
+        self.is_asserted(vrp) || is_given(vrp, begun, self.day)
     }
 
     fn begin_entries(&mut self, entries: &[RoaPrefix], asn: Asn) -> Result<(), AllocError>

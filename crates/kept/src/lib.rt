@@ -3,11 +3,13 @@
 
 mod counted;
 mod exceptions;
+mod exchange;
 mod gathering;
 mod giving;
 mod kept;
 
 pub use counted::CountedVrps;
 pub use exceptions::{assertions_of, filters_of};
-pub use gathering::{gather, judge, judge_twice};
+pub use exchange::judge_twice;
+pub use gathering::{gather, judge};
 pub use kept::Kept;

@@ -1,5 +1,5 @@
 -- How what is kept of a day follows a change, by the authorizations that are enough to follow it.
-use Rattle.std.specs.Prelude.{◌≡◌, ◌↔◌, ◌⊎◌, ℕ, Bool, true, false, ◌||◌, List, Option, Some, None, option_map, Result, Ok, Err, Contains, IfSome, ⊤}
+use Rattle.std.specs.Prelude.{◌≡◌, ◌↔◌, ◌⊎◌, ℕ, ◌≤◌, false, List, Option, Some, None, option_map, Result, Ok, Err, Contains, IfSome, ⊤}
 use Rattle.std.specs.Global.{Vec}
 use Rattle.addr.specs.declared.vrp.Vrp.{Vrp}
 use Rattle.kept.specs.Changes.{AreJoined, IsSpared, IsWithSame}
@@ -15,6 +15,7 @@ use Rattle.registry.specs.declared.change.Change.TheVariants.{Holders, Exception
 use Rattle.registry.specs.declared.change.Edit.{Edit}
 use Rattle.registry.specs.declared.change.Edit.TheVariants.{Create, Import, Amend}
 use Rattle.store.specs.Given.{GivenOnce}
+use Rattle.desk.specs.DayAfter.{StaysUnless}
 use Rattle.desk.specs.declared.reply.Reply.{Reply}
 use Rattle.desk.specs.declared.reply.Reply.TheVariants.{Unavailable}
 use Rattle.desk.specs.steps.EditsGiven.{ended_if_any, begun_if_any, auths_of, AreEnough}
@@ -51,18 +52,18 @@ FollowsChange (Holders first (Some second)) one other old new =
     (mid : KeptDay) × FollowsEdit first.edit one old mid × FollowsEdit second.edit other mid new
 FollowsChange (Exceptions files) one other old new = ⊥
 
--- the edit may begin authorizations
-abbrev pub begins_some : Edit → Bool
-begins_some (Create x) = true
-begins_some (Import auths created) = true
-begins_some (Amend x) = true
-begins_some _ = false
+-- an authorization that the edit puts is in force on the day
+abbrev pub BeginsOn : Edit → ℕ → Type 0
+BeginsOn (Create x) day = (x.from ≤ day) × (day ≤ x.until)
+BeginsOn (Import auths created) day = (x : Auth) × Contains auths.items x × (x.from ≤ day) × (day ≤ x.until)
+BeginsOn (Amend x) day = (x.from ≤ day) × (day ≤ x.until)
+BeginsOn _ day = ⊥
 
--- the kept day may be dropped: if the change may begin authorizations, or brings new exceptions
-abbrev pub may_drop : Change → Bool
-may_drop (Holders first None) = begins_some first.edit
-may_drop (Holders first (Some second)) = begins_some first.edit || begins_some second.edit
-may_drop (Exceptions files) = true
+-- the kept day may be dropped: an edit puts an authorization in force on it, or the change brings new exceptions
+abbrev pub MayDropOn : Change → ℕ → Type 0
+MayDropOn (Holders first None) day = BeginsOn first.edit day
+MayDropOn (Holders first (Some second)) day = BeginsOn first.edit day ⊎ BeginsOn second.edit day
+MayDropOn (Exceptions files) day = ⊤
 
 -- the kept day is of the rows after the change, if it was of the rows before it
 abbrev pub Follows :
@@ -74,7 +75,7 @@ Follows change one other old new =
 -- the kept day stays, or is dropped if it may be; new exceptions drop it
 abbrev pub FollowsDay : Change → Option ℕ → Option ℕ → Type 0
 FollowsDay (Exceptions files) old new = new ≡ None
-FollowsDay change old new = (new ≡ old) ⊎ ((new ≡ None) × (may_drop change ≡ true))
+FollowsDay change old new = StaysUnless (MayDropOn change) old new
 
 -- the reply if there is one; a fault is reported as Unavailable
 abbrev pub reply_of : {E : Type 0} → Result Reply E → Reply

@@ -9,7 +9,6 @@ ghost use Rattle.store.specs.StoreRows.{IfClean, IsRead, OfHeldRows};
 ghost use Rattle.desk.specs.Desk.{OfRows};
 ghost use Rattle.desk.specs.Lent.{Lends};
 ghost use Rattle.desk.specs.Prepared.{day_of, IsPrepared};
-ghost use Rattle.desk.specs.steps.WhatIf.{IsDayOfHeld};
 
 use super::Desk;
 use addr::{Day, Name, Vrp};
@@ -17,7 +16,7 @@ use kept::{CountedVrps, Kept, assertions_of, filters_of};
 use payload::Trie;
 use slurm::Slurm;
 use sqlite::Alter;
-use std::alloc::{AllocError, Global};
+use std::alloc::Global;
 use store::{Store, StoreFault};
 
 /// The VRPs that the authorizations of all holders give on the day, and the SLURM files in force.
@@ -38,7 +37,11 @@ fn read_day<S: Alter>(
 }
 
 /// The day as it is to be kept, read from the store.
-fn kept_on<S: Alter>(store: &mut Store<S>, alloc: Global, day: Day) -> Result<Kept, StoreFault>
+pub(super) fn kept_on<S: Alter>(
+    store: &mut Store<S>,
+    alloc: Global,
+    day: Day,
+) -> Result<Kept, StoreFault>
     ensures read { IsRead S.Store store.old store.new }
     ensures day { IfOk result (λ kept. kept.day ≡ day) }
     ensures kept { IfClean S.Store store.new (IfOk result (λ kept.
@@ -50,15 +53,11 @@ fn kept_on<S: Alter>(store: &mut Store<S>, alloc: Global, day: Day) -> Result<Ke
     Ok(Kept::of(alloc, day, vrps, filters, assertions)?)
 }
 
-/// A copy of the kept day, if it is this day.
-fn copied(kept: &Option<Kept>, day: Day) -> Result<Option<Kept>, AllocError>
-    ensures { IfOk result (λ copy. IfSome copy (λ copied.
-        (kept.now ≡ Some copied) × (copied.day ≡ day))) }
+/// The kept day, if it is this day.
+pub(super) fn kept_if(kept: &Option<Kept>, day: Day) -> Option<&Kept>
+    ensures { IfSome (option_copied result) (λ found. (kept.now ≡ Some found) × (found.day ≡ day)) }
 {
-    match kept {
-        Some(kept) if kept.day() == day => Ok(Some(kept.clone()?)),
-        _ => Ok(None),
-    }
+    kept.as_ref().filter(|kept| kept.day() == day)
 }
 
 impl<S: Alter> Desk<S> {
@@ -133,24 +132,6 @@ impl<S: Alter> Desk<S> {
         ensures no { result ≡ false → day_of self.now.kept ≢ Some day }
     {
         self.kept() == Some(day)
-    }
-
-    /// The VRPs of the day in a set of their own, copied if the day is kept; the kept day stays.
-    /// The holder is looked up even then, so that a database that does not answer is noticed.
-    pub(super) fn kept_apart(&mut self, holder: &Name, day: Day) -> Result<Kept, StoreFault>
-        ensures read { IsRead S.Store self.old.store self.new.store }
-        ensures same { self.new.kept ≡ self.old.kept }
-        ensures day { IfOk result (λ kept. kept.day ≡ day) }
-        ensures given { IfClean S.Store self.new.store
-            (IfOk result (IsDayOfHeld S.Store self.old)) }
-    {
-        match copied(&self.kept, day)? {
-            Some(kept) => {
-                self.store.is_registered(self.alloc, holder)?;
-                Ok(kept)
-            }
-            None => kept_on(&mut self.store, self.alloc, day),
-        }
     }
 
     /// Drops the kept day, then reads the day and keeps it.

@@ -1,7 +1,7 @@
 //! How the kept day follows accepted commands.
-ghost use Rattle.std.specs.Prelude.{◌≡◌, ◌⊎◌, true, false, None, option_copied, OnOk, OnErr};
+ghost use Rattle.std.specs.Prelude.{◌≡◌, true, false, option_copied, OnOk, OnErr};
 ghost use Rattle.desk.specs.Prepared.{day_of};
-ghost use Rattle.desk.specs.steps.Following.{begins_some, may_drop, EditsTwoApart};
+ghost use Rattle.desk.specs.steps.Following.{BeginsOn, EditsTwoApart, MayDropOn};
 ghost use Rattle.desk.specs.steps.Following.{Follows, FollowsChange, FollowsDay, FollowsEdit};
 
 use kept::Kept;
@@ -21,7 +21,7 @@ pub(super) struct Decided {
 /// Follows an edit of a holder's rows. If the holder has none, nothing ends and nothing begins.
 fn follow_edit(kept: &mut Kept, edit: &Edit, auths: Option<&Vec<Auth>>) -> Result<(), AllocError>
     ensures ok { OnOk result (FollowsEdit edit.now (option_copied auths.entry) kept.old kept.new) }
-    ensures err { OnErr result (begins_some edit.now ≡ true) }
+    ensures err { OnErr result (BeginsOn edit.now kept.old.day) }
 {
     match auths {
         Some(auths) => kept.follow(edit, auths),
@@ -34,7 +34,7 @@ fn follow_edit(kept: &mut Kept, edit: &Edit, auths: Option<&Vec<Auth>>) -> Resul
 fn follow_change(kept: &mut Kept, decided: &Decided) -> bool
     ensures yes { result ≡ true
         → FollowsChange decided.now.change decided.now.first decided.now.second kept.old kept.new }
-    ensures no { result ≡ false → may_drop decided.now.change ≡ true }
+    ensures no { result ≡ false → MayDropOn decided.now.change kept.old.day }
 {
     let Change::Holders { first, second } = &decided.change else {
         return false;

@@ -1,6 +1,7 @@
 //! What-if requests.
 ghost use Rattle.std.specs.Prelude.{◌≡◌, false, option_copied, IfErr, IfOk, List, MatchResult};
 ghost use Rattle.addr.specs.declared.route.Route.{Route};
+ghost use Rattle.kept.specs.Days.{ExchangesVrps};
 ghost use Rattle.kept.specs.Giving.{auths_if_any};
 ghost use Rattle.kept.specs.States.{states_after, states_now};
 ghost use Rattle.registry.specs.History.{History};
@@ -8,9 +9,10 @@ ghost use Rattle.registry.specs.Rows.{rows_if_any};
 ghost use Rattle.store.specs.StoreRows.{IsRead};
 ghost use Rattle.desk.specs.Answer.{is_accepted, AnswersWhatIf, AreStatesOn};
 ghost use Rattle.desk.specs.Desk.{charter_of, OfRows};
-ghost use Rattle.desk.specs.steps.WhatIf.{ExchangesVrps, WouldExchange};
+ghost use Rattle.desk.specs.steps.WhatIf.{WouldExchange};
 
 use super::Desk;
+use super::daily::{kept_if, kept_on};
 use crate::Reply;
 use addr::{Day, Name, Route};
 use kept::judge_twice;
@@ -95,7 +97,8 @@ impl<S: Alter> Desk<S> {
     }
 
     /// The states of the routes now, and with the begun authorizations in place of the ended ones.
-    /// The VRPs are a set that is made for this and dropped at the end.
+    /// If the day is not kept, its VRPs are read for this and dropped at the end. The holder is
+    /// looked up even if it is kept, so that a database that does not answer is noticed.
     fn states_now_and_after(
         &mut self,
         holder: &Name,
@@ -112,7 +115,15 @@ impl<S: Alter> Desk<S> {
             (after : History) → ExchangesVrps history after day ended.now begun.now
             → AreStatesOn after day routes.now (states_after states.items))) }
     {
-        let mut kept = self.kept_apart(holder, day)?;
-        Ok(judge_twice(self.alloc, &mut kept, ended, begun, routes)?)
+        match kept_if(&self.kept, day) {
+            Some(kept) => {
+                self.store.is_registered(self.alloc, holder)?;
+                Ok(judge_twice(self.alloc, kept, ended, begun, routes)?)
+            }
+            None => {
+                let kept = kept_on(&mut self.store, self.alloc, day)?;
+                Ok(judge_twice(self.alloc, &kept, ended, begun, routes)?)
+            }
+        }
     }
 }

@@ -1,4 +1,5 @@
-use Rattle.desk.proofs.FollowLemmas.{follows_none, follows_some}
+use Rattle.std.proofs.lemmas.Result.{on_err_weaker}
+use Rattle.desk.proofs.FollowLemmas.{begins_on, follows_none, follows_some}
 use Rattle.desk.proofs.desk.following.follow_edit.Goals as goal
 
 pub returns-in-Some-clause-ok : goal.returns-in-Some-clause-ok
@@ -8,3 +9,7 @@ returns-in-Some-clause-ok c =
 
 pub returns-in-None-clause-ok : goal.returns-in-None-clause-ok
 returns-in-None-clause-ok c = rw c.in-None.is (follows_none c.args.edit.now c.args.kept.now)
+
+pub returns-in-Some-clause-err : goal.returns-in-Some-clause-err
+returns-in-Some-clause-err c =
+    on_err_weaker c.follow.result (λ some. begins_on c.args.edit.now c.deref.result.now c.args.kept.now.day some.0 some.1) c.follow.ensures.err

@@ -1,5 +1,7 @@
-use Rattle.std.proofs.Common.{◌≡◌, ◌+◌, ◌∷◌, ◌++◌, [], take, take_all, sym, ap, ◌∙◌, arith, refl}
+use Rattle.std.proofs.Common.{◌≡◌, ℕ, ◌+◌, ◌∷◌, ◌++◌, [], take, take_all, subst, sym, ap, ◌∙◌, arith, refl}
 use Rattle.std.proofs.lemmas.List.{take_more}
+use Rattle.kept.specs.Giving.{GivesOn}
+use Rattle.payload.proofs.Visits.{on-err}
 use Rattle.kept.proofs.Follows.{more_joined, none_joined, same_then}
 use Rattle.kept.proofs.kept.Kept.begin_all.Goals as goal
 
@@ -23,3 +25,9 @@ loop-auth-preserved c =
 
 pub returns-clause-ok : goal.returns-clause-ok
 returns-clause-ok c = rw (take_all c.loop-auth.auth-index c.args.auths.now (omega (arith, c.loop-auth-test.false))) at c.loop-auth.invariant.joined
+
+pub returns-in_err-begin-clause-err : goal.returns-in_err-begin-clause-err
+returns-in_err-begin-clause-err c =
+    let some = c.in_err-begin.ensures.err in
+    let on : GivesOn c.auth-item.result c.args.self.now.day some.0 = subst (λ (day : ℕ). GivesOn c.auth-item.result day some.0) c.loop-auth.invariant.same.day some.1 in
+    on-err c.from_residual.result _ (some.0, (c.auth-item.result, (c.loop-auth.auth-index, c.loop-auth-test.true, sym c.auth-item.is), on))
