@@ -1,9 +1,6 @@
 //! The words after the program's name.
 ghost use Rattle.std.specs.Prelude.{◌≡◌, map};
-ghost use Rattle.addr.specs.Day.{day_in};
-ghost use Rattle.command_line.specs.CsvRows.{number_between};
-ghost use Rattle.command_line.specs.Words.{are_of_serve, serve_of, task_in, task_of_five, task_of_nine, task_of_one, task_of_three, task_read};
-ghost use Rattle.command_line.specs.declared.words.TheConstants.{CONNECTION_LIMIT};
+ghost use Rattle.command_line.specs.Words.{AreReadAs, count_in, serve_words};
 
 use addr::{Day, number_from_text};
 use thiserror::Error;
@@ -65,137 +62,52 @@ impl WordsFault {
 
 /// Reads the words after the program's name. It takes no memory.
 pub fn read_words<'a>(words: &[&'a str]) -> Result<Task<'a>, WordsFault>
-    ensures { task_read result ≡ task_in (map (λ word. word.now) words.now) }
+    ensures { AreReadAs (map (λ word. word.now) words.now) result }
 {
     match words {
-        [task] => task_of_one(task),
-        [task, first, second] => task_of_three(task, first, second),
-        [task, first, database, second, charter] => {
-            task_of_five(task, first, database, second, charter)
-        }
+        ["script", "--charter", charter] => Ok(Task::Script { charter }),
+        ["init", "--db", database, "--charter", charter] => Ok(Task::Init { database, charter }),
         [
-            task,
-            first,
+            "serve",
+            "--db",
             database,
-            second,
+            "--listen",
             address,
-            third,
+            "--count",
             count,
-            fourth,
+            "--day",
             day,
-        ] => {
-            let texts = ServeTexts {
-                database,
-                address,
-                count,
-                day,
-            };
-            task_of_nine(task, first, second, third, fourth, &texts)
-        }
+        ] => read_serve(database, address, count, day),
+        ["check", payloads, routes] => Ok(Task::Check { payloads, routes }),
+        ["help"] => Ok(Task::Help),
         _ => Err(WordsFault::Words),
     }
 }
 
-fn task_of_one<'a>(task: &str) -> Result<Task<'a>, WordsFault>
-    ensures { task_read result ≡ task_of_one task.now }
-{
-    if task == "help" {
-        Ok(Task::Help)
-    } else {
-        Err(WordsFault::Words)
-    }
-}
-
-fn task_of_three<'a>(task: &str, first: &'a str, second: &'a str) -> Result<Task<'a>, WordsFault>
-    ensures { task_read result ≡ task_of_three task.now first.now second.now }
-{
-    if task == "script" && first == "--charter" {
-        Ok(Task::Script { charter: second })
-    } else if task == "check" {
-        Ok(Task::Check {
-            payloads: first,
-            routes: second,
-        })
-    } else {
-        Err(WordsFault::Words)
-    }
-}
-
-fn task_of_five<'a>(
-    task: &str,
-    first: &str,
-    database: &'a str,
-    second: &str,
-    charter: &'a str,
-) -> Result<Task<'a>, WordsFault>
-    ensures { task_read result
-        ≡ task_of_five task.now first.now database.now second.now charter.now }
-{
-    if task == "init" && first == "--db" && second == "--charter" {
-        Ok(Task::Init { database, charter })
-    } else {
-        Err(WordsFault::Words)
-    }
-}
-
-/// The text after each option of `serve`.
-#[derive(Clone, Copy)]
-struct ServeTexts<'a> {
+fn read_serve<'a>(
     database: &'a str,
     address: &'a str,
-    count: &'a str,
-    day: &'a str,
-}
-
-fn task_of_nine<'a>(
-    task: &str,
-    first: &str,
-    second: &str,
-    third: &str,
-    fourth: &str,
-    texts: &ServeTexts<'a>,
+    count: &str,
+    day: &str,
 ) -> Result<Task<'a>, WordsFault>
-    ensures { task_read result ≡ task_of_nine task.now first.now texts.now.database.now
-        second.now texts.now.address.now third.now texts.now.count.now
-        fourth.now texts.now.day.now }
+    ensures { AreReadAs (serve_words database.now address.now count.now day.now) result }
 {
-    if are_of_serve(task, first, second, third, fourth) {
-        read_serve(texts)
-    } else {
-        Err(WordsFault::Words)
-    }
-}
-
-fn are_of_serve(task: &str, first: &str, second: &str, third: &str, fourth: &str) -> bool
-    ensures { result ≡ are_of_serve task.now first.now second.now third.now fourth.now }
-{
-    task == "serve"
-        && first == "--db"
-        && second == "--listen"
-        && third == "--count"
-        && fourth == "--day"
-}
-
-fn read_serve<'a>(texts: &ServeTexts<'a>) -> Result<Task<'a>, WordsFault>
-    ensures { task_read result ≡ serve_of texts.now.database.now texts.now.address.now
-        (number_between 1 CONNECTION_LIMIT texts.now.count.now) (day_in texts.now.day.now) }
-{
-    let Some(count) = read_count(texts.count) else {
+    let Some(count) = read_count(count) else {
         return Err(WordsFault::Words);
     };
-    let Some(day) = Day::read(texts.day.as_bytes()) else {
+    let Some(day) = Day::read(day.as_bytes()) else {
         return Err(WordsFault::Day);
     };
     Ok(Task::Serve {
-        database: texts.database,
-        address: texts.address,
+        database,
+        address,
         count,
         day,
     })
 }
 
 fn read_count(text: &str) -> Option<u32>
-    ensures { result ≡ number_between 1 CONNECTION_LIMIT text.now }
+    ensures { result ≡ count_in text.now }
 {
     match number_from_text(text.as_bytes()) {
         Some(number) if 1 <= number && number <= CONNECTION_LIMIT => Some(number as u32),
