@@ -1,9 +1,12 @@
-//! The two representations of a set of VRPs, beside one another, and what a trie counts.
+//! The two representations of a set of VRPs, beside one another, what a trie counts, and routes
+//! that are judged over a part of one.
+ghost use Rattle.std.specs.Prelude.{not, ◌==◌};
+
 use crate::listing::listed;
 use crate::rows::table_rows;
-use crate::vrps::{fill, parse_route, vrps_of};
+use crate::vrps::{fill, parse_asn, parse_route, vrps_of};
 use addr::{Asn, Family, Prefix, Vrp};
-use payload::{ListIndex, PayloadIndex, Trie, Validity};
+use payload::{ListIndex, PayloadIndex, Trie, Validity, VrpTest};
 use std::alloc::Global;
 use std::process::Abort;
 use std::test::Fail;
@@ -141,6 +144,21 @@ const MAX_LENGTH_ROUTES: &str = r#"
 192.0.2.0/29 AS64497 => Invalid 27
 "#;
 
+/// An AS whose VRPs are left out of the nested ones, and a route with its state over the rest.
+const WITHOUT_AN_AS: &str = r#"
+AS64496 198.51.100.0/24 AS64496 => Invalid
+AS64496 198.51.100.0/24 AS64497 => Valid
+AS64496 198.51.103.0/24 AS64496 => Invalid
+AS64496 0.0.0.0/0 AS64500 => Valid
+AS64497 198.51.100.0/24 AS64497 => Invalid
+AS64497 198.51.100.0/24 AS64496 => Valid
+AS64500 0.0.0.0/0 AS64500 => NotFound
+AS64500 198.51.104.0/24 AS64496 => NotFound
+AS64500 198.51.103.0/24 AS64496 => Valid
+AS64500 ::/0 AS64500 => NotFound
+AS64511 198.51.103.0/24 AS64496 => Valid
+"#;
+
 /// What is said when nothing is left.
 const EMPTY_ROUTES: &str = "\n198.51.100.0/24 AS64496 => NotFound 1";
 
@@ -183,6 +201,37 @@ fn search_depths_of_nested_prefixes(rt: HostRuntime) -> Result<(), Fail> {
     for (lines, routes) in SETS {
         let vrps = vrps_of(rt.alloc(), lines)?;
         assert_set(&rt, rt.alloc(), &vrps, routes)?;
+    }
+    Ok(())
+}
+
+/// Passes the VRPs of all other ASes.
+#[derive(Drop)]
+struct OfOthers {
+    asn: Asn,
+}
+
+impl VrpTest for OfOthers {
+    ghost passes = { λ t v. not (v.asn.0 == t.asn.0) };
+
+    fn passes(&self, vrp: &Vrp) -> bool {
+        vrp.asn != self.asn
+    }
+}
+
+fn assert_judges_rest(rt: &impl Abort, trie: &Trie, row: &str, state: &str) -> Result<(), Fail> {
+    let (asn, route) = row.split_once(' ').ok_or("no route")?;
+    let asn = parse_asn(asn)?;
+    let judged = trie.validity_among(&parse_route(route)?, &OfOthers { asn });
+    assert_eq!(rt; judged.as_str(), state, "{row}");
+    Ok(())
+}
+
+#[test]
+fn route_over_the_vrps_of_other_ases(rt: HostRuntime) -> Result<(), Fail> {
+    let trie = Trie::of(rt.alloc(), &vrps_of(rt.alloc(), NESTED)?)?;
+    for row in &table_rows(rt.alloc(), WITHOUT_AN_AS)? {
+        assert_judges_rest(&rt, &trie, row.input, row.output)?;
     }
     Ok(())
 }
