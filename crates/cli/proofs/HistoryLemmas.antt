@@ -7,7 +7,7 @@ use Rattle.registry.specs.Values.{HistoryFits}
 use Rattle.requests.specs.HttpRequests.{asked, HttpRequest, IsRequest, malformed, NeedsMemory, ReadsHttp, refused}
 use Rattle.desk.specs.Desk.{charter_of, IsOnCleanDisk, Represents}
 use Rattle.desk.specs.declared.desk.Desk.{Desk}
-use Rattle.web.specs.HttpAnswers.{AnswersHttp, RespondsTo}
+use Rattle.web.specs.HttpAnswers.{AnswersHttp, LeavesAskedDay, RespondsTo}
 use Rattle.web.specs.declared.http.WebFault.{WebFault}
 use Rattle.web.specs.declared.http.WebFault.TheVariants.{Read, Write}
 use Rattle.cli.specs.ServedHistories.{ConnectionLeads, RespondsOn}
@@ -37,9 +37,9 @@ module _ {S : Type 0} (g : Ghosts S) where
         let (after, represents, fits, (answers, left)) = replies.replies clean before is in
         (after, represents, fits, inl (asked form request, reads, (reply, written, answers)))
 
-    cause_of : {bytes : List ℕ} → (NeedsMemory bytes × (new ≡ old)) ⊎ IsRequest day bytes → NeedsMemory bytes ⊎ IsRequest day bytes
+    cause_of : {bytes : List ℕ} → (NeedsMemory bytes × (new ≡ old)) ⊎ LeavesAskedDay day bytes old new → NeedsMemory bytes ⊎ IsRequest day bytes
     cause_of (inl (needs, same)) = inl needs
-    cause_of (inr asks) = inr asks
+    cause_of (inr (form, request, reads, leaves)) = inr (form, request, reads)
 
     responded : (bytes text : List ℕ) → RespondsTo g old day bytes text new → Represents g (charter_of old) old before
         → Leads (charter_of old) new before (RespondsOn (charter_of old) day before bytes text)

@@ -1,10 +1,12 @@
 -- What the desk replies to a request.
-use Rattle.std.proofs.Common.{◌≡◌, false, Option, Some, None, refl, Bor}
+use Rattle.std.proofs.Common.{◌≡◌, ℕ, false, Option, Some, None, refl, sym, ap, inl, inr, true≢false, Bor}
 use Rattle.sqlite.specs.Store.{Ghosts}
 use Rattle.desk.specs.Answer.{is_accepted}
 use Rattle.desk.specs.CrashOutcomes.{IsKept}
+use Rattle.desk.specs.DayAfter.{DayAfter, MovesDay}
 use Rattle.desk.specs.Desk.{charter_of, KeepsRows, OfHistories}
 use Rattle.desk.specs.Lent.{HasLent}
+use Rattle.desk.specs.Prepared.{day_of}
 use Rattle.desk.proofs.CrashLemmas.{read_kept}
 use Rattle.payload.specs.VrpSet as set
 use Rattle.registry.specs.declared.asked.Asked.{Asked}
@@ -24,15 +26,24 @@ module _ {S : Type 0} (g : Ghosts S) where
   -- the desk answered a request
   pub replies_at : (old new : Desk S) (request : Asked) (reply : Reply) → IsLaterDesk g old new
       → OfHistories g old new (λ history. IsKept g (charter_of old) history request reply old new)
-      → (is_accepted reply ≡ false → KeepsRows g old new) → RepliesAt g old request reply new
-  replies_at old new request reply later left kept = record {
+      → (is_accepted reply ≡ false → KeepsRows g old new)
+      → DayAfter request.day request.request reply (day_of old.kept) (day_of new.kept) → RepliesAt g old request reply new
+  replies_at old new request reply later left kept day = record {
     later = later;
     replies = λ clean before represents.
         let is = left clean before represents.legal represents.rows in
         let goes_on = is.answered in
         (goes_on.after, record { chartered = later.charter; legal = goes_on.legal; rows = goes_on.rows_after }, goes_on.values, (goes_on.answers, is.left));
     kept = kept;
+    day = day;
   }
+
+  -- the day of the VRPs that were lent is kept
+  lent_day : (old new : Desk S) (day : ℕ) (result : Option (Bor set.VrpSet)) → HasLent g day old result new
+      → MovesDay day (lent_reply result) (day_of old.kept) (day_of new.kept)
+  lent_day old new day None lent =
+      inr (ap day_of (lent.prepared.none refl), refl, λ was. true≢false (sym (lent.prepared.same was).0))
+  lent_day old new day (Some vrps) lent = inl (lent.prepared.kept refl)
 
   -- the desk lent the VRPs of the day
   pub lent_replies : (old new : Desk S) (request : Asked) (result : Option (Bor set.VrpSet)) → request.request ≡ QueryRequest PayloadsQuery
@@ -42,11 +53,11 @@ module _ {S : Type 0} (g : Ghosts S) where
       replies_at old new request Unavailable (record { charter = read.charter; limit = read.limit; clean = read.clean })
       (λ clean history legal held.
       read_kept g history request Unavailable old new refl read clean legal (rw payloads (tt, refl)) (lent.prepared.held clean history legal held))
-      (λ _. read.rows)
+      (λ _. read.rows) (rw payloads (lent_day old new request.day None lent))
   lent_replies old new request (Some vrps) payloads lent =
       let read = lent.prepared.read in
       let reply = Payloads (set.items vrps.now) in
       replies_at old new request reply (record { charter = read.charter; limit = read.limit; clean = read.clean })
       (λ clean history legal held.
       read_kept g history request reply old new refl read clean legal (rw payloads (lent.answered clean history legal held, refl)) (lent.prepared.held clean history legal held))
-      (λ _. read.rows)
+      (λ _. read.rows) (rw payloads (lent_day old new request.day (Some vrps) lent))

@@ -149,7 +149,7 @@ module _ {S : Type 0} (g : Ghosts S) where
       → RepliesAt g old request reply new → IsReplyResponse form reply text → AnswersNext g old (AskedNext form request) text new
   answers-asked old new form request reply text replies (inl is) = inl (reply, is, replies)
   answers-asked old new form request reply text replies (inr (long, is)) =
-      inr (is, shown_keeps old new request reply replies long)
+      inr (is, shown_keeps old new request reply replies long, (reply, long, replies.day))
 
   pub asked-ok : {T E : Type 0} (r : Result T E) (old new : Desk S) (form : ContentType) (request : Asked) (reply : Reply)
       (Q : List ℕ → Type 0) → RepliesAt g old request reply new
@@ -173,7 +173,7 @@ module _ {S : Type 0} (g : Ghosts S) where
   responds old new day bytes text (Refused refusal) reads answers = inl (refused refusal, reads, answers)
   responds old new day bytes text (Malformed fault) reads answers = inl (malformed fault, reads, answers)
   responds old new day bytes text (AskedNext form request) reads (inl answers) = inl (asked form request, reads, answers)
-  responds old new day bytes text (AskedNext form request) reads (inr (is, keeps)) = inr (inr (form, request, reads), is, keeps)
+  responds old new day bytes text (AskedNext form request) reads (inr (is, keeps, leaves)) = inr (inr (form, request, reads, leaves), is, keeps)
   responds old new day bytes text NotRead needs (is, same) = inr (inl (needs, same), is, rw same (same_keeps old))
 
   -- a response of an error keeps the rows

@@ -8,7 +8,9 @@ use Rattle.registry.specs.Values.{HistoryFits}
 use Rattle.charters.specs.declared.charter.Charter.{Charter}
 use Rattle.desk.specs.Answer.{AnswersRequest, is_accepted}
 use Rattle.desk.specs.CrashOutcomes.{LeavesAlong, pending_after}
+use Rattle.desk.specs.DayAfter.{DayAfter}
 use Rattle.desk.specs.Desk.{charter_of, store_of, IsOnCleanDisk, KeepsRows, Represents}
+use Rattle.desk.specs.Prepared.{day_of}
 use Rattle.requests.specs.MalformedText.{malformed_text}
 use Rattle.web.specs.ReplyText.{line_text, unavailable_text}
 use Rattle.requests.specs.RequestFaults.{request_fault, too_long}
@@ -45,11 +47,13 @@ pub record IsLaterDesk {S : Type 0} (g : Ghosts S) (old new : Desk S) : Type 0 w
 
 -- The reply of a desk to a request: it is that on each history that the desk represents, of which a crash leaves no
 -- more than the reply allows; and one to no accepted command leaves the rows, whether they are those of a history or not.
+-- The day whose VRPs the desk keeps is then what this request with this reply makes of the day that it kept before.
 pub record RepliesAt {S : Type 0} (g : Ghosts S) (old : Desk S) (request : Asked) (reply : Reply) (new : Desk S) : Type 0 where
   pub later : IsLaterDesk g old new
   pub replies : OnHistories g old new (λ before after. RepliesOn (charter_of old) before request reply after
       × LeavesAlong g (charter_of old) old before (pending_after request reply) new after)
   pub kept : is_accepted reply ≡ false → KeepsRows g old new
+  pub day : DayAfter request.day request.request reply (day_of old.kept) (day_of new.kept)
 
 -- ---- answers to lines, by what `replies state request reply next` says may be replied to a request, and which state
 -- that leaves

@@ -2,10 +2,11 @@
 use Rattle.std.specs.Prelude.{◌≡◌, ◌⊎◌, ℕ, List, None}
 use Rattle.sqlite.specs.Store.{Ghosts}
 use Rattle.http_messages.specs.declared.response.ContentType.{ContentType}
+use Rattle.registry.specs.declared.asked.Asked.{Asked as AskedRequest}
 use Rattle.desk.specs.declared.desk.Desk.{Desk}
 use Rattle.desk.specs.declared.reply.Reply.{Reply}
 use Rattle.requests.specs.HttpRequests.{asked, malformed, NeedsMemory, ReadsHttp, refused}
-use Rattle.web.specs.HttpAnswers.{AnswersHttp, KeepsAll}
+use Rattle.web.specs.HttpAnswers.{AnswersHttp, KeepsAll, LeavesShownDay}
 use Rattle.web.specs.HttpResponses.{reply_response, unavailable_response}
 use Rattle.web.specs.ReplyText.{short_text}
 use Rattle.web.specs.declared.http.Extent.{Extent}
@@ -27,16 +28,17 @@ extent_of (Malformed fault) = Whole
 extent_of (Asked form request) = Whole
 extent_of NotRead = Part
 
--- the response says that an allocation failed, and nothing has changed
-abbrev pub AnswersUnavailable : {S : Type 0} → Ghosts S → Desk S → List ℕ → Desk S → Type 0
-AnswersUnavailable g old text new = (text ≡ unavailable_response) × KeepsAll g old new
+-- the response says that an allocation failed, and the request has changed at most which day is kept
+abbrev pub AnswersUnavailable : {S : Type 0} → Ghosts S → Desk S → AskedRequest → List ℕ → Desk S → Type 0
+AnswersUnavailable g old request text new =
+    (text ≡ unavailable_response) × KeepsAll g old new × LeavesShownDay request old new
 
 -- the response to what was read
 abbrev pub AnswersNext : {S : Type 0} → Ghosts S → Desk S → Next → List ℕ → Desk S → Type 0
 AnswersNext g old (Refused refusal) text new = AnswersHttp g old (refused refusal) text new
 AnswersNext g old (Malformed fault) text new = AnswersHttp g old (malformed fault) text new
 AnswersNext g old (Asked form request) text new =
-    AnswersHttp g old (asked form request) text new ⊎ AnswersUnavailable g old text new
+    AnswersHttp g old (asked form request) text new ⊎ AnswersUnavailable g old request text new
 AnswersNext g old NotRead text new = (text ≡ unavailable_response) × (new ≡ old)
 
 -- the response to a reply; only one that shows something allocates

@@ -10,7 +10,7 @@ returns-clause-ok g c =
     (λ text. g.D.Drain.written c.write_reply_response.new.drain ≡ g.D.Drain.written c.args.drain.now ++ text)
     (replies_at g.A.Store c.args.desk.now c.handle-reply.new.self c.args.asked.now c.handle-reply.result
     (record { charter = c.handle-reply.ensures.charter; limit = c.handle-reply.ensures.limit; clean = c.handle-reply.ensures.clean })
-    c.handle-reply.ensures.left c.handle-reply.ensures.kept) c.write_reply_response.ensures.ok
+    c.handle-reply.ensures.left c.handle-reply.ensures.kept c.handle-reply.ensures.kept_day) c.write_reply_response.ensures.ok
 
 pub returns-clause-err : goal.returns-clause-err
 returns-clause-err g c =
@@ -18,4 +18,4 @@ returns-clause-err g c =
     (AppendsBeginning (g.D.Drain.written c.args.drain.now) (g.D.Drain.written c.write_reply_response.new.drain))
     (replies_at g.A.Store c.args.desk.now c.handle-reply.new.self c.args.asked.now c.handle-reply.result
     (record { charter = c.handle-reply.ensures.charter; limit = c.handle-reply.ensures.limit; clean = c.handle-reply.ensures.clean })
-    c.handle-reply.ensures.left c.handle-reply.ensures.kept) c.write_reply_response.ensures.err
+    c.handle-reply.ensures.left c.handle-reply.ensures.kept c.handle-reply.ensures.kept_day) c.write_reply_response.ensures.err
