@@ -5,7 +5,7 @@ def reason:
     if .status == "502" then "the desk is away"
     elif .status == "503" then "the desk has no memory, or its database failed"
     elif .status == "504" then "the desk does not answer"
-    elif .status >= "500" then "the front failed"
+    elif .status >= "500" then "the front failed, or the desk stayed away"
     elif .status == "401" and .caller != "" then "a wrong password"
     elif .status == "403" and .desk == "" then "a page of another site"
     elif (.desk | tonumber? // 0) > 5 then "the desk was held"
