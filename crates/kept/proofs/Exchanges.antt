@@ -1,7 +1,7 @@
 -- What an exchange leaves of a day that is kept, and the states of routes over it.
 use Rattle.std.proofs.Common.{◌≡◌, ℕ, Bool, true, not, ◌||◌, ◌↔◌, ◌⊎◌, inl, inr, List, Contains, filter, sym, ap, subst, ◌∙◌}
 use Rattle.std.specs.Prelude.{Any}
-use Rattle.std.proofs.lemmas.Bool.{cases_Bool, or_right}
+use Rattle.std.proofs.lemmas.Bool.{cases_Bool, false≢true, or_right}
 use Rattle.addr.specs.OriginValidation.{validation_state, HasState, ValidationState}
 use Rattle.addr.specs.declared.route.Route.{Route}
 use Rattle.addr.specs.declared.vrp.Vrp.{Vrp}
@@ -60,21 +60,39 @@ left_where ended asserted v = (
     stays : Bool → Bool
     stays b = not b || set.contains asserted v
 
--- so what is after it by sets is what authorizations exchange
+-- so what is after it by sets is what authorizations exchange, even if what begins again is not taken out
 pub after_exchanged : (kept : KeptDay) (outs ins : set.VrpSet) (ended begun : List Auth)
-    → ((v : Vrp) → Contains (set.items outs) v ↔ AreGivingOn ended kept.day v)
+    → ((v : Vrp) → Contains (set.items outs) v ↔ (AreGivingOn ended kept.day v × ¬ Contains (set.items ins) v))
     → ((v : Vrp) → Contains (set.items ins) v ↔ (AreGivingOn begun kept.day v × ¬ Any (λ filter. FilterMatches filter v) kept.filters))
     → (v : Vrp) → IsAfter kept outs ins v ↔ AreExchanged kept ended begun v
 after_exchanged kept outs ins ended begun out_are in_are v =
     let left = left_where outs kept.asserted v in (
       λ after. elim after [
-        | inl was ↦ inl (was.0, elim (left.0 was.1) [ inl none ↦ inl (λ gives. none ((out_are v).1 gives)) | inr asserted ↦ inr asserted ])
+        | inl was ↦ elim (left.0 was.1) [
+          | inl none ↦ elim (cases_Bool (set.contains ins v)) [
+            | inl begins ↦ inr ((in_are v).0 ((in_set ins v).1 begins))
+            | inr other ↦ inl (was.0, inl (λ gives. none ((out_are v).1 (gives, not_in_set ins v other))))
+          ]
+          | inr asserted ↦ inl (was.0, inr asserted)
+        ]
         | inr begins ↦ inr ((in_are v).0 begins)
       ],
       λ exchanged. elim exchanged [
-        | inl was ↦ inl (was.0, left.1 (elim was.1 [ inl none ↦ inl (λ there. none ((out_are v).0 there)) | inr asserted ↦ inr asserted ]))
+        | inl was ↦ inl (was.0, left.1 (elim was.1 [ inl none ↦ inl (λ there. none ((out_are v).0 there).0) | inr asserted ↦ inr asserted ]))
         | inr begins ↦ inr ((in_are v).1 begins)
       ],
+    )
+
+-- of a list, what is not in the set
+pub in_rest : (index : set.VrpSet) (vrps : List Vrp) (v : Vrp)
+    → Contains (filter (λ w. not (set.contains index w)) vrps) v ↔ (Contains vrps v × ¬ Contains (set.items index) v)
+in_rest index vrps v =
+    let rest = in_filter (λ w. not (set.contains index w)) vrps v in (
+      λ there. elim (cases_Bool (set.contains index v)) [
+        | inl has ↦ absurd (false≢true (ap not (sym has) ∙ (rest.0 there).1))
+        | inr none ↦ ((rest.0 there).0, not_in_set index v none)
+      ],
+      λ is. rest.1 (is.0, elim (cases_Bool (set.contains index v)) [ inl has ↦ absurd (is.1 ((in_set index v).1 has)) | inr none ↦ ap not none ]),
     )
 
 -- of what is given, what passes is left

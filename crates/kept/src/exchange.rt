@@ -63,8 +63,8 @@ struct Exchange {
 }
 
 impl Exchange {
-    /// What the ended authorizations give on the day, and what the begun ones give that no filter
-    /// matches.
+    /// What the begun authorizations give on the day that no filter matches, and what the ended
+    /// ones give and these do not. So what ends and begins again is tested for no route.
     fn of(
         alloc: Global,
         kept: &Kept,
@@ -72,18 +72,19 @@ impl Exchange {
         begun: &[Auth],
     ) -> Result<Exchange, AllocError>
         ensures ended { IfOk result (λ exchange. (v : Vrp)
-            → Contains (set.items exchange.ended) v ↔ AreGivingOn ended.now kept.now.day v) }
+            → Contains (set.items exchange.ended) v ↔ (AreGivingOn ended.now kept.now.day v
+            × ¬ Contains (set.items exchange.begun) v)) }
         ensures begun { IfOk result (λ exchange. (v : Vrp)
             → Contains (set.items exchange.begun) v ↔ (AreGivingOn begun.now kept.now.day v
             × ¬ Any (λ filter. FilterMatches filter v) kept.now.filters)) }
     {
-        let ended = given_on(alloc, ended, kept.day())?;
         let mut begun = given_on(alloc, begun, kept.day())?;
         keep_unfiltered(kept.filters(), &mut begun);
-        Ok(Exchange {
-            ended: ListIndex::from(ended),
-            begun: ListIndex::from(begun),
-        })
+        let begun = ListIndex::from(begun);
+        let mut ended = given_on(alloc, ended, kept.day())?;
+        remove_all(&begun, &mut ended);
+        let ended = ListIndex::from(ended);
+        Ok(Exchange { ended, begun })
     }
 
     /// The state of each route after the exchange.
@@ -119,7 +120,15 @@ impl Exchange {
     }
 }
 
-/// Which kept VRPs are left where these end.
+/// Removes the VRPs that the index has.
+fn remove_all(index: &ListIndex, vrps: &mut Vec<Vrp>)
+    ensures { (v : Vrp) → Contains vrps.new.items v
+        ↔ (Contains vrps.old.items v × ¬ Contains (set.items index.now) v) }
+{
+    vrps.retain(|vrp| !index.contains(vrp));
+}
+
+/// Passes the kept VRPs that are left once these end.
 #[derive(Drop)]
 struct Left<'a> {
     kept: &'a Kept,
