@@ -20,7 +20,7 @@ AnswersHttpOn charter before (malformed fault) text after = (text ≡ malformed_
 AnswersHttpOn charter before (asked form request) text after =
     (reply : Reply) × (text ≡ reply_response form reply) × RepliesOn charter before request reply after
 
--- the response to bytes that were read on a day; where an allocation failed, it says so and nothing has changed
+-- the response to bytes that were read on a day; where an allocation failed, it says so and the history stays
 abbrev pub RespondsOn : Charter → ℕ → History → List ℕ → List ℕ → History → Type 0
 RespondsOn charter day before bytes text after =
     ((request : HttpRequest) × ReadsHttp day bytes request × AnswersHttpOn charter before request text after)
