@@ -3,8 +3,9 @@
 #
 #     all.sh
 #
-# Those that need a command which is missing, or the program where it is not built, are reported as skipped. PROGRAM
-# may name another program than that of the repository. Ends with 1 where a check failed.
+# It leaves out edits.sh, which takes half a processor minute an edit and the proofs of the edited crates. Those that
+# need a command which is missing, or the program where it is not built, are reported as skipped. PROGRAM may name
+# another program than that of the repository. Ends with 1 where a check failed.
 set -u
 checks=$(cd "$(dirname "${BASH_SOURCE[0]}")" && pwd)
 failed=0

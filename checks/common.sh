@@ -1,6 +1,6 @@
 # shellcheck shell=bash
-# Sourced by the scripts beside it: the `top` of the repository, `skip`, `need`, `find_program`, `expect` and
-# `free_port`.
+# Sourced by the scripts beside it: the `top` of the repository, `skip`, `need`, `copy_crates`, `find_program`, `expect`
+# and `free_port`.
 
 top=$(cd "$(dirname "${BASH_SOURCE[0]}")/.." && pwd)
 
@@ -16,6 +16,12 @@ need() {
     for command in "$@"; do
         command -v "$command" >/dev/null || skip "no command $command"
     done
+}
+
+# copy_crates FOLDER: copies crates.txt and the crates into the folder, without what rt made.
+copy_crates() {
+    cp -a "$top/crates.txt" "$1" &&
+        (cd "$top" && find crates -name out -prune -o -type f -print0 | tar -cf - --null -T -) | tar -xf - -C "$1"
 }
 
 # Sets `program` to the path of the proved program. PROGRAM names it, else it is that of the repository: built again

@@ -17,8 +17,8 @@ trap 'kill $(jobs -p) 2>/dev/null; rm -rf "$work"' EXIT
 copy=$work/copy
 user=$work/user
 mkdir "$copy" "$user" "$work/temporary" || exit 2
-cp -a "$top/roadesk" "$top/crates.txt" "$top/examples" "$copy" || exit 2
-(cd "$top" && find crates -name out -prune -o -type f -print0 | tar -cf - --null -T -) | tar -xf - -C "$copy" || exit 2
+cp -a "$top/roadesk" "$top/examples" "$copy" || exit 2
+copy_crates "$copy" || exit 2
 names() { (cd "$copy" && find . -print | sort); }
 names >"$work/names"
 
