@@ -1,4 +1,3 @@
-pub mod Columns
 pub mod QueryLemmas
 pub mod SameCharter
 mod Rowids

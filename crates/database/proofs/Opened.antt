@@ -45,7 +45,7 @@ use Rattle.database.proofs.SomeAuths.{auths_read}
 use Rattle.database.proofs.SomeRows.{IsPartRow, have_entries, holds_parts, rows_in}
 use Rattle.database.proofs.SomeExceptions.{AreElsewhere, ascending_where}
 use Rattle.database.proofs.SomeFiles.{some_files}
-use Rattle.database.proofs.Columns.{column_after}
+use Rattle.tables.proofs.Columns.{column_after}
 
 module _ (db : Database) (tables : db.schema.tables ≡ desk_tables) (sound : IsSound db.schema db.trees) where
   -- a table of so many columns shows all of its rows

@@ -33,7 +33,7 @@ use Rattle.database.specs.TablesRead.{ShowsSome, ShowsHolder, ShowsOfHolder, Tab
 use Rattle.database.specs.steps.Numbered.{columns_and_rowid, shown_in, AreRead}
 use Rattle.moving.specs.OldTables.{old_schema_row}
 use Rattle.database.specs.steps.Opened.{HasNumber, number_row, ShowsRows, ShowsCharter}
-use Rattle.database.proofs.Columns.{grant_shown, exception_places}
+use Rattle.tables.proofs.Columns.{grant_shown, exception_places}
 
 -- ---- what was read
 

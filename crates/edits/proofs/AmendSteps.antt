@@ -39,7 +39,7 @@ use Rattle.tables.proofs.Updating.{changed_if}
 use Rattle.database.specs.Laws.{ClaimsDiffer}
 use Rattle.making.specs.Statements.{IsReady, IsExecuted}
 use Rattle.making.specs.steps.Making.{PutsRows}
-use Rattle.database.proofs.Columns.{column_after}
+use Rattle.tables.proofs.Columns.{column_after}
 use Rattle.making.proofs.StatementLemmas.{has_schema, wrote, ready_still, sound_still}
 use Rattle.edits.specs.steps.Statements.{EditsHolder, IsExecutedOn}
 use Rattle.edits.proofs.AuthSteps.{EditsBoth, entries_first, entries_again, auths_turned, both_local, puts_local, entries_named, claim_cells_of, entries_of_auth, rows_of_entries, entries_left, own_claim}

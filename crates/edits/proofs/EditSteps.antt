@@ -35,8 +35,9 @@ use Rattle.tables.proofs.HaveEntries.{turned_have_entries}
 use Rattle.tables.proofs.PartLemmas.{names, name_of-true, name_of_itself, put_local}
 use Rattle.making.proofs.StatementLemmas.{puts_row}
 use Rattle.edits.proofs.PartSteps.{puts_edit, takes_edit, changes_edit}
-use Rattle.edits.proofs.StepLemmas.{equals_text, equals_int, equals_blob, holder_test, turns_rows, in_holder, in_holdings, in_grants}
-use Rattle.database.proofs.Columns.{column_after}
+use Rattle.tables.proofs.Testing.{equals_text, equals_int, equals_blob, holder_test}
+use Rattle.edits.proofs.StepLemmas.{turns_rows, in_holder, in_holdings, in_grants}
+use Rattle.tables.proofs.Columns.{column_after}
 use Rattle.tables.proofs.Texts.{
   put_terms,
   equals,
