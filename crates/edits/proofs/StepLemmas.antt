@@ -17,7 +17,7 @@ use Rattle.tables.specs.TablesHold.{Part, part_rows, holder_part, holding_part, 
 use Rattle.edits.specs.steps.Statements.{EditsRows, KeepsExceptions, at_holder}
 use Rattle.tables.proofs.HaveEntries.{edited_have_entries}
 use Rattle.tables.proofs.PartLemmas.{IsLocal, EditsPart, turned_at, part_same, part_turned}
-use Rattle.making.proofs.StatementLemmas.{sound_still}
+use Rattle.transactions.proofs.StatementLemmas.{sound_still}
 
 -- the parts have trees of their own
 abbrev pub is_part_tree : ℕ → Bool
