@@ -2,8 +2,8 @@
 use Rattle.command_line.specs.declared.fault.ProgramFault.{ProgramFault}
 use Rattle.command_line.specs.declared.fault.ProgramFault.TheVariants.{Database, Memory, Schema, Socket, Stream}
 use Rattle.sqlite_disk.specs.declared.Disk.{Ghosts}
-use Rattle.making.specs.declared.fault.StoreFault.{StoreFault}
-use Rattle.making.specs.declared.fault.StoreFault.TheVariants as store
+use Rattle.transactions.specs.declared.fault.StoreFault.{StoreFault}
+use Rattle.transactions.specs.declared.fault.StoreFault.TheVariants as store
 use Rattle.web.specs.declared.script.ScriptFault.{ScriptFault}
 use Rattle.web.specs.declared.script.ScriptFault.TheVariants as script
 use Rattle.desk_files.specs.declared.file.OpenFault.{OpenFault}

@@ -22,9 +22,10 @@ use Rattle.tables.specs.declared.operator.TheConstants.{SELECT_ALL_OPERATORS}
 use Rattle.tables.specs.declared.pool.TheConstants.{SELECT_ALL_PREFIXES}
 use Rattle.tables.proofs.ClaimTexts.{all_claims_is, all_entries_is}
 use Rattle.tables.proofs.Selecting.{from_table, no_limit, picks, permuted}
-use Rattle.database.proofs.Columns.{shown_at, shown_columns}
+use Rattle.tables.proofs.Columns.{shown_at, shown_columns}
 use Rattle.tables.proofs.Texts.{Means, upwards}
-use Rattle.database.specs.steps.Numbered.{columns_and_rowid, AnswersSelect, SelectsAll}
+use Rattle.database.specs.steps.Numbered.{columns_and_rowid, SelectsAll}
+use Rattle.transactions.specs.steps.Statements.{AnswersSelect}
 use Rattle.database.specs.steps.Opened.{claim_places, entry_places}
 
 -- SELECT these columns and the rowid FROM the table ORDER BY rowid

@@ -1,13 +1,7 @@
-pub mod Columns
-pub mod QueryLemmas
 pub mod SameCharter
 mod Rowids
 mod AllTexts
-mod Obeyed
-mod Moved
-mod KeyedRows
 mod Grouped
-pub mod AuthsFound
 pub mod SomeAuths
 mod SomeRows
 mod FewOfEach

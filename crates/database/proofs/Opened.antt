@@ -39,13 +39,14 @@ use Rattle.tables.specs.declared.groups.OfHolder.{OfHolder}
 use Rattle.database.specs.TablesRead.{ShowsSome, ShowsHolder, ShowsOfHolder, HoldSomeRows, TablesRead, HasSomeAuths, row_of_claim}
 use Rattle.database.specs.steps.Numbered.{shown_in}
 use Rattle.database.specs.steps.Opened.{ShowsNumber, ShowsCharter, ShowExceptions, ShowHolders, ShowAuths}
-use Rattle.database.proofs.Obeyed.{slurm_key, agree_in_key, all_whole, all_referred, once_by_key, once, equal_texts}
-use Rattle.database.proofs.KeyedRows.{at_claim}
+use Rattle.transactions.proofs.Obeyed.{slurm_key, agree_in_key, all_whole, all_referred, once_by_key, once, equal_texts}
+use Rattle.transactions.proofs.KeyedRows.{at_claim}
 use Rattle.database.proofs.SomeAuths.{auths_read}
 use Rattle.database.proofs.SomeRows.{IsPartRow, have_entries, holds_parts, rows_in}
-use Rattle.database.proofs.SomeExceptions.{AreElsewhere, ascending_where}
+use Rattle.database.proofs.SomeExceptions.{AreElsewhere}
+use Rattle.transactions.proofs.Ascending.{ascending_where}
 use Rattle.database.proofs.SomeFiles.{some_files}
-use Rattle.database.proofs.Columns.{column_after}
+use Rattle.tables.proofs.Columns.{column_after}
 
 module _ (db : Database) (tables : db.schema.tables ≡ desk_tables) (sound : IsSound db.schema db.trees) where
   -- a table of so many columns shows all of its rows

@@ -7,7 +7,7 @@ use Rattle.tables.specs.Tables.{desk_tables}
 use Rattle.tables.specs.TablesHold.{TablesHold}
 use Rattle.moving.proofs.EitherSchema.{hold_now}
 use Rattle.database.specs.Opening.{LeavesOldOrMoved, OpensDesk}
-use Rattle.database.specs.Queries.{ShowsTheSame}
+use Rattle.transactions.specs.Queries.{ShowsTheSame}
 use Rattle.database.specs.TablesRead.{HoldSomeRows, TablesRead}
 
 -- a desk whose rows were read, and nothing else

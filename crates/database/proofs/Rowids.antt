@@ -19,10 +19,10 @@ use Rattle.sqlite_trees.proofs.ListLemmas.{map-map, all_weaker, all_from_map, al
 use Rattle.sqlite_rules.proofs.ListLemmas.{all_has, any_has}
 use Rattle.tables.specs.Decode.{ShowsNone, first_columns}
 use Rattle.tables.specs.Tables.{columns, contents, IsTree}
-use Rattle.making.specs.declared.fault.StoreFault.{StoreFault}
+use Rattle.transactions.specs.declared.fault.StoreFault.{StoreFault}
 use Rattle.database.specs.TablesRead.{ShowsSome}
 use Rattle.tables.proofs.TreeRows.{alike_flip}
-use Rattle.database.proofs.Moved.{ascending_moved}
+use Rattle.transactions.proofs.Ascending.{ascending_moved}
 use Rattle.database.specs.steps.Numbered.{last_value, is_integer_below, Rise, columns_and_rowid, AreRead}
 
 -- ---- from each row and the next to all rows

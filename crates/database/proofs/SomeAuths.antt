@@ -36,14 +36,14 @@ use Rattle.tables.specs.Tables.{desk_tables, auth, claim, entry, required_column
 use Rattle.tables.proofs.CellsOnce.{one_claim, one_entry_row, values_shown}
 use Rattle.tables.proofs.GroupOrder.{claim_cmp, claim_orders, entry_row_cmp, groups_in_order, holder_orders, of_holder_cmp, rising_apart, AreOrders, HaveInOrder}
 use Rattle.tables.proofs.ReadLemmas.{all_columns}
-use Rattle.database.specs.Laws.{number_columns}
+use Rattle.transactions.specs.Laws.{number_columns}
 use Rattle.database.specs.TablesRead.{ShowsSome, HasSomeAuths, row_of_claim, rows_of_entries}
 use Rattle.database.specs.steps.Numbered.{shown_in, AreRead}
 use Rattle.database.specs.steps.Opened.{MakeAuths, ShowAuths, claim_places, entry_places, named_claim, named_entries}
 use Rattle.database.proofs.Grouped.{group_of, makes, named_row, same_rows}
-use Rattle.database.proofs.KeyedRows.{all_claims_differ, at_claim, at_entry}
-use Rattle.database.proofs.Moved.{ascending_moved}
-use Rattle.database.proofs.Obeyed.{all_whole}
+use Rattle.transactions.proofs.KeyedRows.{all_claims_differ, at_claim, at_entry}
+use Rattle.transactions.proofs.Ascending.{ascending_moved}
+use Rattle.transactions.proofs.Obeyed.{all_whole}
 
 -- ---- in range
 

@@ -20,13 +20,8 @@ use Rattle.tables.specs.Cells.{kind_number, exception_row}
 use Rattle.tables.specs.Decode.{ExceptionFits, ExceptionRowFits, IsPosition, exception_columns}
 use Rattle.tables.specs.TablesHold.{ArePlaced, HoldsExceptions}
 use Rattle.tables.proofs.HeldExceptions.{held_number}
+use Rattle.transactions.proofs.Ascending.{ascending_where}
 use Rattle.database.specs.TablesRead.{ShowsSome}
-
--- a relation of each element and each later one, where it holds of all that are so
-pub ascending_where : {X : Type 0} (P : X → Type 0) (R S : X → X → Type 0) → ((a b : X) → P a → P b → R a b → S a b) → (xs : List X) → AllByRecursion P xs → IsAscending R xs → IsAscending S xs
-ascending_where P R S to [] all up = tt
-ascending_where P R S to (x ∷ xs) all up =
-    (all_both P (R x) (S x) (λ y p r. to x y all.0 p r) xs all.1 up.0, ascending_where P R S to xs all.1 up.1)
 
 -- the values that rows show
 pub values_of : {X : Type 0} (cells : X → Row) (fits : X → Type 0) (shown : List Row) → AllByRecursion (ShowsSome cells fits) shown

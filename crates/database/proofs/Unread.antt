@@ -27,13 +27,13 @@ use Rattle.tables.specs.Cells.{schema_row, operator_row, prefix_cells, span_cell
 use Rattle.tables.specs.Decode.{ExceptionRowFits}
 use Rattle.tables.specs.Tables.{meta, operator, pool, holder, holding, granted, slurm, contents, columns}
 use Rattle.tables.proofs.CellsOnce.{one_prefix, values_shown}
-use Rattle.making.specs.declared.fault.StoreFault.{StoreFault}
-use Rattle.making.specs.declared.fault.StoreFault.TheVariants.{Schema}
+use Rattle.transactions.specs.declared.fault.StoreFault.{StoreFault}
+use Rattle.transactions.specs.declared.fault.StoreFault.TheVariants.{Schema}
 use Rattle.database.specs.TablesRead.{ShowsSome, ShowsHolder, ShowsOfHolder, TablesRead}
 use Rattle.database.specs.steps.Numbered.{columns_and_rowid, shown_in, AreRead}
 use Rattle.moving.specs.OldTables.{old_schema_row}
 use Rattle.database.specs.steps.Opened.{HasNumber, number_row, ShowsRows, ShowsCharter}
-use Rattle.database.proofs.Columns.{grant_shown, exception_places}
+use Rattle.tables.proofs.Columns.{grant_shown, exception_places}
 
 -- ---- what was read
 

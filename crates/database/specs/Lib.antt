@@ -1,4 +1,3 @@
-pub mod Queries
 pub mod TablesRead
 pub mod OldTablesRead
 pub mod OldTrees

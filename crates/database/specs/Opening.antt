@@ -10,7 +10,7 @@ use Rattle.tables.specs.Schemas.{has_names}
 use Rattle.tables.specs.TablesHold.{TablesHold}
 use Rattle.moving.specs.EitherSchema.{AreOfEitherSchema, EitherSchemaHolds}
 use Rattle.moving.specs.OldTables.{old_tables, HasOldNumber, IsOldSchema}
-use Rattle.making.specs.Databases.{IsDesk, IsDeskTrees}
+use Rattle.transactions.specs.Databases.{IsDesk, IsDeskTrees}
 use Rattle.database.specs.OldTablesRead.{OldTablesRead}
 use Rattle.database.specs.TablesRead.{TablesRead, HoldSomeRows}
 

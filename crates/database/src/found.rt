@@ -7,11 +7,12 @@ ghost use Rattle.moving.specs.OldTables.{IsOldSchema};
 ghost use Rattle.making.specs.Moving.{old_schema_if};
 ghost use Rattle.database.specs.steps.Found.{HasFound, IsFoundOf, IsSamePlain, IsStrange};
 
-use making::{StoreFault, make_old_schema, make_schema};
+use making::{make_old_schema, make_schema};
 use sqlite::{Connection, Error, MemStore};
 use sqlite_schema::schema::Schema;
 use std::alloc::Global;
 use tables::{has_names, same_schema, same_tables};
+use transactions::StoreFault;
 
 /// The tables that a database has.
 #[derive(Clone, Copy, PartialEq, Eq)]

@@ -4,12 +4,9 @@
 mod found;
 pub mod laws;
 mod opening;
-mod query;
 mod reading;
 mod rise;
-mod values;
 
-pub use making::{StoreFault, execute, make_tables};
+pub use making::make_tables;
 pub use opening::open_tables;
-pub use query::ask;
-pub use values::read_all;
+pub use transactions::{StoreFault, ask, execute, read_all};

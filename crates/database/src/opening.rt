@@ -3,20 +3,21 @@ ghost use Rattle.std.specs.Prelude.{◌≡◌, false, None, Err, OnOk, IfOk, IsT
 ghost use Rattle.sqlite.specs.Held.{state};
 ghost use Rattle.sqlite.specs.State.{HasCleanDisk};
 ghost use Rattle.making.specs.Making.{IsOver};
-ghost use Rattle.making.specs.Statements.{state_in, IfAnswered, IfRolledBack, StaysInside, WhenClean};
+ghost use Rattle.transactions.specs.Statements.{state_in, IfAnswered, IfRolledBack, StaysInside, WhenClean};
 ghost use Rattle.making.specs.Moving.{old_schema_if};
 ghost use Rattle.database.specs.Opening.{IsOfAnotherSchema, LeavesOldOrMoved, OpensDesk};
 ghost use Rattle.database.specs.OldTablesRead.{OldTablesRead};
-ghost use Rattle.database.specs.Queries.{IsClean};
+ghost use Rattle.transactions.specs.Queries.{IsClean};
 ghost use Rattle.database.specs.steps.Found.{HasFound, IsStrange};
 ghost use Rattle.database.specs.steps.Moving.{MovesDesk};
 
 use crate::found::{Found, find_tables};
 use crate::reading::{read_inside, read_number, read_tables};
-use making::{StoreFault, move_rows, widen_tables};
+use making::{move_rows, widen_tables};
 use registry::Charter;
 use sqlite::{Alter, Connection, Transaction};
 use std::alloc::Global;
+use transactions::StoreFault;
 
 /// Finds which tables a database has. A connection in a transaction is refused, and a limit of its
 /// steps is lifted.

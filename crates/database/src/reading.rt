@@ -18,17 +18,15 @@ ghost use Rattle.tables.specs.Decode.{first_columns};
 ghost use Rattle.tables.specs.Groups.{AllApart, claim_entry, holder_entry};
 ghost use Rattle.tables.specs.Tables.{operator, pool, holder, holding, granted, auth, slurm, claim, entry, IsTree, OverDesk};
 ghost use Rattle.tables.proofs.GroupOrder.{claim_cmp, claim_orders, entry_row_cmp, of_holder_cmp, of_holder_total};
-ghost use Rattle.making.specs.Statements.{state_in, IsReady, WhenClean};
+ghost use Rattle.transactions.specs.Statements.{state_in, IsReady, WhenClean};
 ghost use Rattle.database.specs.TablesRead.{HoldSomeRows, ShowsSome, TablesRead};
-ghost use Rattle.database.specs.steps.Numbered.{AnswersSelect, AreRead, Rise, SelectsAll, shown_in};
+ghost use Rattle.database.specs.steps.Numbered.{AreRead, Rise, SelectsAll, shown_in};
+ghost use Rattle.transactions.specs.steps.Statements.{AnswersSelect};
 ghost use Rattle.database.specs.steps.Opened.{HasNumber, ShowsNumber, number_row, MakeAuths, ShowAuths, ShowExceptions, ShowHolders, ShowsCharter, claim_places, entry_places};
-ghost use Rattle.database.specs.Queries.{IsAskedOnce, IsClean, IsReadyToAsk, IsAskedInside, ObeysSchema};
+ghost use Rattle.transactions.specs.Queries.{IsAskedOnce, IsClean, IsReadyToAsk, IsAskedInside, ObeysSchema};
 
-use crate::query::ask_inside;
 use crate::rise::rise;
-use crate::values::read_all;
 use addr::{Name, Prefix, Span};
-use making::StoreFault;
 use moving::shows_old_schema;
 use registry::{Charter, Granted};
 use slurm::MOST_ENTRIES;
@@ -41,6 +39,7 @@ use tables::{
     SELECT_ALL_HOLDERS, SELECT_ALL_OPERATORS, SELECT_ALL_PREFIXES, SELECT_ALL_SPANS, SELECT_SCHEMA,
     group_entries, shows_schema,
 };
+use transactions::{StoreFault, ask_inside, read_all};
 
 /// A value that each row of one table shows.
 trait InTable: FromRow {

@@ -18,7 +18,7 @@ use Rattle.registry.specs.declared.asked.Request.TheVariants.{Command as Command
 use Rattle.registry.specs.declared.change.Change.{Change}
 use Rattle.registry.specs.declared.command.Command.{Command}
 use Rattle.tables.specs.TablesHold.{TablesHold}
-use Rattle.making.specs.Databases.{IsDeskTrees}
+use Rattle.transactions.specs.Databases.{IsDeskTrees}
 use Rattle.store.specs.StoreRows.{HoldsAfter, IsRead, MayLeave, LeavesOnly}
 use Rattle.desk.specs.Answer.{is_accepted, AnswersCommand, AnswersRequest}
 use Rattle.desk.specs.CrashOutcomes.{asked_on, AreKept, IsKept, LeavesAlong, MayBeLeft, StaysOpen, pending_after, pending_after_all}
@@ -29,7 +29,7 @@ use Rattle.desk.specs.declared.reply.Reply.{Reply}
 use Rattle.desk.specs.declared.reply.Reply.TheVariants.{Denied, Done, Imported, Unavailable}
 use Rattle.desk.specs.steps.Accepting.{AnswersAccepted}
 use Rattle.desk.proofs.DeskLemmas.{rows_carried}
-use Rattle.making.proofs.StatementLemmas.{taken_more}
+use Rattle.transactions.proofs.StatementLemmas.{taken_more}
 use Rattle.desk.proofs.RunLemmas.{Runs-append}
 
 -- the newest of the pending requests

@@ -10,7 +10,7 @@ use Rattle.registry.specs.RowsOfAll.{AllRows, HasRows}
 use Rattle.registry.specs.declared.asked.Asked.{Asked}
 use Rattle.registry.specs.declared.asked.Request.{Request}
 use Rattle.tables.specs.TablesHold.{TablesHold}
-use Rattle.making.specs.Databases.{IsDeskTrees}
+use Rattle.transactions.specs.Databases.{IsDeskTrees}
 use Rattle.store.specs.StoreRows.{connection_state}
 use Rattle.desk.specs.Answer.{is_accepted, AnswersRequest, IsAnswered}
 use Rattle.desk.specs.Desk.{charter_of, store_of, HoldsHistory, IsOnCleanDisk}

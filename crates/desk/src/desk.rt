@@ -10,7 +10,7 @@ ghost use Rattle.sqlite.specs.Steps.{over_memory};
 ghost use Rattle.loads.specs.Loads.{AreLoaded, AreNumbered};
 ghost use Rattle.store.specs.StoreRows.{connection_state, IfClean, OfHeldRows, IsRead, IsOpened};
 ghost use Rattle.store.specs.RefusedOpening.{IsGivenBack};
-ghost use Rattle.making.specs.Databases.{IsDeskWhileOpen, IsNew, IsUnused, LeavesNew, IsHonest};
+ghost use Rattle.transactions.specs.Databases.{IsDeskWhileOpen, IsNew, IsUnused, LeavesNew, IsHonest};
 ghost use Rattle.database.specs.Opening.{IsOfAnotherSchema};
 ghost use Rattle.desk.specs.Answer.{is_accepted, only_reads, IsAnswered};
 ghost use Rattle.desk.specs.CrashOutcomes.{asked_on, AreKept, HasNonePending, IsKept};

@@ -24,7 +24,7 @@ use Rattle.registry.specs.History.{History}
 use Rattle.registry.specs.declared.asked.Asked.{Asked}
 use Rattle.charters.specs.declared.charter.Charter.{Charter}
 use Rattle.tables.specs.TablesHold.{TablesHold}
-use Rattle.making.specs.Databases.{IsDeskTrees, IsDeskWhileOpen}
+use Rattle.transactions.specs.Databases.{IsDeskTrees, IsDeskWhileOpen}
 use Rattle.desk.specs.CrashOutcomes.{LeavesAtMost}
 use Rattle.desk.specs.Desk.{charter_of, ContinuesHistories, HoldsHistory, IsOnCleanDisk, Represents}
 use Rattle.desk.specs.Resumed.{FindsLeft, HoldHistory, MayBeFound, MayBeLeftInEitherSchema, ResumesHistories}

@@ -25,7 +25,7 @@ use Rattle.registry.specs.Verdict.{IsLegal}
 use Rattle.registry.specs.declared.asked.Asked.{Asked}
 use Rattle.charters.specs.CharterSets.{IsCharter}
 use Rattle.charters.specs.declared.charter.Charter.{Charter}
-use Rattle.making.specs.declared.fault.StoreFault.TheVariants.{Schema}
+use Rattle.transactions.specs.declared.fault.StoreFault.TheVariants.{Schema}
 use Rattle.store.specs.RefusedOpening.{IsGivenBack}
 use Rattle.desk.specs.CrashOutcomes.{HoldDesk, LeavesAtMost, MayBeLeft}
 use Rattle.desk.specs.Desk.{Represents}

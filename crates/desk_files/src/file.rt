@@ -7,7 +7,7 @@ ghost use Rattle.sqlite_wal.specs.Recovery.{Image};
 ghost use Rattle.sqlite.specs.Files.{file_state, image_of, over_files};
 ghost use Rattle.sqlite.specs.State.{HasCleanDisk};
 ghost use Rattle.registry.specs.History.{History};
-ghost use Rattle.making.specs.Databases.{IsUnused};
+ghost use Rattle.transactions.specs.Databases.{IsUnused};
 ghost use Rattle.desk.specs.CrashOutcomes.{HasNonePending};
 ghost use Rattle.desk.specs.Desk.{charter_of, HoldsHistory, IsOnCleanDisk};
 ghost use Rattle.desk_files.specs.DeskFiles.{ContinuesFiles, IsOfDatabase, IsOver, KeepDesk};

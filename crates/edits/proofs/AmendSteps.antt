@@ -36,11 +36,11 @@ use Rattle.tables.proofs.Selecting.{picks}
 use Rattle.tables.proofs.TreeRows.{filter_twice}
 use Rattle.tables.proofs.Updating as updating
 use Rattle.tables.proofs.Updating.{changed_if}
-use Rattle.database.specs.Laws.{ClaimsDiffer}
-use Rattle.making.specs.Statements.{IsReady, IsExecuted}
-use Rattle.making.specs.steps.Making.{PutsRows}
-use Rattle.database.proofs.Columns.{column_after}
-use Rattle.making.proofs.StatementLemmas.{has_schema, wrote, ready_still, sound_still}
+use Rattle.transactions.specs.Laws.{ClaimsDiffer}
+use Rattle.transactions.specs.Statements.{IsReady, IsExecuted}
+use Rattle.transactions.specs.steps.Statements.{PutsRows}
+use Rattle.tables.proofs.Columns.{column_after}
+use Rattle.transactions.proofs.StatementLemmas.{has_schema, wrote, ready_still, sound_still}
 use Rattle.edits.specs.steps.Statements.{EditsHolder, IsExecutedOn}
 use Rattle.edits.proofs.AuthSteps.{EditsBoth, entries_first, entries_again, auths_turned, both_local, puts_local, entries_named, claim_cells_of, entries_of_auth, rows_of_entries, entries_left, own_claim}
 use Rattle.edits.proofs.EditSteps.{is_of, of_holder, of_tests, name_kept}

@@ -34,10 +34,10 @@ use Rattle.tables.proofs.Deleting as deleting
 use Rattle.tables.proofs.HaveEntries.{edited_have_entries}
 use Rattle.tables.proofs.PartLemmas.{name_of_itself, IsLocal, turned_at, part_same, part_turned, put_local, take_local}
 use Rattle.tables.proofs.Texts.{put_terms}
-use Rattle.making.specs.Statements.{IsReady, IsExecuted}
-use Rattle.making.specs.steps.Making.{PutsRows}
-use Rattle.making.proofs.CharterSteps.{puts_then}
-use Rattle.making.proofs.StatementLemmas.{has_schema, wrote, ready_still, puts_row, sound_still}
+use Rattle.transactions.specs.Statements.{IsReady, IsExecuted}
+use Rattle.transactions.specs.steps.Statements.{PutsRows}
+use Rattle.transactions.proofs.PutLemmas.{puts_then}
+use Rattle.transactions.proofs.StatementLemmas.{has_schema, wrote, ready_still, puts_row, sound_still}
 use Rattle.edits.specs.steps.RowEdits.{with_auths}
 use Rattle.edits.specs.steps.Statements.{EditsHolder, KeepsExceptions, at_holder}
 use Rattle.edits.proofs.EditSteps.{is_of, of_holder, of_tests, taken}

@@ -27,16 +27,17 @@ use Rattle.tables.specs.declared.granted.TheConstants.{DELETE_GRANT, INSERT_GRAN
 use Rattle.tables.specs.declared.holder.TheConstants.{INSERT_HOLDER, UPDATE_CREATED, UPDATE_GRANTED}
 use Rattle.tables.specs.declared.holding.TheConstants.{DELETE_HOLDING, INSERT_HOLDING}
 use Rattle.edits.specs.steps.RowEdits.{with_holdings, without_holdings, with_grants, with_granted, with_created}
-use Rattle.making.specs.Statements.{IsReady, IsExecuted}
+use Rattle.transactions.specs.Statements.{IsReady, IsExecuted}
 use Rattle.edits.specs.steps.Statements.{EditsHolder, Registers}
 use Rattle.tables.proofs.Selecting.{picks}
 use Rattle.tables.proofs.CellLemmas.{cast_number, cast_holder, cast_holding, cast_granted, is_bytes, is_number_cell, number_of_number, same_address, same_family_number, appended}
 use Rattle.tables.proofs.HaveEntries.{turned_have_entries}
 use Rattle.tables.proofs.PartLemmas.{names, name_of-true, name_of_itself, put_local}
-use Rattle.making.proofs.StatementLemmas.{puts_row}
+use Rattle.transactions.proofs.StatementLemmas.{puts_row}
 use Rattle.edits.proofs.PartSteps.{puts_edit, takes_edit, changes_edit}
-use Rattle.edits.proofs.StepLemmas.{equals_text, equals_int, equals_blob, holder_test, turns_rows, in_holder, in_holdings, in_grants}
-use Rattle.database.proofs.Columns.{column_after}
+use Rattle.tables.proofs.Testing.{equals_text, equals_int, equals_blob, holder_test}
+use Rattle.edits.proofs.StepLemmas.{turns_rows, in_holder, in_holdings, in_grants}
+use Rattle.tables.proofs.Columns.{column_after}
 use Rattle.tables.proofs.Texts.{
   put_terms,
   equals,

@@ -21,16 +21,16 @@ use Rattle.tables.specs.Tables.{slurm, contents, is_table}
 use Rattle.tables.specs.TablesHold.{holder_part, holding_part, granted_part, claim_part, entry_part, HoldsPart, HoldsFromOne, TablesHold, at_positions, file_rows}
 use Rattle.tables.specs.steps.Edits.{Edits}
 use Rattle.tables.specs.declared.exception.TheConstants.{DELETE_EXCEPTIONS, INSERT_EXCEPTION}
-use Rattle.making.specs.Statements.{IsReady, IsExecuted}
-use Rattle.making.specs.steps.Making.{PutsRows}
+use Rattle.transactions.specs.Statements.{IsReady, IsExecuted}
+use Rattle.transactions.specs.steps.Statements.{PutsRows}
 use Rattle.edits.specs.steps.Statements.{TakesRows, entry_rows, IsBounded}
 use Rattle.edits.specs.Changes.{MakesChange, RowsBecome}
 use Rattle.tables.proofs.CellLemmas.{cast_exception}
 use Rattle.tables.proofs.Deleting as deleting
 use Rattle.tables.proofs.HeldFiles.{files_held, placed_from}
 use Rattle.tables.proofs.Texts.{put_terms, put_exception_is, take_exceptions_is}
-use Rattle.making.proofs.CharterSteps.{puts_then}
-use Rattle.making.proofs.StatementLemmas.{has_schema, wrote, ready_still, puts_row, sound_still, taken_more}
+use Rattle.transactions.proofs.PutLemmas.{puts_then}
+use Rattle.transactions.proofs.StatementLemmas.{has_schema, wrote, ready_still, puts_row, sound_still, taken_more}
 
 -- ---- one statement
 

@@ -14,11 +14,11 @@ use Rattle.registry.specs.RowsOfAll.{AllRows}
 use Rattle.tables.specs.Tables.{desk_tables}
 use Rattle.tables.specs.TablesHold.{part_rows, holder_part, TablesHold}
 use Rattle.tables.specs.declared.holder.TheConstants.{SELECT_COUNTERS}
-use Rattle.making.specs.Statements.{IsReady}
+use Rattle.transactions.specs.Statements.{IsReady}
 use Rattle.edits.specs.steps.Statements.{AnswersWhetherRegistered}
-use Rattle.edits.proofs.StepLemmas.{holder_test}
+use Rattle.tables.proofs.Testing.{holder_test}
 use Rattle.tables.proofs.PartLemmas.{names}
-use Rattle.database.proofs.QueryLemmas.{shown_open, reads_desk, answered_inside}
+use Rattle.transactions.proofs.QueryLemmas.{shown_open, reads_desk, answered_inside}
 use Rattle.tables.proofs.Selecting.{permuted}
 use Rattle.tables.proofs.Texts.{equals, counters_is}
 

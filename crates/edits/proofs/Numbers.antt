@@ -17,7 +17,7 @@ use Rattle.tables.specs.Tables.{desk_tables, claim, contents, IsTree}
 use Rattle.tables.specs.TablesHold.{HoldsPart, claim_part, part_rows}
 use Rattle.tables.proofs.Once.{differs}
 use Rattle.tables.proofs.PartLemmas.{names}
-use Rattle.database.specs.Laws.{number_columns, ClaimsDiffer}
+use Rattle.transactions.specs.Laws.{number_columns, ClaimsDiffer}
 
 module _ (h : List ℕ) where
   -- the holder and the number in the row of a claim

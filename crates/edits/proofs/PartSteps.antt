@@ -12,15 +12,15 @@ use Rattle.registry.specs.Rows.{Rows}
 use Rattle.tables.specs.Authorizations.{EachHasEntries}
 use Rattle.tables.specs.Tables.{as_strict, claim, desk_tables, is_table}
 use Rattle.tables.specs.TablesHold.{Part}
-use Rattle.making.specs.steps.Making.{PutsRows}
-use Rattle.making.specs.Statements.{IsReady, IsExecuted}
+use Rattle.transactions.specs.steps.Statements.{PutsRows}
+use Rattle.transactions.specs.Statements.{IsReady, IsExecuted}
 use Rattle.edits.specs.steps.Statements.{EditsHolder}
 use Rattle.tables.proofs.Deleting as deleting
 use Rattle.tables.proofs.Updating as updating
 use Rattle.tables.proofs.Updating.{changed_if}
 use Rattle.tables.proofs.Selecting.{picks}
 use Rattle.tables.proofs.PartLemmas.{names, put_local, take_local, change_local}
-use Rattle.making.proofs.StatementLemmas.{has_schema, wrote, ready_still}
+use Rattle.transactions.proofs.StatementLemmas.{has_schema, wrote, ready_still}
 use Rattle.edits.proofs.StepLemmas.{is_part_tree, AllEdited, edits_rows}
 use Rattle.tables.proofs.Texts.{Means}
 

@@ -25,7 +25,7 @@ use Rattle.registry.proofs.Names.{same_name-true}
 use Rattle.tables.specs.Tables.{slurm}
 use Rattle.tables.specs.TablesHold.{TablesHold}
 use Rattle.edits.specs.steps.RowEdits.{without_holdings, without_auths, is_registration}
-use Rattle.making.specs.Statements.{state_in, IfDone, StaysInside, IsReady}
+use Rattle.transactions.specs.Statements.{state_in, IfDone, StaysInside, IsReady}
 use Rattle.edits.specs.Changes.{RowChange, RowsBecome, MakesChange}
 use Rattle.edits.specs.steps.Statements.{at_holder, KeepsExceptions, EditsRows, EditsHolder, AnswersWhetherRegistered, Registers, HoldersBecome}
 use Rattle.tables.proofs.TreeRows.{filter_twice, all_kept, neither}

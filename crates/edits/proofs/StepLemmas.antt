@@ -1,17 +1,9 @@
--- What a statement means within a transaction, and what its edit of one table does to the rows of a holder.
-use Rattle.std.proofs.Common.{◌≡◌, ◌⊎◌, inl, inr, ℕ, Bool, true, false, ◌==◌, suc, List, [], ◌∷◌, map, drop, IsPermutation, None, Some, Option, option_map, IsSome, ℤ, refl, sym, ap, subst, ◌∙◌, is_eq}
+-- What an edit of one table does to the rows of a holder.
+use Rattle.std.proofs.Common.{◌≡◌, ◌⊎◌, inl, inr, ℕ, Bool, true, false, ◌==◌, List, [], ◌∷◌, map, IsPermutation, None, Some, Option, option_map, IsSome, refl, sym, ap, subst}
 use Rattle.std.proofs.lemmas.Bool.{eq-eqb, both_ways}
 use Rattle.std.specs.List.{list_any}
 use Rattle.sqlite.specs.Effect.{Database}
-use Rattle.sqlite_value.specs.declared.keys.Collation.TheVariants.{Binary}
-use Rattle.sqlite_value.specs.declared.value.Value.{Value}
-use Rattle.sqlite_value.specs.declared.value.Value.TheVariants.{Null, Int, Real, Text, Blob}
-use Rattle.sqlite_value.specs.Order.{Row, column, value_cmp}
-use Rattle.sqlite_value.proofs.OrderLemmas.{value_cmp-apart}
-use Rattle.sqlite_sql.specs.declared.ops.CompareOp.TheVariants.{Eq}
-use Rattle.sqlite_sql.specs.declared.ops.BinaryOp.TheVariants.{Compare}
-use Rattle.sqlite_typed.proofs.TestLemmas.{last_term}
-use Rattle.sqlite_sql.specs.Ops.{binary, is_true, from_truth}
+use Rattle.sqlite_value.specs.Order.{Row}
 use Rattle.addr.specs.declared.span.Span.{Span}
 use Rattle.registry.specs.declared.grant.Granted.{Granted}
 use Rattle.charters.specs.CharterSets.{CharterSets}
@@ -21,47 +13,11 @@ use Rattle.tables.specs.Authorizations.{EachHasEntries, HaveEntries}
 use Rattle.tables.specs.Tables.{contents, is_table}
 use Rattle.tables.specs.Cells.{schema_row, operator_row, prefix_cells}
 use Rattle.tables.specs.steps.Edits.{Edits}
-use Rattle.tables.specs.TablesHold.{Part, part_rows, is_name_of, holder_part, holding_part, granted_part, claim_part, entry_part, HoldsPart, HoldsCharter, HoldsFiles, TablesHold}
+use Rattle.tables.specs.TablesHold.{Part, part_rows, holder_part, holding_part, granted_part, claim_part, entry_part, HoldsPart, HoldsCharter, HoldsFiles, TablesHold}
 use Rattle.edits.specs.steps.Statements.{EditsRows, KeepsExceptions, at_holder}
 use Rattle.tables.proofs.HaveEntries.{edited_have_entries}
-use Rattle.tables.proofs.PartLemmas.{names, IsLocal, EditsPart, turned_at, part_same, part_turned}
-use Rattle.tables.proofs.Selecting.{picks}
-use Rattle.tables.proofs.Texts.{equals}
-use Rattle.making.proofs.StatementLemmas.{sound_still}
-use Rattle.database.proofs.Columns.{column_after}
-
-true_back : (b : Bool) → is_true (from_truth (Some b)) ≡ b
-true_back true = refl
-true_back false = refl
-
--- a comparison with a text, with a number and with bytes
-pub equals_text : (v : Value) (t : List ℕ) → is_true (binary (Compare Eq Binary) v (Text t)) ≡ is_eq (value_cmp v (Text t))
-unfolding binary
-equals_text Null t = sym (ap is_eq (value_cmp-apart Null (Text t) (λ e. cc)))
-equals_text (Int n) t = true_back _
-equals_text (Real x) t = true_back _
-equals_text (Text u) t = true_back _
-equals_text (Blob b) t = true_back _
-
-pub equals_int : (v : Value) (z : ℤ) → is_true (binary (Compare Eq Binary) v (Int z)) ≡ is_eq (value_cmp v (Int z))
-unfolding binary
-equals_int Null z = sym (ap is_eq (value_cmp-apart Null (Int z) (λ e. cc)))
-equals_int (Int n) z = true_back _
-equals_int (Real x) z = true_back _
-equals_int (Text u) z = true_back _
-equals_int (Blob b) z = true_back _
-
-pub equals_blob : (v : Value) (b : List ℕ) → is_true (binary (Compare Eq Binary) v (Blob b)) ≡ is_eq (value_cmp v (Blob b))
-unfolding binary
-equals_blob Null b = sym (ap is_eq (value_cmp-apart Null (Blob b) (λ e. cc)))
-equals_blob (Int n) b = true_back _
-equals_blob (Real x) b = true_back _
-equals_blob (Text u) b = true_back _
-equals_blob (Blob c) b = true_back _
-
--- the test of a statement on the rows of a holder
-pub holder_test : (place : ℕ) (h : List ℕ) (more r : Row) → picks (Text h ∷ more) (equals (suc place) 0 ∷ []) r ≡ names place h (drop 1 r)
-holder_test place h more r = last_term (equals_text (column r (suc place)) h ∙ ap (is_name_of h) (column_after r place))
+use Rattle.tables.proofs.PartLemmas.{IsLocal, EditsPart, turned_at, part_same, part_turned}
+use Rattle.transactions.proofs.StatementLemmas.{sound_still}
 
 -- the parts have trees of their own
 abbrev pub is_part_tree : ℕ → Bool

@@ -9,7 +9,7 @@ use Rattle.registry.specs.declared.change.Change.TheVariants.{Holders, Exception
 use Rattle.registry.specs.RowsOfAll.{AllRows, changed_rows}
 use Rattle.tables.specs.Tables.{slurm, contents}
 use Rattle.tables.specs.TablesHold.{TablesHold, HoldsFromOne}
-use Rattle.making.specs.Statements.{IsReady}
+use Rattle.transactions.specs.Statements.{IsReady}
 
 -- all rows after a change, from those before it
 abbrev pub RowChange : Type 0

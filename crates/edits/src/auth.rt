@@ -9,13 +9,12 @@ ghost use Rattle.tables.specs.Groups.{claim_entry};
 ghost use Rattle.tables.specs.TablesHold.{claim_part, entry_part};
 ghost use Rattle.edits.specs.steps.RowEdits.{with_auths, without_auths};
 ghost use Rattle.sqlite.specs.Values.{bound};
-ghost use Rattle.making.specs.Statements.{IsReady, WhenClean, StaysInside, IfDone, IfAnswered};
-ghost use Rattle.making.specs.steps.Making.{PutsRows};
+ghost use Rattle.transactions.specs.Statements.{IsReady, WhenClean, StaysInside, IfDone, IfAnswered};
+ghost use Rattle.transactions.specs.steps.Statements.{PutsRows};
 ghost use Rattle.edits.specs.steps.Statements.{IfEdited, IsExecutedOn};
 
 use crate::row::HolderRow;
 use addr::Name;
-use database::execute;
 use registry::{Auth, RoaPrefix};
 use sqlite::types::ValueRef;
 use sqlite::{Alter, Error, Transaction};
@@ -23,6 +22,7 @@ use tables::{
     Claim, DELETE_CLAIM, DELETE_ENTRIES, EntryRow, INSERT_CLAIM, INSERT_ENTRY, UPDATE_CLAIM,
     address_bytes, claim_of, claim_values, entry_row_of, entry_values, number_values,
 };
+use transactions::execute;
 
 /// Puts an authorization without its entries.
 fn put_claim<S: Alter>(
@@ -111,7 +111,7 @@ pub(crate) fn amend_auth<S: Alter>(
     ensures done { IfEdited S.Store result holder.now (edited (Amend auth.now)) tx.old tx.new }
     ensures inside { StaysInside S.Store tx.old tx.new }
 {
-    database::laws::claims_differ();
+    transactions::laws::claims_differ();
     let claim = claim_of(auth);
     let entries = auth.entries.as_slice();
     execute(tx, DELETE_ENTRIES, &number_values(holder, auth.number))?;

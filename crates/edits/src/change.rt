@@ -2,7 +2,7 @@
 ghost use Rattle.std.specs.Prelude.{◌≡◌, ◌≢◌, Err};
 ghost use Rattle.registry.specs.Rows.{edited, changed_by_one};
 ghost use Rattle.edits.specs.steps.RowEdits.{with_new_auths, with_replaced_holdings, is_registration};
-ghost use Rattle.making.specs.Statements.{IsReady, WhenClean, StaysInside, IfDone};
+ghost use Rattle.transactions.specs.Statements.{IsReady, WhenClean, StaysInside, IfDone};
 ghost use Rattle.edits.specs.steps.Statements.{IfEdited, HoldersBecome, each_holder};
 ghost use Rattle.edits.specs.Changes.{MakesChange, RowsBecome};
 
@@ -13,10 +13,10 @@ use crate::holder::{is_registered, register, set_created, set_granted};
 use crate::holding::take_holdings;
 use crate::row::{HolderRow, put_rows};
 use addr::{Name, Span};
-use database::StoreFault;
 use registry::{Auth, Change, Edit, Granted, HolderChange};
 use sqlite::{Alter, Error, Transaction};
 use std::slice;
+use transactions::StoreFault;
 
 /// Puts a grant, and its number as the counter.
 fn put_new_grant<S: Alter>(

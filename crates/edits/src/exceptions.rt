@@ -5,13 +5,12 @@ ghost use Rattle.tables.specs.Cells.{exception_row};
 ghost use Rattle.tables.specs.Tables.{slurm};
 ghost use Rattle.tables.specs.TablesHold.{file_rows};
 ghost use Rattle.tables.specs.declared.exception.Exception.{Exception as AnyException};
-ghost use Rattle.making.specs.Statements.{IsReady, WhenClean, IfDone, StaysInside};
-ghost use Rattle.making.specs.steps.Making.{PutsRows};
+ghost use Rattle.transactions.specs.Statements.{IsReady, WhenClean, IfDone, StaysInside};
+ghost use Rattle.transactions.specs.steps.Statements.{PutsRows};
 ghost use Rattle.edits.specs.Changes.{MakesChange, RowsBecome};
 ghost use Rattle.edits.specs.steps.Statements.{TakesRows, entry_rows, IsBounded};
 
 use addr::{Name, Vrp};
-use database::execute;
 use registry::Change;
 use slurm::{Filter, NamedSlurm, SlurmSet};
 use sqlite::{Alter, Error, Transaction};
@@ -19,6 +18,7 @@ use tables::{
     DELETE_EXCEPTIONS, Exception, ExceptionRow, INSERT_EXCEPTION, address_bytes, exception_first,
     exception_values,
 };
+use transactions::execute;
 
 /// An entry of a SLURM file, which is put as a row of the table.
 trait ExceptionEntry {

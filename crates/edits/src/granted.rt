@@ -4,17 +4,17 @@ ghost use Rattle.std.specs.Prelude.{[], ◌∷◌};
 ghost use Rattle.registry.specs.declared.change.Edit.TheVariants.{Revoke};
 ghost use Rattle.registry.specs.Rows.{edited};
 ghost use Rattle.edits.specs.steps.RowEdits.{with_grants};
-ghost use Rattle.making.specs.Statements.{IsReady, WhenClean, StaysInside};
+ghost use Rattle.transactions.specs.Statements.{IsReady, WhenClean, StaysInside};
 ghost use Rattle.edits.specs.steps.Statements.{IfEdited};
 
 use crate::row::HolderRow;
 use addr::Name;
-use database::execute;
 use registry::Granted;
 use sqlite::{Alter, Error, Transaction};
 use tables::{
     DELETE_GRANT, INSERT_GRANT, address_bytes, granted_values, number_values, scope_first,
 };
+use transactions::execute;
 
 impl HolderRow for Granted {
     ghost added = { with_grants };

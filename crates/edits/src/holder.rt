@@ -1,14 +1,14 @@
 //! The registered holders and their counters, as rows of the table `holder`.
 ghost use Rattle.edits.specs.steps.RowEdits.{with_granted, with_created};
-ghost use Rattle.making.specs.Statements.{IsReady, WhenClean, StaysInside, IfDone, IfAnswered};
+ghost use Rattle.transactions.specs.Statements.{IsReady, WhenClean, StaysInside, IfDone, IfAnswered};
 ghost use Rattle.edits.specs.steps.Statements.{IfEdited, AnswersWhetherRegistered, Registers};
 
 use addr::Name;
-use database::execute;
 use sqlite::{Alter, Error, Transaction};
 use tables::{
     INSERT_HOLDER, SELECT_COUNTERS, UPDATE_CREATED, UPDATE_GRANTED, name_values, number_values,
 };
+use transactions::execute;
 
 /// Sets how many grants were made at the holder.
 pub(crate) fn set_granted<S: Alter>(

@@ -2,14 +2,14 @@
 ghost use Rattle.std.proofs.Common.{append-nil, append_assoc};
 ghost use Rattle.std.specs.Prelude.{[], ◌∷◌};
 ghost use Rattle.edits.specs.steps.RowEdits.{with_holdings, without_holdings};
-ghost use Rattle.making.specs.Statements.{IsReady, WhenClean, StaysInside};
+ghost use Rattle.transactions.specs.Statements.{IsReady, WhenClean, StaysInside};
 ghost use Rattle.edits.specs.steps.Statements.{IfEdited};
 
 use crate::row::HolderRow;
 use addr::{Name, Span};
-use database::execute;
 use sqlite::{Alter, Error, Transaction};
 use tables::{DELETE_HOLDING, INSERT_HOLDING, address_bytes, holding_values};
+use transactions::execute;
 
 impl HolderRow for Span {
     ghost added = { with_holdings };

@@ -1,7 +1,7 @@
 //! Rows of a holder that are put into their table.
 ghost use Rattle.std.specs.Prelude.{◌≡◌, List, [], ◌∷◌, ◌++◌};
 ghost use Rattle.registry.specs.Rows.{Rows};
-ghost use Rattle.making.specs.Statements.{IsReady, WhenClean, StaysInside};
+ghost use Rattle.transactions.specs.Statements.{IsReady, WhenClean, StaysInside};
 ghost use Rattle.edits.specs.steps.Statements.{IfEdited};
 
 use addr::Name;

@@ -42,10 +42,10 @@ use Rattle.tables.proofs.CellsOnce.{one_prefix, same_values}
 use Rattle.tables.proofs.Selecting.{from_table, no_limit, picks, permuted, sorted}
 use Rattle.tables.proofs.TreeRows.{filter_twice}
 use Rattle.tables.proofs.Texts.{Means, upwards, kind_tests, filters_is, assertions_is}
-use Rattle.database.proofs.Columns.{column_after, shown_at, shown_columns}
+use Rattle.tables.proofs.Columns.{column_after, shown_at, shown_columns}
 use Rattle.loads.proofs.Finding.{of_contents}
 use Rattle.loads.proofs.Giving.{one_vrp}
-use Rattle.edits.proofs.StepLemmas.{equals_int, equals_text}
+use Rattle.tables.proofs.Testing.{equals_int, equals_text}
 
 numbers_less : (m n : ℕ) → m < n → int_cmp (pos m) (pos n) ≡ Less
 numbers_less m n less = grind (arith, ints, less)

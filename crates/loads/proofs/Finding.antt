@@ -43,8 +43,8 @@ use Rattle.tables.proofs.ReadLemmas.{are_whole}
 use Rattle.tables.proofs.TreeRows.{filter_twice}
 use Rattle.loads.specs.steps.Queries.{by_column, AreAnswered, Selects, SelectsWith, entries_given, gives_entry}
 use Rattle.tables.proofs.Selecting.{from_table, no_limit, picks, permuted, sorted}
-use Rattle.database.proofs.Columns.{column_after, shown_at, shown_columns, grant_places, grant_shown}
-use Rattle.edits.proofs.StepLemmas.{equals_blob, equals_int, equals_text, holder_test}
+use Rattle.tables.proofs.Columns.{column_after, shown_at, shown_columns, grant_places, grant_shown}
+use Rattle.tables.proofs.Testing.{equals_blob, equals_int, equals_text, holder_test}
 use Rattle.sqlite_typed.proofs.TestLemmas.{last_term}
 use Rattle.tables.proofs.GroupCells.{by_entry}
 use Rattle.tables.proofs.PartLemmas.{names}

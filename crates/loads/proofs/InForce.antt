@@ -40,9 +40,9 @@ use Rattle.tables.proofs.PartLemmas.{name_of_text}
 use Rattle.tables.proofs.Selecting.{picks, permuted, sorted}
 use Rattle.tables.proofs.SomeRow.{has_permuted, of_some, in_table, has_entry_row, entry_row_of}
 use Rattle.tables.proofs.Texts.{upwards}
-use Rattle.database.specs.Laws.{payload_columns, ClaimsDiffer}
-use Rattle.database.proofs.Columns.{shown_at, shown_columns}
-use Rattle.database.proofs.QueryLemmas.{reads_desk}
+use Rattle.transactions.specs.Laws.{payload_columns, ClaimsDiffer}
+use Rattle.tables.proofs.Columns.{shown_at, shown_columns}
+use Rattle.transactions.proofs.QueryLemmas.{reads_desk}
 use Rattle.loads.specs.steps.InForce.{claim_columns, entry_columns, payload_of, claim_key, payload_key, key_order, is_claimed, ClaimsRise, is_open_on, claims_on, is_claimed_on, FindsClaims, FindsPayloads, FindsInForce, IsPayloadOn}
 use Rattle.loads.proofs.Claimed.{key_total}
 use Rattle.loads.proofs.Finding.{of_contents}

@@ -20,8 +20,8 @@ use Rattle.tables.proofs.ClaimTexts.{thousandth_claim_is}
 use Rattle.tables.proofs.PartLemmas.{names}
 use Rattle.tables.proofs.Selecting.{from_table, no_limit, picks, permuted}
 use Rattle.tables.proofs.Texts.{equals}
-use Rattle.database.proofs.QueryLemmas.{reads_desk}
-use Rattle.edits.proofs.StepLemmas.{holder_test}
+use Rattle.transactions.proofs.QueryLemmas.{reads_desk}
+use Rattle.tables.proofs.Testing.{holder_test}
 use Rattle.loads.specs.Loads.{auths_held}
 use Rattle.loads.proofs.Finding.{of_contents}
 

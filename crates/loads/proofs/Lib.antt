@@ -1,3 +1,4 @@
+mod AuthsFound
 mod Finding
 pub mod Loading
 mod NumberFound
@@ -11,7 +12,6 @@ pub mod Giving
 pub mod NamedFiles
 pub mod NamesFound
 mod EntriesFound
-mod Asking
 pub mod HeldAlike
 mod RunsApart
 mod RunsBelow

@@ -33,8 +33,8 @@ use Rattle.tables.specs.declared.holder.Counters.{Counters}
 use Rattle.registry.specs.Values.{IsCount, GrantFits, AuthFits, FitIfAny}
 use Rattle.registry.specs.RowsOfAll.{AllRows}
 use Rattle.tables.proofs.CellsOnce.{counters_of_rows}
-use Rattle.database.proofs.AuthsFound.{by_number}
-use Rattle.making.proofs.StatementLemmas.{taken_more}
+use Rattle.loads.proofs.AuthsFound.{by_number}
+use Rattle.transactions.proofs.StatementLemmas.{taken_more}
 
 -- one more run in a loop
 pub one_run_more : (spans : List Span) (i : ℕ) (s : Span) (before after : List Span) → i < length spans → s ≡ get_or spans i s → HaveSame (take i spans) before

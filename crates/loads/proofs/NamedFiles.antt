@@ -16,7 +16,7 @@ use Rattle.sqlite_rules.specs.Lists.{Has}
 use Rattle.sqlite_rules.proofs.ListLemmas.{all_has}
 use Rattle.registry.specs.Values.{ExceptionsFit, FileFits, FilesFit, FilterFits, VrpFits}
 use Rattle.registry.proofs.Names.{same_name-same, same_name-true}
-use Rattle.making.proofs.StatementLemmas.{taken_more}
+use Rattle.transactions.proofs.StatementLemmas.{taken_more}
 use Rattle.slurm.specs.Exceptions.{Exceptions}
 use Rattle.slurm.specs.SlurmSets.{exceptions_of, has_entries, RiseByName}
 use Rattle.slurm.specs.declared.set.NamedSlurm.{NamedSlurm}

@@ -46,8 +46,8 @@ use Rattle.tables.proofs.PartLemmas.{name_of-true, name_of_itself}
 use Rattle.tables.proofs.Selecting.{plain_trees}
 use Rattle.tables.proofs.SomeRow.{has_permuted}
 use Rattle.tables.proofs.Texts.{distinct_column, files_is}
-use Rattle.database.specs.steps.Numbered.{AnswersSelect}
-use Rattle.database.proofs.Columns.{column_after}
+use Rattle.transactions.specs.steps.Statements.{AnswersSelect}
+use Rattle.tables.proofs.Columns.{column_after}
 use Rattle.loads.proofs.NamedFiles.{named, names_rise, one_rising, said}
 
 -- the row of a name, and what a query puts in order that shows it and is sorted by it

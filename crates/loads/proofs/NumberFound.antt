@@ -25,9 +25,9 @@ use Rattle.tables.specs.TablesHold.{TablesHold, claim_part, items_if_any, part_r
 use Rattle.tables.proofs.GroupCells.{by_entry}
 use Rattle.tables.proofs.PartLemmas.{names}
 use Rattle.tables.proofs.TreeRows.{filter_twice}
-use Rattle.database.specs.Laws.{ClaimsDiffer, number_columns}
+use Rattle.transactions.specs.Laws.{ClaimsDiffer, number_columns}
 use Rattle.loads.specs.steps.Queries.{by_column}
-use Rattle.database.proofs.AuthsFound.{HasEntries, are_some, held_entries, in_order, key_of}
+use Rattle.loads.proofs.AuthsFound.{HasEntries, are_some, held_entries, in_order, key_of}
 use Rattle.loads.proofs.Finding.{claims_kept, claims_numbered, entries_numbered, has_number, is_numbered}
 use Rattle.loads.proofs.Loading.{claim_fits, entries_of_fit}
 

@@ -30,7 +30,7 @@ use Rattle.loads.specs.Loads.{MeetsSome}
 use Rattle.tables.proofs.Addresses.{addresses_in_order}
 use Rattle.tables.proofs.SomeRow.{of_some, in_table}
 use Rattle.tables.proofs.Selecting.{picks, first_shown}
-use Rattle.database.proofs.QueryLemmas.{reads_desk}
+use Rattle.transactions.proofs.QueryLemmas.{reads_desk}
 use Rattle.tables.proofs.Texts.{overlap_tests, overlap_is}
 
 pub family_tested : (f g : Family) → int_eq (pos (family_number f)) (pos (family_number g)) ≡ family_eq f g

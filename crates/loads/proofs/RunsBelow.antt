@@ -33,7 +33,7 @@ use Rattle.tables.proofs.Addresses.{addresses_in_order}
 use Rattle.tables.proofs.PartLemmas.{name_of-true, name_of_itself}
 use Rattle.tables.proofs.SomeRow.{has_permuted, of_some, in_table}
 use Rattle.tables.proofs.Selecting.{from_table, picks, outputs}
-use Rattle.database.proofs.QueryLemmas.{reads_desk}
+use Rattle.transactions.proofs.QueryLemmas.{reads_desk}
 use Rattle.tables.proofs.Texts.{below_tests, last_first, run_below_is}
 use Rattle.loads.proofs.Finding.{of_contents}
 use Rattle.loads.proofs.NumberFound.{last_of_one}

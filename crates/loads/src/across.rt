@@ -6,12 +6,11 @@ ghost use Rattle.sqlite_value.specs.declared.value.Value.TheVariants.{Blob};
 ghost use Rattle.sqlite_value.specs.Order.{Row as Cells, column};
 ghost use Rattle.sqlite_value.specs.Value.{owned};
 ghost use Rattle.tables.specs.Cells.{family_number, number_cell};
-ghost use Rattle.database.specs.Queries.{IsAsked, IsClean, IsReadyToAsk};
+ghost use Rattle.transactions.specs.Queries.{IsAsked, IsClean, IsReadyToAsk};
 ghost use Rattle.loads.specs.steps.InForce.{ClaimsRise, FindsClaims, FindsInForce, FindsPayloads, IsPayloadOn, claim_key, is_claimed, key_order, payload_key, payload_of};
 ghost use Rattle.loads.specs.Loads.{IsOfAll, MeetsSome};
 
 use addr::{Day, Family, Prefix};
-use database::ask;
 use sqlite::types::{ToSql, ValueRef};
 use sqlite::{Alter, Connection, Error, Row};
 use sqlite_value::order::compare;
@@ -19,6 +18,7 @@ use std::cmp::Ordering;
 use tables::{
     SELECT_CLAIMS_IN_FORCE, SELECT_OVERLAP, SELECT_PAYLOADS, address_bytes, family_number,
 };
+use transactions::ask;
 
 /// A family, and the bytes of a first and a last address.
 fn run_values<'a>(family: Family, first: &'a [u8], last: &'a [u8]) -> [ValueRef<'a>; 3]
@@ -121,7 +121,7 @@ pub(crate) fn in_force_rows<S: Alter>(conn: &mut Connection<S>, day: Day) -> Res
 {
     // For the proof: its contract says that what the connection shows obeys the schema.
     let _schema = conn.schema();
-    database::laws::claims_differ();
+    transactions::laws::claims_differ();
     let claims = claims_in_force(conn, day)?;
     let mut payloads = all_payloads(conn)?;
     keep_claimed(&claims, &mut payloads);

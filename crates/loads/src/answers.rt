@@ -7,14 +7,13 @@ ghost use Rattle.registry.specs.RoaPrefixes.{with_maxes};
 ghost use Rattle.registry.specs.Values.{FitIfAny};
 ghost use Rattle.registry.specs.Verdict.{maxes_fit};
 ghost use Rattle.tables.specs.TablesHold.{items_if_any};
-ghost use Rattle.database.specs.Queries.{IsAsked, IsClean, IsReadyToAsk};
+ghost use Rattle.transactions.specs.Queries.{IsAsked, IsClean, IsReadyToAsk};
 ghost use Rattle.loads.specs.Loads.{AreAnswers, AreHeld, IsForAmend, IsForCreate, IsForGrant, IsOf, IsOfAll, IsOpenWith, IsToldWhereApart, auths_held, created_if_any, is_other, made_if_any, some_gives};
 ghost use Rattle.loads.specs.steps.Queries.{entries_given};
 
 use crate::below::is_held;
 use crate::load::{Numbered, load_counters, load_grants, load_numbered, load_selected};
 use addr::{Asn, Name};
-use database::{StoreFault, ask};
 use registry::{Auth, AuthTerms, CreateAnswers, Granted, MOST_AUTHORIZATIONS, RoaPrefix};
 use sqlite::{Alter, Connection, Error};
 use std::alloc::Global;
@@ -22,6 +21,7 @@ use tables::{
     EntryRow, SELECT_GIVEN_ENTRIES, SELECT_THOUSANDTH_CLAIM, address_bytes, given_values,
     name_values,
 };
+use transactions::{StoreFault, ask};
 
 // ---- for a grant
 

@@ -7,17 +7,17 @@ ghost use Rattle.addr.specs.Spans.{HaveAll};
 ghost use Rattle.addr.specs.declared.span.Span.{Span};
 ghost use Rattle.tables.specs.Cells.{family_number, holding_row, number_cell};
 ghost use Rattle.tables.specs.TablesHold.{items_if_any};
-ghost use Rattle.database.specs.Queries.{IsAsked, IsClean, IsReadyToAsk};
+ghost use Rattle.transactions.specs.Queries.{IsAsked, IsClean, IsReadyToAsk};
 ghost use Rattle.loads.specs.Loads.{AreRunsApart, IsOfAll, IsToldWhereApart, MeetsSome};
 ghost use Rattle.loads.specs.steps.Below.{IsRowBelow};
 
 use crate::across::cell;
 use addr::{Family, Name, Prefix};
-use database::ask;
 use sqlite::types::{ToSql, ValueRef};
 use sqlite::{Alter, Connection, Error, Row};
 use sqlite_value::order::compare;
 use tables::{SELECT_RUN_BELOW, address_bytes, family_number};
+use transactions::ask;
 
 /// A family, and the bytes of an address.
 fn below_values<'a>(family: Family, address: &'a [u8]) -> [ValueRef<'a>; 2]

@@ -5,16 +5,16 @@ ghost use Rattle.registry.specs.Values.{ExceptionsFit, FilesFit};
 ghost use Rattle.slurm.specs.Exceptions.{Exceptions};
 ghost use Rattle.slurm.specs.SlurmSets.{exceptions_of};
 ghost use Rattle.slurm.specs.declared.exceptions.TheConstants.{MOST_ENTRIES};
-ghost use Rattle.database.specs.Queries.{IsAsked, IsClean, IsReadyToAsk};
+ghost use Rattle.transactions.specs.Queries.{IsAsked, IsClean, IsReadyToAsk};
 ghost use Rattle.loads.specs.Loads.{AreFilesOf, IsOfAll, IsOpenWith};
 ghost use Rattle.loads.specs.steps.Queries.{SelectsEntries};
 
 use addr::{Name, Vrp};
-use database::{StoreFault, ask, read_all};
 use slurm::{Filter, Slurm};
 use sqlite::{Alter, Connection};
 use std::alloc::Global;
 use tables::{FromRow, SELECT_ASSERTIONS, SELECT_FILES, SELECT_FILTERS, name_values};
+use transactions::{StoreFault, ask, read_all};
 
 /// An entry of a SLURM file, which a row of the table of exceptions shows.
 pub(crate) trait ExceptionEntry: FromRow {

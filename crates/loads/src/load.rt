@@ -16,13 +16,12 @@ ghost use Rattle.registry.specs.Verdict.{auth_of_number};
 ghost use Rattle.loads.specs.Loads.{HaveSame, AreGrants, AreHoldings, AreInOrder, AreLoaded, AreNumbered, AllGiveOn, IsOf, IsOfAll, IsOpenWith, auths_held};
 ghost use Rattle.tables.specs.Tables.{OverDesk};
 ghost use Rattle.tables.specs.TablesHold.{items_if_any};
-ghost use Rattle.database.specs.Queries.{IsAsked, IsClean, IsReadyToAsk};
+ghost use Rattle.transactions.specs.Queries.{IsAsked, IsClean, IsReadyToAsk};
 ghost use Rattle.loads.specs.steps.Queries.{SelectsWith, counters_if_any};
 
 use crate::across::in_force_rows;
 use crate::select::OfHolder;
 use addr::{Day, Holdings, Name, Span, Vrp};
-use database::{StoreFault, ask, read_all};
 use registry::{Auth, Granted, HolderRows};
 use sqlite::types::ValueRef;
 use sqlite::{Alter, Connection};
@@ -31,6 +30,7 @@ use tables::{
     Claim, Counters, EntryRow, FromRow, SELECT_NUMBERED_CLAIM, SELECT_NUMBERED_ENTRIES, auths_of,
     name_values, number_values,
 };
+use transactions::{StoreFault, ask, read_all};
 
 /// The addresses of the runs, as maximal runs.
 fn holdings_of(alloc: Global, spans: &[Span]) -> Result<Holdings, AllocError>
@@ -202,7 +202,7 @@ fn load_auths<S: Alter>(
 {
     // For the proof: its contract says that what the connection shows obeys the schema.
     let _schema = conn.schema();
-    database::laws::claims_differ();
+    transactions::laws::claims_differ();
     let claims: Vec<Claim> = load_values(conn, alloc, holder)?;
     let rows: Vec<EntryRow> = load_values(conn, alloc, holder)?;
     auths_of(alloc, &claims, &rows)?.ok_or(StoreFault::Schema)
@@ -228,7 +228,7 @@ fn load_auth<S: Alter>(
 {
     // For the proof: its contract says that what the connection shows obeys the schema.
     let _schema = conn.schema();
-    database::laws::claims_differ();
+    transactions::laws::claims_differ();
     let values = number_values(holder, number);
     let claims: Vec<Claim> = load_selected(conn, alloc, SELECT_NUMBERED_CLAIM, &values)?;
     let rows: Vec<EntryRow> = load_selected(conn, alloc, SELECT_NUMBERED_ENTRIES, &values)?;
@@ -311,7 +311,7 @@ pub fn load_vrps<S: Alter>(
 {
     // For the proof: its contract says that what the connection shows obeys the schema.
     let _schema = conn.schema();
-    database::laws::entries_differ();
+    transactions::laws::entries_differ();
     let rows = in_force_rows(conn, day)?;
     read_all(alloc, &rows)
 }

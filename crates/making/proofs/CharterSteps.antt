@@ -1,7 +1,5 @@
 -- What putting the charter does to tables that were just made.
-use Rattle.std.proofs.Common.{◌≡◌, ◌≢◌, ℕ, pos, ◌+◌, ◌<◌, List, [], ◌∷◌, ◌++◌, map, take, get_or, length, codes, true, refl, sym, ap, subst, ◌∙◌, append-nil, append_assoc, IsPermutation}
-use Rattle.std.proofs.lemmas.List.{map-append}
-use Rattle.std.proofs.lemmas.List.Sorted.{IsPermutation-append_comm, IsPermutation-append_left, IsPermutation-append_right, IsPermutation-refl, IsPermutation-trans}
+use Rattle.std.proofs.Common.{◌≡◌, ◌≢◌, ℕ, pos, ◌+◌, List, [], ◌∷◌, ◌++◌, map, codes, true, refl, sym, ap, subst, ◌∙◌, append-nil, IsPermutation}
 use Rattle.sqlite.specs.Effect.{Database}
 use Rattle.sqlite.specs.State.{State}
 use Rattle.sqlite_value.specs.declared.value.Value.TheVariants.{Null, Int, Text}
@@ -16,12 +14,13 @@ use Rattle.tables.specs.TablesHold.{holder_part, holding_part, granted_part, cla
 use Rattle.tables.specs.declared.meta.TheConstants.{INSERT_SCHEMA}
 use Rattle.tables.specs.declared.operator.TheConstants.{INSERT_OPERATOR}
 use Rattle.tables.specs.declared.pool.TheConstants.{INSERT_PREFIX}
-use Rattle.making.specs.Statements.{IsReady, IsExecuted}
+use Rattle.transactions.specs.Statements.{IsReady, IsExecuted}
 use Rattle.making.specs.Making.{IsMadeTo}
-use Rattle.making.specs.steps.Making.{PutsRows, HasCharter}
+use Rattle.making.specs.steps.Making.{HasCharter}
+use Rattle.transactions.specs.steps.Statements.{PutsRows}
 use Rattle.tables.proofs.CellLemmas.{cast_schema, cast_prefix}
 use Rattle.tables.proofs.HaveEntries.{none_have_entries}
-use Rattle.making.proofs.StatementLemmas.{sound_still, puts_row, taken_more}
+use Rattle.transactions.proofs.StatementLemmas.{sound_still, puts_row}
 use Rattle.tables.proofs.Inserting.{each_table}
 use Rattle.making.proofs.MakingSteps.{none_held, none_of_files}
 use Rattle.tables.proofs.Texts.{put_terms, put_schema_is, put_operator_is, put_prefix_is}
@@ -37,37 +36,6 @@ module _ (old new : State) where
   puts_prefix p = puts_row 2 pool refl old new (prefix_cells p) (put_terms 3) 4 (prefix_cells p) put_prefix_is refl (cast_prefix p)
 
 module _ (tree : ℕ) where
-  pub puts_none : (s : State) → IsReady s → PutsRows tree [] s s
-  puts_none s ready = record {
-    ready = ready;
-    sound = λ sound. sound;
-    edits = record { schema = refl; others = λ t is other. refl; rows = IsPermutation-refl _; whole = λ whole. whole };
-  }
-
-  -- rows that are put after others
-  pub puts_then : (rows more : List Row) (a b c : State) → PutsRows tree rows a b → PutsRows tree more b c → PutsRows tree (rows ++ more) a c
-  puts_then rows more a b c first second =
-      let before = contents (a.now.trees tree) in
-      let turned : IsPermutation (rows ++ more ++ before) (more ++ (rows ++ before)) =
-      subst (IsPermutation (rows ++ more ++ before)) (append_assoc more rows before) (IsPermutation-append_left before _ _ (IsPermutation-append_comm rows more)) in
-      record {
-        ready = second.ready;
-        sound = λ sound. second.sound (first.sound sound);
-        edits = record {
-          schema = second.edits.schema ∙ first.edits.schema;
-          others = λ t is other. second.edits.others t is other ∙ first.edits.others t is other;
-          rows = IsPermutation-trans _ _ _ turned (IsPermutation-trans _ _ _ (IsPermutation-append_right more _ _ first.edits.rows) second.edits.rows);
-          whole = λ whole. second.edits.whole (first.edits.whole whole);
-        };
-      }
-
-  -- one more step of a loop
-  pub puts_along : {X : Type 0} (cells : X → Row) (xs : List X) (i : ℕ) (x : X) (a b c : State) → i < length xs → x ≡ get_or xs i x
-      → PutsRows tree (map cells (take i xs)) a b → PutsRows tree (cells x ∷ []) b c → PutsRows tree (map cells (take (i + 1) xs)) a c
-  puts_along cells xs i x a b c low is before put =
-      let more = ap (map cells) (taken_more xs i x low is) ∙ map-append cells (take i xs) (x ∷ []) in
-      subst (λ rows. PutsRows tree rows a c) (sym more) (puts_then (map cells (take i xs)) (cells x ∷ []) a b c before put)
-
   -- rows that were put into an empty table are its rows
   first_rows : (rows : List Row) (a b : Database) → Edits tree (λ table. rows ++ table) a b → a.trees tree ≡ [] → IsPermutation rows (contents (b.trees tree))
   first_rows rows a b e none = subst (λ l. IsPermutation l (contents (b.trees tree))) (ap (λ t. rows ++ contents t) none ∙ append-nil rows) e.rows

@@ -1,4 +1,3 @@
-pub mod StatementLemmas
 mod Creates
 mod MakingSteps
 mod MovingSteps

@@ -20,7 +20,7 @@ use Rattle.moving.specs.OldTables.{old_schema, old_schema_without_index}
 use Rattle.making.specs.Moving.{IsOverOld}
 use Rattle.making.specs.Making.{schema_so_far, tables_so_far, IsMadeTo}
 use Rattle.making.specs.steps.Making.{Redefines, MakesTable, MakesClaimTables}
-use Rattle.making.specs.Statements.{IsExecuted}
+use Rattle.transactions.specs.Statements.{IsExecuted}
 use Rattle.tables.proofs.HeldFiles.{no_files_held}
 use Rattle.tables.proofs.Inserting.{went, same_value, each_table}
 use Rattle.making.proofs.Creates.{Defines, DefinesIndex, index_defined, old_index_defined}

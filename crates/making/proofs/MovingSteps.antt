@@ -15,12 +15,12 @@ use Rattle.moving.proofs.Texts.{copy_claims_is, copy_entries_is, take_auths_is, 
 use Rattle.tables.specs.Tables.{desk_tables, desk_schema}
 use Rattle.tables.specs.declared.holding.TheConstants.{CREATE_HOLDING_INDEX}
 use Rattle.tables.proofs.Inserting.{went, same_value, each_table}
-use Rattle.making.specs.Statements.{IsReady, IsExecuted}
+use Rattle.transactions.specs.Statements.{IsReady, IsExecuted}
 use Rattle.making.specs.Making.{IsOver}
 use Rattle.making.specs.steps.Making.{MakesClaimTables, DropsIndex}
 use Rattle.making.specs.Moving.{old_schema_if, wide_schema, WidensTables, MovesRows}
 use Rattle.making.proofs.MakingSteps.{makes_index}
-use Rattle.making.proofs.StatementLemmas.{has_schema, wrote, ready_still}
+use Rattle.transactions.proofs.StatementLemmas.{has_schema, wrote, ready_still}
 
 -- ---- the tables
 

@@ -1,6 +1,3 @@
-pub mod Fault
-pub mod Databases
-pub mod Statements
 pub mod Making
 pub mod Moving
 pub mod steps

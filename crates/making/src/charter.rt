@@ -2,17 +2,18 @@
 ghost use Rattle.std.specs.Prelude.{[], ◌∷◌, map};
 ghost use Rattle.tables.specs.Cells.{schema_row, operator_row, prefix_cells};
 ghost use Rattle.tables.specs.Tables.{meta, operator, pool};
-ghost use Rattle.making.specs.Statements.{IsReady, WhenClean, IfDone, StaysInside};
+ghost use Rattle.transactions.specs.Statements.{IsReady, WhenClean, IfDone, StaysInside};
 ghost use Rattle.making.specs.Making.{IsMadeTo};
-ghost use Rattle.making.specs.steps.Making.{PutsRows, HasCharter};
+ghost use Rattle.making.specs.steps.Making.{HasCharter};
+ghost use Rattle.transactions.specs.steps.Statements.{PutsRows};
 
-use crate::statement::execute;
 use addr::{Name, Prefix};
 use registry::Charter;
 use sqlite::{Alter, Error, Transaction};
 use tables::{
     INSERT_OPERATOR, INSERT_PREFIX, INSERT_SCHEMA, address_bytes, name_values, prefix_values,
 };
+use transactions::execute;
 
 /// Puts the number of the schema.
 fn put_schema<S: Alter>(tx: &mut Transaction<'_, S>) -> Result<(), Error>

@@ -3,12 +3,8 @@
 #![tactic(auto)]
 
 mod charter;
-mod fault;
 mod making;
 mod move_tables;
-mod statement;
 
-pub use fault::StoreFault;
 pub use making::{make_old_schema, make_schema, make_tables};
 pub use move_tables::{move_rows, widen_tables};
-pub use statement::execute;

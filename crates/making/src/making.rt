@@ -3,17 +3,15 @@ ghost use Rattle.std.specs.Prelude.{◌≡◌, ◌≢◌, ◌↔◌, false, None
 ghost use Rattle.sqlite.specs.Held.{state};
 ghost use Rattle.sqlite.specs.State.{HasCleanDisk};
 ghost use Rattle.registry.specs.RowsOfAll.{blank_rows};
-ghost use Rattle.making.specs.Databases.{IsUnused, IsNew, IsDeskTrees, LeavesOldOrNew};
+ghost use Rattle.transactions.specs.Databases.{IsUnused, IsNew, IsDeskTrees, LeavesOldOrNew};
 ghost use Rattle.tables.specs.Tables.{blank_schema};
 ghost use Rattle.tables.specs.TablesHold.{TablesHold};
-ghost use Rattle.making.specs.Statements.{IfCommitted, IfRolledBack, CommitsAtMost, WhenClean, IfDone, StaysInside};
+ghost use Rattle.transactions.specs.Statements.{IfCommitted, IfRolledBack, CommitsAtMost, WhenClean, IfDone, StaysInside};
 ghost use Rattle.making.specs.Moving.{IsOverOld};
 ghost use Rattle.making.specs.Making.{schema_so_far, IsOver, IsMadeTo};
 ghost use Rattle.making.specs.steps.Making.{MakesClaimTables};
 
-use crate::StoreFault;
 use crate::charter::put_charter;
-use crate::statement::execute;
 use registry::Charter;
 use sqlite::{Alter, Connection, Error, Transaction};
 use sqlite_schema::schema::Schema;
@@ -21,6 +19,7 @@ use tables::{
     CREATE_AUTH, CREATE_CLAIM, CREATE_ENTRY, CREATE_GRANTED, CREATE_HOLDER, CREATE_HOLDING,
     CREATE_HOLDING_INDEX, CREATE_META, CREATE_OPERATOR, CREATE_POOL, CREATE_SLURM,
 };
+use transactions::{StoreFault, execute};
 
 /// Makes the tables `meta`, `operator`, `pool` and `holder` in a database that has no table.
 fn make_first_tables<S: Alter>(tx: &mut Transaction<'_, S>) -> Result<(), Error>

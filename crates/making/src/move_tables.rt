@@ -1,15 +1,15 @@
 //! Moving the rows of schema 1 to the tables of a desk, within a transaction.
-ghost use Rattle.making.specs.Statements.{WhenClean, IfDone, StaysInside};
+ghost use Rattle.transactions.specs.Statements.{WhenClean, IfDone, StaysInside};
 ghost use Rattle.making.specs.Making.{IsOver};
 ghost use Rattle.making.specs.Moving.{old_schema_if, wide_schema, WidensTables, MovesRows};
 ghost use Rattle.making.specs.steps.Making.{DropsIndex};
 ghost use Rattle.tables.specs.Tables.{desk_schema};
 
 use crate::making::make_claim_tables;
-use crate::statement::execute;
 use moving::{COPY_CLAIMS, COPY_ENTRIES, DELETE_ALL_AUTHS, DROP_HOLDING_INDEX, UPDATE_SCHEMA};
 use sqlite::{Alter, Error, Transaction};
 use tables::CREATE_HOLDING_INDEX;
+use transactions::execute;
 
 /// Drops the index of a holder's runs, if the database has it.
 fn drop_index<S: Alter>(tx: &mut Transaction<'_, S>, has_index: bool) -> Result<(), Error>

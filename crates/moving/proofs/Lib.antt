@@ -1,3 +1,4 @@
+mod Copying
 pub mod Texts
 pub mod Moved
 pub mod Steps

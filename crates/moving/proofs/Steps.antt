@@ -27,7 +27,7 @@ use Rattle.tables.specs.TablesHold.{HoldsPart}
 use Rattle.tables.specs.steps.Edits.{Edits}
 use Rattle.moving.specs.Moved.{claim_columns, entry_columns, AreAuthRows, AreMovable, IsWidened, IsMoved}
 use Rattle.tables.proofs.CellLemmas.{cast_schema, cast_claim, cast_entry}
-use Rattle.tables.proofs.Copying.{copied, puts_shown}
+use Rattle.moving.proofs.Copying.{copied, puts_shown}
 use Rattle.tables.proofs.Deleting as deleting
 use Rattle.tables.proofs.Deleting.{deletion_of, takes}
 use Rattle.tables.proofs.Inserting.{each_table}

@@ -14,7 +14,7 @@ use Rattle.tables.specs.declared.meta.TheConstants.{SCHEMA}
 use Rattle.moving.specs.declared.statements.TheConstants.{COPY_CLAIMS, COPY_ENTRIES, DELETE_ALL_AUTHS, DROP_HOLDING_INDEX, UPDATE_SCHEMA}
 use Rattle.moving.specs.OldTables.{old_schema, old_schema_without_index, old_holding_of}
 use Rattle.tables.specs.Tables.{meta, auth}
-use Rattle.tables.proofs.Copying.{copies}
+use Rattle.moving.proofs.Copying.{copies}
 use Rattle.tables.proofs.Deleting.{deletion_of}
 use Rattle.tables.proofs.Updating.{update_of}
 use Rattle.tables.proofs.Texts.{Means}

@@ -18,7 +18,7 @@ use Rattle.tables.specs.Tables.{desk_tables, claim, entry, contents}
 use Rattle.tables.specs.TablesHold.{TablesHold, entry_part}
 use Rattle.tables.proofs.Once.{two_are_one, entry_row_once}
 use Rattle.tables.proofs.SomeRow.{in_table, has_entry_row}
-use Rattle.database.specs.Laws.{payload_columns, number_columns, ClaimsDiffer, EntriesDiffer}
+use Rattle.transactions.specs.Laws.{payload_columns, number_columns, ClaimsDiffer, EntriesDiffer}
 use Rattle.edits.proofs.Numbers.{number_of, numbered_apart}
 use Rattle.store.specs.Given.{GivenOnce}
 use Rattle.loads.proofs.Giving.{cells_of_vrp}

@@ -8,7 +8,7 @@ use Rattle.sqlite_trees.specs.Tree.{Trees}
 use Rattle.charters.specs.CharterSets.{CharterSets, IsCharter}
 use Rattle.tables.specs.TablesHold.{TablesHold}
 use Rattle.store.specs.StoreRows.{IsOpened}
-use Rattle.making.specs.Databases.{IsDeskTrees}
+use Rattle.transactions.specs.Databases.{IsDeskTrees}
 use Rattle.database.specs.Opening.{OpensDesk}
 use Rattle.database.proofs.SameCharter.{same_charter}
 use Rattle.store.proofs.ReadRows.{rows_fit}

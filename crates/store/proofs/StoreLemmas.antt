@@ -11,15 +11,15 @@ use Rattle.sqlite_trees.specs.Tree.{Trees}
 use Rattle.charters.specs.CharterSets.{CharterSets}
 use Rattle.registry.specs.declared.change.Change.{Change}
 use Rattle.registry.specs.RowsOfAll.{AllRows, blank_rows, changed_rows}
-use Rattle.making.specs.Statements.{IsAsBefore}
-use Rattle.database.specs.Queries.{IsAsked}
-use Rattle.database.specs.Laws.{ClaimsDiffer, EntriesDiffer}
+use Rattle.transactions.specs.Statements.{IsAsBefore}
+use Rattle.transactions.specs.Queries.{IsAsked}
+use Rattle.transactions.specs.Laws.{ClaimsDiffer, EntriesDiffer}
 use Rattle.store.proofs.HeldOnce.{held_once}
 use Rattle.store.specs.Given.{GivenOnce}
 use Rattle.loads.specs.Loads.{IsOfAll, IsOpenWith}
 use Rattle.store.specs.StoreRows.{StoreView, Holds, IsRead, MayLeave, LeavesOnly, LeavesPlaced}
 use Rattle.edits.specs.Changes.{PlacesExceptions, MakesChange, RowsBecome}
-use Rattle.making.specs.Databases.{HasDeskTables, IsNew, IsDeskTrees, IsDeskWhileOpen, LeavesNew}
+use Rattle.transactions.specs.Databases.{HasDeskTables, IsNew, IsDeskTrees, IsDeskWhileOpen, LeavesNew}
 use Rattle.store.specs.steps.Commits.{CommitsChange, MayCommit}
 use Rattle.tables.specs.TablesHold.{TablesHold}
 

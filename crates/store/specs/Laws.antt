@@ -24,7 +24,7 @@ use Rattle.registry.specs.Verdict.{IsLegal}
 use Rattle.tables.specs.TablesHold.{TablesHold}
 use Rattle.tables.specs.Tables.{desk_tables}
 use Rattle.moving.specs.OldTables.{IsOldSchema, OldTablesHold}
-use Rattle.making.specs.Databases.{IsHonest}
+use Rattle.transactions.specs.Databases.{IsHonest}
 use Rattle.database.specs.Opening.{IsOfAnotherSchema}
 use Rattle.database.specs.OldTablesRead.{OldTablesRead}
 use Rattle.database.specs.TablesRead.{TablesRead}

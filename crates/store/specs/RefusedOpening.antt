@@ -3,9 +3,9 @@ use Rattle.std.specs.Prelude.{◌≡◌, IsTrue}
 use Rattle.sqlite.specs.Held.{Held, state}
 use Rattle.sqlite.specs.State.{State, HasCleanDisk}
 use Rattle.sqlite.specs.Store.{Ghosts}
-use Rattle.making.specs.Statements.{IsAsBefore}
-use Rattle.making.specs.declared.fault.StoreFault.{StoreFault}
-use Rattle.making.specs.declared.fault.StoreFault.TheVariants.{Schema}
+use Rattle.transactions.specs.Statements.{IsAsBefore}
+use Rattle.transactions.specs.declared.fault.StoreFault.{StoreFault}
+use Rattle.transactions.specs.declared.fault.StoreFault.TheVariants.{Schema}
 use Rattle.database.specs.Opening.{IsOfAnotherSchema, LeavesOldOrMoved}
 
 -- The connection is returned with the fault. If the disk returned what was written, the fault is `Schema` only of what

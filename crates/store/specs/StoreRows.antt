@@ -13,7 +13,7 @@ use Rattle.registry.specs.Values.{FilesFit, FitIfAny}
 use Rattle.tables.specs.Tables.{desk_tables}
 use Rattle.tables.specs.TablesHold.{TablesHold}
 use Rattle.moving.specs.EitherSchema.{AreOfEitherSchema, EitherSchemaHolds}
-use Rattle.making.specs.Databases.{IsDeskTrees}
+use Rattle.transactions.specs.Databases.{IsDeskTrees}
 use Rattle.database.specs.Opening.{IsLeftAlone}
 use Rattle.database.specs.TablesRead.{TablesRead}
 use Rattle.edits.specs.Changes.{RowChange, PlacesExceptions}

@@ -5,13 +5,13 @@ ghost use Rattle.sqlite.specs.State.{HasCleanDisk};
 ghost use Rattle.registry.specs.RowsOfAll.{blank_rows, changed_rows};
 ghost use Rattle.store.specs.RefusedOpening.{IsGivenBack};
 ghost use Rattle.store.specs.StoreRows.{IsOpened};
-ghost use Rattle.making.specs.Databases.{HasDeskTables, IsUnused, IsNew, LeavesNew, IsHonest};
+ghost use Rattle.transactions.specs.Databases.{HasDeskTables, IsUnused, IsNew, LeavesNew, IsHonest};
 ghost use Rattle.database.specs.Opening.{IsOfAnotherSchema};
 ghost use Rattle.store.specs.steps.Commits.{CommitsChange, MayCommit};
-ghost use Rattle.making.specs.Statements.{IfCommitted, IfRolledBack, CommitsAtMost};
+ghost use Rattle.transactions.specs.Statements.{IfCommitted, IfRolledBack, CommitsAtMost};
 
 use addr::{Day, Holdings, Name, Prefix, Vrp};
-use database::{StoreFault, make_tables, open_tables};
+use database::{make_tables, open_tables};
 use edits::make_change;
 use loads::{
     ForAmend, ForCreate, ForGrant, Numbered, is_registered, is_taken, load_files, load_for_amend,
@@ -23,6 +23,7 @@ use slurm::Slurm;
 use sqlite::{Alter, Connection, MemStore};
 use std::alloc::Global;
 use std::marker::Model;
+use transactions::StoreFault;
 
 /// Makes the change in one transaction.
 fn commit_change<S: Alter>(conn: &mut Connection<S>, change: &Change) -> Result<(), StoreFault>
@@ -59,7 +60,7 @@ impl<S: Alter> Model for Store<S> {
     ghost use Rattle.std.specs.Prelude.{◌≡◌, false};
     ghost use Rattle.sqlite.specs.Held.{state};
     ghost use Rattle.store.specs.StoreRows.{StoreView, view_code};
-    ghost use Rattle.making.specs.Databases.{IsDeskWhileOpen};
+    ghost use Rattle.transactions.specs.Databases.{IsDeskWhileOpen};
 
     ghost Value = { StoreView S };
 
@@ -152,7 +153,7 @@ impl<S: Alter> Store<S> {
     ghost use Rattle.loads.specs.Loads.{AllGiveOn, AreFilesOf, AreHoldings, AreLoaded, AreNumbered};
     ghost use Rattle.loads.specs.Loads.{AreRunsApart, IsForAmend, IsForCreate, IsForGrant};
     ghost use Rattle.store.specs.StoreRows.{connection_state, Holds, IsRead, OfHeldRows};
-    ghost use Rattle.making.specs.Databases.{IsDeskWhileOpen};
+    ghost use Rattle.transactions.specs.Databases.{IsDeskWhileOpen};
     ghost use Rattle.store.specs.StoreRows.{IfClean, HoldsAfter, MayLeave, LeavesOnly};
     ghost use Rattle.store.specs.StoreRows.{KeepsSchema, LeavesPlaced};
 
@@ -365,8 +366,8 @@ impl<S: Alter> Store<S> {
     {
         // For the proof: its contract says that what the connection shows obeys the schema.
         let _schema = self.conn.schema();
-        database::laws::claims_differ();
-        database::laws::entries_differ();
+        transactions::laws::claims_differ();
+        transactions::laws::entries_differ();
         commit_change(&mut self.conn, change)
     }
 

@@ -3,12 +3,13 @@ pub mod Actions
 pub mod Childless
 pub mod Inserting
 pub mod Selecting
-pub mod Copying
 pub mod Deleting
 pub mod Updating
 pub mod Texts
 pub mod ClaimTexts
 pub mod PartLemmas
+pub mod Columns
+pub mod Testing
 pub mod CellLemmas
 pub mod AddressBytes
 pub mod ReadLemmas

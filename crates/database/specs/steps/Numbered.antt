@@ -2,16 +2,16 @@
 use Rattle.std.specs.Prelude.{◌≡◌, ℕ, ◌-◌, Bool, true, false, List, [], ◌∷◌, ◌++◌, drop, map, length, All, IsPermutation}
 use Rattle.std.specs.List.{AllByRecursion}
 use Rattle.std.specs.Ordering.{is_eq, is_lt, int_cmp}
-use Rattle.sqlite.specs.Effect.{Database, Reads}
+use Rattle.sqlite.specs.Effect.{Database}
 use Rattle.sqlite.specs.Given.{IsPlain}
 use Rattle.sqlite.specs.Listing.{understood, reads_listing}
-use Rattle.sqlite.proofs.Callers.{command_of}
 use Rattle.sqlite_value.specs.declared.value.Value.{Value}
 use Rattle.sqlite_value.specs.declared.value.Value.TheVariants.{Int}
 use Rattle.sqlite_value.specs.Order.{Row, column, value_cmp}
 use Rattle.sqlite_trees.specs.Tree.{rowid, IsAscending}
 use Rattle.sqlite_trees.specs.View.{is_int}
-use Rattle.tables.specs.Tables.{desk_beside, OverDesk, contents, columns}
+use Rattle.tables.specs.Tables.{OverDesk, contents, columns}
+use Rattle.transactions.specs.steps.Statements.{AnswersSelect}
 
 -- the last value of a row; NULL where there is none
 abbrev pub last_value : Row → Value
@@ -31,10 +31,6 @@ Rise rows =
 -- these columns of a row of a tree, and its rowid
 abbrev pub columns_and_rowid : List ℕ → Row → Row
 columns_and_rowid places r = columns places (drop 1 r) ++ rowid r ∷ []
-
--- over the tables of a desk the text, which has no parameter, answers these rows
-abbrev pub AnswersSelect : List ℕ → Database → List Row → Type 0
-AnswersSelect sql db rows = Reads (command_of (understood (desk_beside db.schema) sql)) db [] rows
 
 -- The text selects these columns of all rows of a table, which are so many, and the rowids after them. It reads the tables alone.
 pub record SelectsAll (width tree : ℕ) (places : List ℕ) (sql : List ℕ) : Type 0 where

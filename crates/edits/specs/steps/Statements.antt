@@ -18,7 +18,7 @@ use Rattle.tables.specs.Tables.{slurm, IsTree}
 use Rattle.tables.specs.declared.exception.Exception.{Exception}
 use Rattle.tables.specs.steps.Edits.{Edits}
 use Rattle.tables.specs.TablesHold.{TablesHold, at_positions}
-use Rattle.making.specs.Statements.{IfDone, IsReady}
+use Rattle.transactions.specs.Statements.{IfDone, IsReady}
 
 -- the rows of every holder turned; the exceptions stay
 abbrev pub each_holder : (List ℕ → Option Rows → Option Rows) → RowChange

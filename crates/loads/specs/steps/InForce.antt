@@ -17,7 +17,7 @@ use Rattle.registry.specs.RowsOfAll.{AllRows}
 use Rattle.tables.specs.Cells.{number_cell, prefix_cells}
 use Rattle.tables.specs.Decode.{first_columns}
 use Rattle.tables.specs.Tables.{claim, entry, columns, contents}
-use Rattle.database.specs.Laws.{payload_columns}
+use Rattle.transactions.specs.Laws.{payload_columns}
 use Rattle.loads.specs.steps.Queries.{by_column}
 
 -- ---- what the two queries show

@@ -1,17 +1,14 @@
 -- What single statements do that make the tables or widen them, and put their first rows.
-use Rattle.std.specs.Prelude.{◌≡◌, ℕ, true, List, [], ◌++◌}
+use Rattle.std.specs.Prelude.{◌≡◌, true, []}
 use Rattle.sqlite.specs.Effect.{IsDatabase}
 use Rattle.sqlite_catalog.specs.Change.{KeepsRows}
 use Rattle.sqlite.specs.State.{State}
 use Rattle.sqlite_schema.specs.declared.schema.Schema.{Schema}
 use Rattle.sqlite_schema.specs.declared.schema.Table.{Table}
-use Rattle.sqlite_value.specs.Order.{Row}
 use Rattle.charters.specs.CharterSets.{CharterSets}
 use Rattle.registry.specs.RowsOfAll.{blank_rows}
 use Rattle.tables.specs.Tables.{claim, entry, desk_schema}
-use Rattle.tables.specs.steps.Edits.{Edits}
 use Rattle.tables.specs.TablesHold.{TablesHold}
-use Rattle.making.specs.Statements.{IsReady}
 use Rattle.moving.specs.OldTables.{old_tables, old_schema_without_index}
 use Rattle.making.specs.Making.{schema_so_far, IsOver}
 
@@ -37,12 +34,6 @@ pub record MakesClaimTables (old new : State) : Type 0 where
 pub record DropsIndex (old new : State) : Type 0 where
   pub over : IsOver old_schema_without_index new
   pub rows : KeepsRows old_tables old.now.trees new.now.trees
-
--- the transaction goes on, and these rows were put into a table
-pub record PutsRows (tree : ℕ) (rows : List Row) (old new : State) : Type 0 where
-  pub ready : IsReady new
-  pub sound : IsDatabase old.now → IsDatabase new.now
-  pub edits : Edits tree (λ table. rows ++ table) old.now new.now
 
 -- a transaction in which the tables hold the charter and blank rows
 pub record HasCharter (charter : CharterSets) (s : State) : Type 0 where

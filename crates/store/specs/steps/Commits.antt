@@ -5,7 +5,7 @@ use Rattle.sqlite.specs.State.{State}
 use Rattle.sqlite_trees.specs.Tree.{Trees}
 use Rattle.registry.specs.declared.change.Change.{Change}
 use Rattle.tables.specs.Tables.{desk_tables}
-use Rattle.making.specs.Databases.{IsDeskTrees}
+use Rattle.transactions.specs.Databases.{IsDeskTrees}
 use Rattle.edits.specs.Changes.{RowsBecome}
 
 -- the change is made and committed, and the schema stays

@@ -1,7 +1,7 @@
 use Rattle.std.proofs.Common.{rules, ◌≡◌, true, false, IsTrue, sym, ap, ◌∙◌, not}
 use Rattle.std.proofs.Math.Bool.{not-not}
 use Rattle.sqlite.specs.Held.{state}
-use Rattle.database.proofs.QueryLemmas.{always}
+use Rattle.transactions.proofs.QueryLemmas.{always}
 use Rattle.database.proofs.opening.find_in.Goals as goal
 
 pub returns-clause-idle : goal.returns-clause-idle

@@ -1,7 +1,7 @@
 use Rattle.std.proofs.Common.{rules, arith, ◌≡◌, Err}
 use Rattle.sqlite.specs.State.{HasCleanDisk}
-use Rattle.making.specs.declared.fault.StoreFault.TheVariants.{Schema}
-use Rattle.making.specs.Statements.{state_in}
+use Rattle.transactions.specs.declared.fault.StoreFault.TheVariants.{Schema}
+use Rattle.transactions.specs.Statements.{state_in}
 use Rattle.database.proofs.MovingDesk.{if_all, moves_desk, not_moved, not_numbered}
 use Rattle.database.proofs.opening.move_desk.Goals as goal
 

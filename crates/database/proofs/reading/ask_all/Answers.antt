@@ -1,7 +1,7 @@
 use Rattle.std.proofs.Common.{[], refl, arith}
 use Rattle.sqlite.specs.State.{HasCleanDisk}
-use Rattle.making.specs.Statements.{state_in}
-use Rattle.database.proofs.QueryLemmas.{answered}
+use Rattle.transactions.specs.Statements.{state_in}
+use Rattle.transactions.proofs.QueryLemmas.{answered}
 use Rattle.database.proofs.reading.ask_all.Goals as goal
 
 pub returns-clause-answered : goal.returns-clause-answered

@@ -4,11 +4,11 @@ use Rattle.sqlite.specs.State.{HasCleanDisk}
 use Rattle.tables.specs.Cells.{claim_cells, entry_cells, named_cells}
 use Rattle.tables.specs.Decode.{ClaimFits, EntryRowFits, NamedFits}
 use Rattle.tables.specs.Tables.{claim, entry, IsTree}
-use Rattle.making.specs.Statements.{state_in}
+use Rattle.transactions.specs.Statements.{state_in}
 use Rattle.database.specs.TablesRead.{TablesRead}
 use Rattle.database.specs.steps.Numbered.{AreRead, shown_in}
 use Rattle.database.specs.steps.Opened.{claim_places, entry_places}
-use Rattle.database.proofs.QueryLemmas.{refused_by}
+use Rattle.transactions.proofs.QueryLemmas.{refused_by}
 use Rattle.database.proofs.SomeAuths.{auths_made, auths_shown, claims_apart, claims_in, entries_in}
 use Rattle.database.proofs.reading.read_auths.Goals as goal
 

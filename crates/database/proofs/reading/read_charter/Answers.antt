@@ -4,11 +4,11 @@ use Rattle.std.proofs.lemmas.List.Sorted.{IsPermutation-sym}
 use Rattle.sqlite.specs.Effect.{Database}
 use Rattle.sqlite.specs.State.{HasCleanDisk}
 use Rattle.tables.specs.Cells.{prefix_cells}
-use Rattle.making.specs.Statements.{state_in}
+use Rattle.transactions.specs.Statements.{state_in}
 use Rattle.database.specs.TablesRead.{TablesRead}
 use Rattle.database.specs.steps.Numbered.{shown_in}
 use Rattle.database.specs.steps.Opened.{ShowsRows}
-use Rattle.database.proofs.QueryLemmas.{refused_by}
+use Rattle.transactions.proofs.QueryLemmas.{refused_by}
 use Rattle.database.proofs.Unread.{operators_in, pool_in, charter_shown, some_charter, err_fact}
 use Rattle.database.proofs.reading.read_charter.Goals as goal
 

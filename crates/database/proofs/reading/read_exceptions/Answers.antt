@@ -2,9 +2,9 @@ use Rattle.std.proofs.lemmas.Bool.{both_ways}
 use Rattle.tables.specs.Cells.{exception_row}
 use Rattle.tables.specs.Decode.{ExceptionRowFits}
 use Rattle.tables.specs.Tables.{slurm, contents}
-use Rattle.making.specs.Statements.{state_in}
+use Rattle.transactions.specs.Statements.{state_in}
 use Rattle.database.proofs.FewOfEach.{few_of_each, few_where_read}
-use Rattle.database.proofs.QueryLemmas.{refused_by}
+use Rattle.transactions.proofs.QueryLemmas.{refused_by}
 use Rattle.database.proofs.Unread.{each_read, exceptions_in}
 use Rattle.database.proofs.reading.read_exceptions.Goals as goal
 

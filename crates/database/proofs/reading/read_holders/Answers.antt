@@ -1,10 +1,10 @@
 use Rattle.std.proofs.Common.{subst, sym, ◌∙◌, arith}
 use Rattle.sqlite.specs.Effect.{Database}
 use Rattle.sqlite.specs.State.{HasCleanDisk}
-use Rattle.making.specs.Statements.{state_in}
+use Rattle.transactions.specs.Statements.{state_in}
 use Rattle.database.specs.TablesRead.{TablesRead}
 use Rattle.database.specs.steps.Opened.{ShowsEach}
-use Rattle.database.proofs.QueryLemmas.{refused_by}
+use Rattle.transactions.proofs.QueryLemmas.{refused_by}
 use Rattle.database.proofs.Unread.{each_read, shows_holder, holders_in, holdings_in, grants_in}
 use Rattle.sqlite_trees.proofs.ListLemmas.{all_weaker}
 use Rattle.database.proofs.reading.read_holders.Goals as goal

@@ -1,10 +1,10 @@
 use Rattle.std.proofs.Common.{Ok, subst, ◌∙◌, arith}
 use Rattle.sqlite.specs.State.{HasCleanDisk}
-use Rattle.making.specs.Statements.{state_in}
-use Rattle.making.proofs.StatementLemmas.{stays_then}
+use Rattle.transactions.specs.Statements.{state_in}
+use Rattle.transactions.proofs.StatementLemmas.{stays_then}
 use Rattle.database.specs.steps.Opened.{ShowsCharter, ShowAuths, ShowExceptions, ShowHolders}
 use Rattle.database.proofs.Opened.{some_rows, tables_read}
-use Rattle.database.proofs.QueryLemmas.{asked_then, asked_in_vain}
+use Rattle.transactions.proofs.QueryLemmas.{asked_then, asked_in_vain}
 use Rattle.database.proofs.reading.read_inside.Goals as goal
 
 pub returns-in_err-read_auths-clause-asked : goal.returns-in_err-read_auths-clause-asked

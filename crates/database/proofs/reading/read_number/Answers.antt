@@ -4,7 +4,7 @@ use Rattle.std.proofs.lemmas.List.{length-map}
 use Rattle.std.proofs.lemmas.List.Sorted.{IsPermutation-sym}
 use Rattle.tables.specs.Decode.{first_columns}
 use Rattle.tables.proofs.SomeRow.{has_permuted}
-use Rattle.making.specs.Statements.{state_in}
+use Rattle.transactions.specs.Statements.{state_in}
 use Rattle.database.specs.steps.Numbered.{shown_in}
 use Rattle.database.specs.steps.Opened.{number_row}
 use Rattle.database.proofs.AllTexts.{selects_meta}

@@ -1,4 +1,4 @@
-use Rattle.making.specs.Statements.{state_in}
+use Rattle.transactions.specs.Statements.{state_in}
 use Rattle.database.proofs.Rowids.{is_tree, shown_of, values_read, some_unread, ok_with}
 use Rattle.database.proofs.reading.read_table.Goals as goal
 

@@ -2,8 +2,8 @@ use Rattle.std.proofs.Common.{◌≡◌, [], IsTrue, rules, arith, ap, not, ◌�
 use Rattle.sqlite.specs.Held.{state}
 use Rattle.sqlite.specs.State.{HasCleanDisk, KeepsCommit, IsNotRun, Survives}
 use Rattle.tables.specs.declared.meta.TheConstants.{SELECT_SCHEMA}
-use Rattle.making.specs.Statements.{state_in}
-use Rattle.database.proofs.QueryLemmas.{no_answer, not_run_after, undone_as_before}
+use Rattle.transactions.specs.Statements.{state_in}
+use Rattle.transactions.proofs.QueryLemmas.{no_answer, not_run_after, undone_as_before}
 use Rattle.database.proofs.reading.read_tables.Goals as goal
 
 pub returns-in_err-prepare-clause-asked : goal.returns-in_err-prepare-clause-asked

@@ -1,7 +1,7 @@
 use Rattle.std.proofs.Common.{◌≡◌, ℕ, Bool, true, ◌==◌, List, [], ◌∷◌, length, sym, ap, ◌∙◌, arith, refl}
 use Rattle.std.proofs.lemmas.Bool.{both_ways, eqb-true, eq-eqb}
 use Rattle.sqlite_value.specs.Order.{Row}
-use Rattle.making.specs.Statements.{state_in}
+use Rattle.transactions.specs.Statements.{state_in}
 use Rattle.database.proofs.AllTexts.{selects_auth}
 use Rattle.database.proofs.Unread.{no_rows_in, rows_of_none}
 use Rattle.database.proofs.reading.read_unused.Goals as goal

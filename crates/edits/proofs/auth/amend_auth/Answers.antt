@@ -1,6 +1,6 @@
 use Rattle.std.proofs.Common.{arith}
 use Rattle.std.proofs.lemmas.Result.{on_ok_weaker}
-use Rattle.making.proofs.StatementLemmas.{stays_then}
+use Rattle.transactions.proofs.StatementLemmas.{stays_then}
 use Rattle.edits.proofs.AmendSteps.{ready_then, amends_none, amends_one}
 use Rattle.edits.proofs.auth.amend_auth.Goals as goal
 

@@ -1,6 +1,6 @@
 use Rattle.std.proofs.Common.{arith, take, ◌+◌}
 use Rattle.edits.proofs.AuthSteps.{puts_more}
-use Rattle.making.proofs.StatementLemmas.{taken_more, stays_then}
+use Rattle.transactions.proofs.StatementLemmas.{taken_more, stays_then}
 use Rattle.edits.proofs.auth.put_entries.Goals as goal
 
 pub loop-entry-preserved : goal.loop-entry-preserved

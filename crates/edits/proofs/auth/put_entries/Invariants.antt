@@ -1,8 +1,8 @@
 use Rattle.std.proofs.Common.{take}
 use Rattle.sqlite.specs.State.{HasCleanDisk}
 use Rattle.tables.specs.TablesHold.{entry_part}
-use Rattle.making.specs.Statements.{state_in, StaysInside}
-use Rattle.making.specs.steps.Making.{PutsRows}
+use Rattle.transactions.specs.Statements.{state_in, StaysInside}
+use Rattle.transactions.specs.steps.Statements.{PutsRows}
 use Rattle.edits.proofs.AuthSteps.{rows_of_entries}
 use Rattle.edits.proofs.auth.put_entries.Given as goal
 

@@ -1,5 +1,5 @@
 use Rattle.edits.proofs.AuthSteps.{puts_entry}
-use Rattle.making.proofs.StatementLemmas.{means}
+use Rattle.transactions.proofs.StatementLemmas.{means}
 use Rattle.edits.proofs.auth.put_entry.Goals as goal
 
 pub returns-clause-done : goal.returns-clause-done

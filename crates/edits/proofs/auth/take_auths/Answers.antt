@@ -3,9 +3,9 @@ use Rattle.std.proofs.lemmas.List.{take_more}
 use Rattle.registry.specs.declared.change.Edit.TheVariants.{Withdraw}
 use Rattle.registry.specs.Rows.{edited}
 use Rattle.edits.specs.steps.RowEdits.{without_auths}
-use Rattle.making.specs.Statements.{state_in}
+use Rattle.transactions.specs.Statements.{state_in}
 use Rattle.edits.proofs.RowSteps.{one_auth_less, no_auths, done_none, done_then}
-use Rattle.making.proofs.StatementLemmas.{stays, stays_then}
+use Rattle.transactions.proofs.StatementLemmas.{stays, stays_then}
 use Rattle.edits.proofs.auth.take_auths.Goals as goal
 
 pub loop-number-init : goal.loop-number-init

@@ -1,7 +1,7 @@
 use Rattle.std.proofs.Common.{take}
 use Rattle.sqlite.specs.State.{HasCleanDisk}
 use Rattle.edits.specs.steps.RowEdits.{without_auths}
-use Rattle.making.specs.Statements.{state_in, StaysInside}
+use Rattle.transactions.specs.Statements.{state_in, StaysInside}
 use Rattle.edits.specs.steps.Statements.{EditsHolder}
 use Rattle.edits.proofs.auth.take_auths.Given as goal
 

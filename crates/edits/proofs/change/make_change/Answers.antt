@@ -3,11 +3,11 @@ use Rattle.registry.specs.declared.change.Change.{Change}
 use Rattle.registry.specs.declared.change.Change.TheVariants.{Holders}
 use Rattle.registry.specs.declared.change.HolderChange.{HolderChange}
 use Rattle.registry.specs.Rows.{changed_by_one}
-use Rattle.making.specs.Statements.{state_in}
+use Rattle.transactions.specs.Statements.{state_in}
 use Rattle.edits.specs.steps.Statements.{each_holder}
 use Rattle.edits.specs.Changes.{RowsBecome, MakesChange}
 use Rattle.edits.proofs.RowSteps.{turned_then, holders_changed}
-use Rattle.making.proofs.StatementLemmas.{stays_then}
+use Rattle.transactions.proofs.StatementLemmas.{stays_then}
 use Rattle.edits.proofs.change.make_change.Goals as goal
 
 pub returns-in_ok-edit_holder-in-Holders-2-clause-done : goal.returns-in_ok-edit_holder-in-Holders-2-clause-done

@@ -1,7 +1,7 @@
 use Rattle.std.proofs.Common.{refl}
 use Rattle.edits.specs.steps.RowEdits.{with_auths, with_created, with_new_auths}
 use Rattle.edits.proofs.RowSteps.{done_after}
-use Rattle.making.proofs.StatementLemmas.{stays_then}
+use Rattle.transactions.proofs.StatementLemmas.{stays_then}
 use Rattle.edits.proofs.change.put_new_auths.Goals as goal
 
 pub returns-clause-done : goal.returns-clause-done

@@ -3,7 +3,7 @@ use Rattle.registry.specs.declared.change.Edit.TheVariants.{Grant}
 use Rattle.registry.specs.Rows.{edited}
 use Rattle.edits.specs.steps.RowEdits.{with_grants, with_granted}
 use Rattle.edits.proofs.RowSteps.{done_after}
-use Rattle.making.proofs.StatementLemmas.{stays_then}
+use Rattle.transactions.proofs.StatementLemmas.{stays_then}
 use Rattle.edits.proofs.change.put_new_grant.Goals as goal
 
 pub returns-clause-done : goal.returns-clause-done

@@ -2,7 +2,7 @@ use Rattle.std.proofs.Common.{arith, refl}
 use Rattle.registry.specs.Rows.{Rows}
 use Rattle.edits.specs.steps.RowEdits.{with_holdings, without_holdings, without_auths, with_replaced_holdings}
 use Rattle.edits.proofs.RowSteps.{done_then, done_after}
-use Rattle.making.proofs.StatementLemmas.{stays_then}
+use Rattle.transactions.proofs.StatementLemmas.{stays_then}
 use Rattle.edits.proofs.change.replace_holdings.Goals as goal
 
 pub returns-in_err-put_rows-clause-inside : goal.returns-in_err-put_rows-clause-inside

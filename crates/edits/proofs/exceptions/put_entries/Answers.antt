@@ -1,6 +1,6 @@
 use Rattle.std.proofs.Common.{arith, ap, ◌+◌}
 use Rattle.edits.proofs.ExceptionSteps.{puts_entry}
-use Rattle.making.proofs.StatementLemmas.{stays_then}
+use Rattle.transactions.proofs.StatementLemmas.{stays_then}
 use Rattle.edits.proofs.exceptions.put_entries.Goals as goal
 
 pub loop-entry-preserved : goal.loop-entry-preserved

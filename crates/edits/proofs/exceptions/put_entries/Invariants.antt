@@ -1,8 +1,8 @@
 use Rattle.std.proofs.Common.{◌≡◌, take}
 use Rattle.sqlite.specs.State.{HasCleanDisk}
 use Rattle.tables.specs.Tables.{slurm}
-use Rattle.making.specs.Statements.{state_in, StaysInside}
-use Rattle.making.specs.steps.Making.{PutsRows}
+use Rattle.transactions.specs.Statements.{state_in, StaysInside}
+use Rattle.transactions.specs.steps.Statements.{PutsRows}
 use Rattle.edits.specs.steps.Statements.{entry_rows}
 use Rattle.edits.proofs.exceptions.put_entries.Given as goal
 

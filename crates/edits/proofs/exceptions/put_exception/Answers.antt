@@ -1,5 +1,5 @@
 use Rattle.edits.proofs.ExceptionSteps.{puts_exception}
-use Rattle.making.proofs.StatementLemmas.{means}
+use Rattle.transactions.proofs.StatementLemmas.{means}
 use Rattle.edits.proofs.exceptions.put_exception.Goals as goal
 
 pub returns-clause-done : goal.returns-clause-done

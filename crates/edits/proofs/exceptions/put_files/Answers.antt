@@ -2,7 +2,7 @@ use Rattle.std.proofs.Common.{arith, subst}
 use Rattle.std.proofs.lemmas.List.Elements.{All-more}
 use Rattle.edits.specs.steps.Statements.{IsBounded}
 use Rattle.edits.proofs.ExceptionSteps.{puts_next}
-use Rattle.making.proofs.StatementLemmas.{stays_then}
+use Rattle.transactions.proofs.StatementLemmas.{stays_then}
 use Rattle.edits.proofs.exceptions.put_files.Goals as goal
 
 pub loop-named-preserved : goal.loop-named-preserved

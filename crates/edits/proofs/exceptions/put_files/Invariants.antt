@@ -3,8 +3,8 @@ use Rattle.sqlite.specs.State.{HasCleanDisk}
 use Rattle.tables.specs.Cells.{exception_row}
 use Rattle.tables.specs.Tables.{slurm}
 use Rattle.tables.specs.TablesHold.{file_rows}
-use Rattle.making.specs.Statements.{state_in, StaysInside}
-use Rattle.making.specs.steps.Making.{PutsRows}
+use Rattle.transactions.specs.Statements.{state_in, StaysInside}
+use Rattle.transactions.specs.steps.Statements.{PutsRows}
 use Rattle.edits.specs.steps.Statements.{IsBounded}
 use Rattle.edits.proofs.exceptions.put_files.Given as goal
 

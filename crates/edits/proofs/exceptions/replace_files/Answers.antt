@@ -1,7 +1,7 @@
 use Rattle.std.proofs.Common.{arith}
-use Rattle.making.specs.Statements.{state_in}
+use Rattle.transactions.specs.Statements.{state_in}
 use Rattle.edits.proofs.ExceptionSteps.{replaced}
-use Rattle.making.proofs.StatementLemmas.{stays_then}
+use Rattle.transactions.proofs.StatementLemmas.{stays_then}
 use Rattle.edits.proofs.exceptions.replace_files.Goals as goal
 
 pub returns-clause-done : goal.returns-clause-done

@@ -1,6 +1,6 @@
 use Rattle.std.proofs.Common.{refl}
 use Rattle.edits.proofs.ExceptionSteps.{takes_exceptions}
-use Rattle.making.proofs.StatementLemmas.{means}
+use Rattle.transactions.proofs.StatementLemmas.{means}
 use Rattle.edits.proofs.exceptions.take_exceptions.Goals as goal
 
 pub returns-clause-done : goal.returns-clause-done

@@ -1,8 +1,8 @@
 use Rattle.std.proofs.Common.{arith, inl}
 use Rattle.sqlite.proofs.InsideLemmas.{unchanged_keeps}
-use Rattle.making.specs.Statements.{state_in}
+use Rattle.transactions.specs.Statements.{state_in}
 use Rattle.edits.proofs.HolderSteps.{asked, registered_if_found}
-use Rattle.database.proofs.QueryLemmas.{kept_inside}
+use Rattle.transactions.proofs.QueryLemmas.{kept_inside}
 use Rattle.edits.proofs.holder.is_registered.Goals as goal
 
 pub returns-in_err-found-clause-inside : goal.returns-in_err-found-clause-inside

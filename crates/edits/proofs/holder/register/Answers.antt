@@ -1,5 +1,5 @@
 use Rattle.edits.proofs.EditSteps.{registers}
-use Rattle.making.proofs.StatementLemmas.{means}
+use Rattle.transactions.proofs.StatementLemmas.{means}
 use Rattle.edits.proofs.holder.register.Goals as goal
 
 pub returns-clause-done : goal.returns-clause-done

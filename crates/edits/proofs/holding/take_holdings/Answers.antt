@@ -1,8 +1,8 @@
 use Rattle.std.proofs.Common.{arith, ap, sym, ◌∙◌, [], ◌∷◌, take, ◌+◌}
 use Rattle.edits.specs.steps.RowEdits.{without_holdings}
-use Rattle.making.specs.Statements.{state_in}
+use Rattle.transactions.specs.Statements.{state_in}
 use Rattle.edits.proofs.RowSteps.{none_taken, one_holding_less, done_none, done_then}
-use Rattle.making.proofs.StatementLemmas.{taken_more, stays, stays_then}
+use Rattle.transactions.proofs.StatementLemmas.{taken_more, stays, stays_then}
 use Rattle.edits.proofs.holding.take_holdings.Goals as goal
 
 pub loop-span-init : goal.loop-span-init

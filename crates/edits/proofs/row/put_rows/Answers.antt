@@ -1,7 +1,7 @@
 use Rattle.std.proofs.Common.{arith, ap, sym, ◌∙◌, [], ◌∷◌, take, ◌+◌}
-use Rattle.making.specs.Statements.{state_in}
+use Rattle.transactions.specs.Statements.{state_in}
 use Rattle.edits.proofs.RowSteps.{done_none, done_then}
-use Rattle.making.proofs.StatementLemmas.{taken_more, stays, stays_then}
+use Rattle.transactions.proofs.StatementLemmas.{taken_more, stays, stays_then}
 use Rattle.edits.proofs.row.put_rows.Goals as goal
 
 pub loop-row-init : goal.loop-row-init

@@ -1,6 +1,6 @@
 use Rattle.std.proofs.Common.{take}
 use Rattle.sqlite.specs.State.{HasCleanDisk}
-use Rattle.making.specs.Statements.{state_in, StaysInside}
+use Rattle.transactions.specs.Statements.{state_in, StaysInside}
 use Rattle.edits.specs.steps.Statements.{EditsHolder}
 use Rattle.edits.proofs.row.put_rows.Given as goal
 

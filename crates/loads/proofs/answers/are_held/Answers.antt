@@ -5,7 +5,7 @@ use Rattle.sqlite.specs.Held.{state}
 use Rattle.sqlite.specs.State.{HasCleanDisk}
 use Rattle.tables.specs.TablesHold.{items_if_any}
 use Rattle.loads.specs.Loads.{AreHeld}
-use Rattle.loads.proofs.Asking.{asked_then}
+use Rattle.transactions.proofs.Asking.{asked_then}
 use Rattle.loads.proofs.HeldEntries.{held_from, none_to_hold}
 use Rattle.loads.proofs.Loading.{held_before}
 use Rattle.loads.proofs.answers.are_held.Goals as goal

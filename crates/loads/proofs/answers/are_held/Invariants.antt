@@ -3,7 +3,7 @@ use Rattle.std.specs.Prelude.{⊤}
 use Rattle.sqlite.specs.declared.error.Error.{Error}
 use Rattle.sqlite.specs.Held.{state}
 use Rattle.tables.specs.TablesHold.{items_if_any}
-use Rattle.database.specs.Queries.{IsAsked, IsClean}
+use Rattle.transactions.specs.Queries.{IsAsked, IsClean}
 use Rattle.loads.specs.Loads.{AreHeld, IsOf}
 use Rattle.loads.proofs.answers.are_held.Given as goal
 

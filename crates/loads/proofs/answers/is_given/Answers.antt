@@ -1,5 +1,5 @@
 use Rattle.std.proofs.Common.{◌∙◌}
-use Rattle.database.proofs.QueryLemmas.{refused_by}
+use Rattle.transactions.proofs.QueryLemmas.{refused_by}
 use Rattle.loads.proofs.GivenAuths.{gives_out_of}
 use Rattle.loads.proofs.answers.is_given.Goals as goal
 

@@ -3,7 +3,7 @@ use Rattle.std.proofs.lemmas.Bool.{false≢true}
 use Rattle.sqlite.specs.Held.{state}
 use Rattle.sqlite.specs.State.{HasCleanDisk}
 use Rattle.registry.specs.Values.{FitIfAny}
-use Rattle.database.proofs.QueryLemmas.{refused_by}
+use Rattle.transactions.proofs.QueryLemmas.{refused_by}
 use Rattle.loads.specs.Loads.{auths_held, created_if_any}
 use Rattle.loads.proofs.GivenAuths.{enough_made, few_made}
 use Rattle.loads.proofs.Loading.{held_before, refused_before}

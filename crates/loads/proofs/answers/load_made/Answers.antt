@@ -1,5 +1,5 @@
 use Rattle.std.proofs.Common.{sym, ◌∙◌}
-use Rattle.database.proofs.QueryLemmas.{refused_by}
+use Rattle.transactions.proofs.QueryLemmas.{refused_by}
 use Rattle.loads.proofs.GivenAuths.{made_shown, none_made}
 use Rattle.loads.proofs.answers.load_made.Goals as goal
 

@@ -3,9 +3,9 @@ use Rattle.std.proofs.lemmas.List.{drop_all}
 use Rattle.sqlite.specs.Held.{state}
 use Rattle.sqlite.specs.State.{HasCleanDisk}
 use Rattle.registry.specs.Values.{FitIfAny}
-use Rattle.database.proofs.QueryLemmas.{refused_by}
+use Rattle.transactions.proofs.QueryLemmas.{refused_by}
 use Rattle.loads.specs.Loads.{auths_held, some_gives}
-use Rattle.loads.proofs.Asking.{asked_then}
+use Rattle.transactions.proofs.Asking.{asked_then}
 use Rattle.loads.proofs.GivenAuths.{gives_from, gives_none}
 use Rattle.loads.proofs.Loading.{held_before, refused_before}
 use Rattle.loads.proofs.answers.some_given.Goals as goal

@@ -1,8 +1,8 @@
 use Rattle.std.proofs.Common.{◌≡◌, Ok, drop}
 use Rattle.std.specs.Prelude.{⊤}
 use Rattle.sqlite.specs.Held.{state}
-use Rattle.making.specs.declared.fault.StoreFault.{StoreFault}
-use Rattle.database.specs.Queries.{IsAsked, IsClean}
+use Rattle.transactions.specs.declared.fault.StoreFault.{StoreFault}
+use Rattle.transactions.specs.Queries.{IsAsked, IsClean}
 use Rattle.loads.specs.Loads.{IsOf, auths_held, some_gives}
 use Rattle.loads.proofs.answers.some_given.Given as goal
 

@@ -5,8 +5,8 @@ use Rattle.sqlite.specs.Held.{state}
 use Rattle.sqlite.specs.State.{HasCleanDisk}
 use Rattle.slurm.specs.SlurmSets.{exceptions_of}
 use Rattle.registry.specs.Values.{FilesFit}
-use Rattle.database.proofs.QueryLemmas.{refused_by}
-use Rattle.loads.proofs.Asking.{asked_then}
+use Rattle.transactions.proofs.QueryLemmas.{refused_by}
+use Rattle.transactions.proofs.Asking.{asked_then}
 use Rattle.loads.proofs.Loading.{held_before, refused_before}
 use Rattle.loads.proofs.NamedFiles.{one_file_more, said_fits}
 use Rattle.loads.proofs.exceptions.load_each.Goals as goal

@@ -3,8 +3,8 @@ use Rattle.std.specs.Prelude.{⊤}
 use Rattle.std.specs.Vec.{vec_capacity, vec_len}
 use Rattle.sqlite.specs.Held.{state}
 use Rattle.slurm.specs.SlurmSets.{exceptions_of}
-use Rattle.making.specs.declared.fault.StoreFault.{StoreFault}
-use Rattle.database.specs.Queries.{IsAsked, IsClean}
+use Rattle.transactions.specs.declared.fault.StoreFault.{StoreFault}
+use Rattle.transactions.specs.Queries.{IsAsked, IsClean}
 use Rattle.loads.specs.Loads.{IsOfAll}
 use Rattle.loads.proofs.exceptions.load_each.Given as goal
 

@@ -7,7 +7,7 @@ use Rattle.slurm.specs.SlurmSets.{exceptions_of}
 use Rattle.sqlite_value.specs.declared.value.Value.TheVariants.{Text}
 use Rattle.tables.proofs.CellsOnce.{same_values}
 use Rattle.tables.proofs.ReadLemmas.{all_show}
-use Rattle.database.proofs.QueryLemmas.{answered}
+use Rattle.transactions.proofs.QueryLemmas.{answered}
 use Rattle.loads.proofs.exceptions.load_entries.Goals as goal
 
 pub ask-requires-clause-plain : goal.ask-requires-clause-plain

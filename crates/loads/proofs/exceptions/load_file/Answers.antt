@@ -3,7 +3,7 @@ use Rattle.std.proofs.lemmas.Result.{IfOk-weaker}
 use Rattle.slurm.specs.SlurmSets.{exceptions_of}
 use Rattle.sqlite.specs.Held.{state}
 use Rattle.sqlite.specs.State.{HasCleanDisk}
-use Rattle.database.proofs.QueryLemmas.{refused_by}
+use Rattle.transactions.proofs.QueryLemmas.{refused_by}
 use Rattle.loads.proofs.EntriesFound.{both_kinds}
 use Rattle.loads.proofs.Loading.{held_before}
 use Rattle.loads.proofs.exceptions.load_file.Goals as goal

@@ -4,7 +4,7 @@ use Rattle.slurm.specs.SlurmSets.{exceptions_of}
 use Rattle.sqlite.specs.Held.{state}
 use Rattle.sqlite.specs.State.{HasCleanDisk}
 use Rattle.registry.specs.Values.{FilesFit}
-use Rattle.database.proofs.QueryLemmas.{refused_by}
+use Rattle.transactions.proofs.QueryLemmas.{refused_by}
 use Rattle.loads.proofs.Loading.{held_before, refused_before}
 use Rattle.loads.proofs.NamedFiles.{all_said}
 use Rattle.loads.proofs.exceptions.load_files.Goals as goal

@@ -7,7 +7,7 @@ use Rattle.tables.specs.declared.exception.TheConstants.{SELECT_FILES}
 use Rattle.tables.proofs.CellsOnce.{same_values}
 use Rattle.tables.proofs.ReadLemmas.{all_show}
 use Rattle.tables.proofs.Texts.{files_is}
-use Rattle.database.proofs.QueryLemmas.{answered}
+use Rattle.transactions.proofs.QueryLemmas.{answered}
 use Rattle.loads.proofs.NamesFound.{file_names, name_cells, name_once, names_fit, names_shown}
 use Rattle.loads.proofs.exceptions.load_names.Goals as goal
 

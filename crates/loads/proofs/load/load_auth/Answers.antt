@@ -4,8 +4,8 @@ use Rattle.std.specs.Global.{Vec}
 use Rattle.sqlite.specs.Held.{state}
 use Rattle.sqlite.specs.State.{HasCleanDisk}
 use Rattle.sqlite_value.specs.declared.value.Value.TheVariants.{Text}
-use Rattle.making.specs.declared.fault.StoreFault.{StoreFault}
-use Rattle.making.specs.declared.fault.StoreFault.TheVariants.{Schema}
+use Rattle.transactions.specs.declared.fault.StoreFault.{StoreFault}
+use Rattle.transactions.specs.declared.fault.StoreFault.TheVariants.{Schema}
 use Rattle.registry.specs.declared.authorization.Auth.{Auth}
 use Rattle.tables.specs.Cells.{number_cell}
 use Rattle.tables.specs.Decode.{ClaimFits, EntryRowFits}
@@ -13,11 +13,11 @@ use Rattle.tables.specs.TablesHold.{items_if_any}
 use Rattle.tables.proofs.ClaimTexts.{numbered_claim_is, numbered_entries_is}
 use Rattle.tables.proofs.GroupCells.{by_entry}
 use Rattle.loads.specs.steps.Queries.{by_column}
-use Rattle.database.proofs.AuthsFound.{if_made, only_refused}
+use Rattle.loads.proofs.AuthsFound.{if_made, only_refused}
 use Rattle.loads.proofs.Finding.{claims_numbered, entries_numbered, has_number, selects_claim, selects_entries}
 use Rattle.loads.proofs.Loading.{held_before, never_fit}
 use Rattle.loads.proofs.NumberFound.{few_numbered, never_no_number, number_found, numbered_claims_fit, numbered_entries_fit, only_number, popped_number}
-use Rattle.database.proofs.QueryLemmas.{refused_by}
+use Rattle.transactions.proofs.QueryLemmas.{refused_by}
 use Rattle.loads.proofs.load.load_auth.Goals as goal
 
 pub load_selected-requires-clause-plain : goal.load_selected-requires-clause-plain

@@ -1,15 +1,15 @@
 use Rattle.std.proofs.Common.{map, flat_map, arith, refl, sym, ◌∙◌}
 use Rattle.sqlite.specs.Held.{state}
 use Rattle.sqlite.specs.State.{HasCleanDisk}
-use Rattle.making.specs.declared.fault.StoreFault.TheVariants.{Schema}
+use Rattle.transactions.specs.declared.fault.StoreFault.TheVariants.{Schema}
 use Rattle.registry.specs.declared.authorization.Auth.{Auth}
 use Rattle.tables.specs.Authorizations.{claim_of, entry_rows_of}
 use Rattle.tables.specs.Decode.{ClaimFits, EntryRowFits}
 use Rattle.tables.specs.TablesHold.{items_if_any}
 use Rattle.loads.specs.Loads.{AreInOrder, IsOf}
-use Rattle.database.proofs.AuthsFound.{auths_found, if_made, never_none, only_refused}
+use Rattle.loads.proofs.AuthsFound.{auths_found, if_made, never_none, only_refused}
 use Rattle.loads.proofs.Loading.{claims_fit, entries_fit, held_before, never_fit}
-use Rattle.database.proofs.QueryLemmas.{refused_by}
+use Rattle.transactions.proofs.QueryLemmas.{refused_by}
 use Rattle.loads.proofs.load.load_auths.Goals as goal
 
 pub returns-in_err-claims-clause-schema : goal.returns-in_err-claims-clause-schema

@@ -1,7 +1,7 @@
 use Rattle.std.proofs.Common.{◌≡◌, slice_get, refl, ◌∙◌}
 use Rattle.sqlite.specs.Held.{state}
 use Rattle.tables.proofs.CellsOnce.{counters_of_rows}
-use Rattle.database.proofs.QueryLemmas.{refused_by}
+use Rattle.transactions.proofs.QueryLemmas.{refused_by}
 use Rattle.loads.proofs.Loading.{CountersFit, counters_fit, first_counters, never_fit}
 use Rattle.loads.proofs.load.load_counters.Goals as goal
 

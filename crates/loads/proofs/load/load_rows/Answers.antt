@@ -3,7 +3,7 @@ use Rattle.sqlite.specs.Held.{state}
 use Rattle.sqlite.specs.State.{HasCleanDisk}
 use Rattle.registry.specs.Values.{FitIfAny}
 use Rattle.loads.proofs.Loading.{held_before, refused_before, none_loaded, all_loaded}
-use Rattle.database.proofs.QueryLemmas.{refused_by}
+use Rattle.transactions.proofs.QueryLemmas.{refused_by}
 use Rattle.loads.proofs.load.load_rows.Goals as goal
 
 pub returns-in_err-granted-clause-schema : goal.returns-in_err-granted-clause-schema

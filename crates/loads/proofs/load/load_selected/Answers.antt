@@ -6,7 +6,7 @@ use Rattle.sqlite.specs.State.{HasCleanDisk}
 use Rattle.tables.specs.TablesHold.{items_if_any}
 use Rattle.tables.proofs.CellsOnce.{values_shown}
 use Rattle.tables.proofs.ReadLemmas.{all_show}
-use Rattle.database.proofs.QueryLemmas.{answered}
+use Rattle.transactions.proofs.QueryLemmas.{answered}
 use Rattle.loads.proofs.load.load_selected.Goals as goal
 
 pub returns-clause-found : goal.returns-clause-found

@@ -1,7 +1,7 @@
 use Rattle.std.proofs.Common.{arith}
 use Rattle.std.proofs.lemmas.Result.{on_ok_weaker}
 use Rattle.making.proofs.CharterSteps.{has_charter}
-use Rattle.making.proofs.StatementLemmas.{stays_then}
+use Rattle.transactions.proofs.StatementLemmas.{stays_then}
 use Rattle.making.proofs.charter.put_charter.Goals as goal
 
 pub returns-in_err-put_operators-clause-inside : goal.returns-in_err-put_operators-clause-inside

@@ -1,5 +1,5 @@
 use Rattle.making.proofs.CharterSteps.{puts_operator}
-use Rattle.making.proofs.StatementLemmas.{means}
+use Rattle.transactions.proofs.StatementLemmas.{means}
 use Rattle.making.proofs.charter.put_operator.Goals as goal
 
 pub returns-clause-put : goal.returns-clause-put

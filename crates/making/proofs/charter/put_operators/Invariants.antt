@@ -2,8 +2,8 @@ use Rattle.std.proofs.Common.{map, take}
 use Rattle.sqlite.specs.State.{HasCleanDisk}
 use Rattle.tables.specs.Tables.{operator}
 use Rattle.tables.specs.Cells.{operator_row}
-use Rattle.making.specs.steps.Making.{PutsRows}
-use Rattle.making.specs.Statements.{state_in, StaysInside}
+use Rattle.transactions.specs.steps.Statements.{PutsRows}
+use Rattle.transactions.specs.Statements.{state_in, StaysInside}
 use Rattle.making.proofs.charter.put_operators.Given as goal
 
 abbrev pub invariant-loop-name : goal.invariant-loop-name

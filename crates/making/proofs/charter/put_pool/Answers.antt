@@ -1,7 +1,7 @@
 use Rattle.std.proofs.Common.{arith}
 use Rattle.tables.specs.Cells.{prefix_cells}
-use Rattle.making.proofs.CharterSteps.{puts_none, puts_along}
-use Rattle.making.proofs.StatementLemmas.{stays, stays_then}
+use Rattle.transactions.proofs.PutLemmas.{puts_none, puts_along}
+use Rattle.transactions.proofs.StatementLemmas.{stays, stays_then}
 use Rattle.making.proofs.charter.put_pool.Goals as goal
 
 pub loop-prefix-init : goal.loop-prefix-init

@@ -1,5 +1,5 @@
 use Rattle.making.proofs.CharterSteps.{puts_prefix}
-use Rattle.making.proofs.StatementLemmas.{means}
+use Rattle.transactions.proofs.StatementLemmas.{means}
 use Rattle.making.proofs.charter.put_prefix.Goals as goal
 
 pub returns-clause-put : goal.returns-clause-put

@@ -1,6 +1,6 @@
 use Rattle.std.proofs.Common.{refl}
 use Rattle.making.proofs.CharterSteps.{puts_schema}
-use Rattle.making.proofs.StatementLemmas.{means}
+use Rattle.transactions.proofs.StatementLemmas.{means}
 use Rattle.making.proofs.charter.put_schema.Goals as goal
 
 pub returns-clause-put : goal.returns-clause-put

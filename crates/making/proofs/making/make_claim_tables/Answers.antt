@@ -6,7 +6,7 @@ use Rattle.tables.specs.declared.entry.TheConstants.{CREATE_ENTRY}
 use Rattle.making.specs.Making.{schema_so_far}
 use Rattle.making.proofs.MakingSteps.{makes_table, makes_claim_tables}
 use Rattle.making.proofs.Creates.{claim_defined, entry_defined}
-use Rattle.making.proofs.StatementLemmas.{stays_then}
+use Rattle.transactions.proofs.StatementLemmas.{stays_then}
 use Rattle.making.proofs.making.make_claim_tables.Goals as goal
 
 pub returns-clause-made : goal.returns-clause-made

@@ -7,7 +7,7 @@ use Rattle.tables.specs.declared.operator.TheConstants.{CREATE_OPERATOR}
 use Rattle.tables.specs.declared.pool.TheConstants.{CREATE_POOL}
 use Rattle.making.proofs.MakingSteps.{makes}
 use Rattle.making.proofs.Creates.{meta_defined, operator_defined, pool_defined, holder_defined}
-use Rattle.making.proofs.StatementLemmas.{stays_then}
+use Rattle.transactions.proofs.StatementLemmas.{stays_then}
 use Rattle.making.proofs.making.make_first_tables.Goals as goal
 
 pub returns-in_err-execute-2-clause-inside : goal.returns-in_err-execute-2-clause-inside

@@ -7,7 +7,7 @@ use Rattle.tables.specs.declared.granted.TheConstants.{CREATE_GRANTED}
 use Rattle.tables.specs.declared.holding.TheConstants.{CREATE_HOLDING}
 use Rattle.making.proofs.MakingSteps.{makes}
 use Rattle.making.proofs.Creates.{holding_defined, granted_defined, auth_defined, slurm_defined}
-use Rattle.making.proofs.StatementLemmas.{stays_then}
+use Rattle.transactions.proofs.StatementLemmas.{stays_then}
 use Rattle.making.proofs.making.make_other_tables.Goals as goal
 
 pub returns-in_err-execute-2-clause-inside : goal.returns-in_err-execute-2-clause-inside

@@ -1,4 +1,4 @@
-use Rattle.making.proofs.StatementLemmas.{stays_then}
+use Rattle.transactions.proofs.StatementLemmas.{stays_then}
 use Rattle.making.proofs.making.make_schema.Goals as goal
 
 pub returns-in_err-make_other_tables-clause-inside : goal.returns-in_err-make_other_tables-clause-inside

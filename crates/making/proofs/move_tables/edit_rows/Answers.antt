@@ -1,7 +1,7 @@
 use Rattle.std.proofs.Common.{arith}
 use Rattle.std.proofs.lemmas.Result.{on_ok_weaker}
 use Rattle.making.proofs.MovingSteps.{edits_rows}
-use Rattle.making.proofs.StatementLemmas.{stays_then}
+use Rattle.transactions.proofs.StatementLemmas.{stays_then}
 use Rattle.making.proofs.move_tables.edit_rows.Goals as goal
 
 pub returns-in_err-execute-2-clause-inside : goal.returns-in_err-execute-2-clause-inside

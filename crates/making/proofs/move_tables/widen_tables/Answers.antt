@@ -1,7 +1,7 @@
 use Rattle.std.proofs.Common.{arith}
 use Rattle.std.proofs.lemmas.Result.{on_ok_weaker}
 use Rattle.making.proofs.MovingSteps.{widens}
-use Rattle.making.proofs.StatementLemmas.{stays_then}
+use Rattle.transactions.proofs.StatementLemmas.{stays_then}
 use Rattle.making.proofs.move_tables.widen_tables.Goals as goal
 
 pub returns-clause-widened : goal.returns-clause-widened

@@ -1,5 +1,5 @@
 use Rattle.edits.proofs.EditSteps.{puts_holding}
-use Rattle.making.proofs.StatementLemmas.{means}
+use Rattle.transactions.proofs.StatementLemmas.{means}
 use Rattle.edits.proofs.holding.SpanHolderRow.put.Goals as goal
 
 pub returns-clause-done : goal.returns-clause-done

@@ -14,7 +14,7 @@ pub enum StoreFault {
 
 impl StoreFault {
     ghost use Rattle.std.specs.Prelude.{◌≡◌};
-    ghost use Rattle.making.specs.Fault.{store_fault_number};
+    ghost use Rattle.transactions.specs.Fault.{store_fault_number};
 
     /// The fault as a number: 1 for the database, 2 for the schema.
     pub fn number(self) -> u8
@@ -29,7 +29,7 @@ impl StoreFault {
 
 impl From<Error> for StoreFault {
     ghost use Rattle.std.specs.Prelude.{◌≡◌};
-    ghost use Rattle.making.specs.declared.fault.StoreFault.TheVariants.{Database};
+    ghost use Rattle.transactions.specs.declared.fault.StoreFault.TheVariants.{Database};
 
     ghost from_gives = { λ _ fault. fault ≡ Database };
 
@@ -40,7 +40,7 @@ impl From<Error> for StoreFault {
 
 impl From<AllocError> for StoreFault {
     ghost use Rattle.std.specs.Prelude.{◌≡◌};
-    ghost use Rattle.making.specs.declared.fault.StoreFault.TheVariants.{Database};
+    ghost use Rattle.transactions.specs.declared.fault.StoreFault.TheVariants.{Database};
 
     ghost from_gives = { λ _ fault. fault ≡ Database };
 

@@ -13,10 +13,9 @@ use Rattle.sqlite_rules.proofs.ListLemmas.{all_has, all_from}
 use Rattle.sqlite_schema.specs.Rules.{agree, are_present}
 use Rattle.sqlite_schema.specs.declared.schema.Table.{Table}
 use Rattle.tables.specs.Tables.{desk_tables, rising, claim, entry, contents, IsTree}
-use Rattle.database.specs.Laws.{payload_columns, number_columns, RowsDiffer, ClaimsDiffer, EntriesDiffer}
-use Rattle.database.proofs.Obeyed.{payload_key, agree_in_payload, number_key, agree_in_number, once_by_key, filled}
-use Rattle.database.proofs.Moved.{ascending_moved}
-use Rattle.database.proofs.SomeExceptions.{ascending_where}
+use Rattle.transactions.specs.Laws.{payload_columns, number_columns, RowsDiffer, ClaimsDiffer, EntriesDiffer}
+use Rattle.transactions.proofs.Obeyed.{payload_key, agree_in_payload, number_key, agree_in_number, once_by_key, filled}
+use Rattle.transactions.proofs.Ascending.{ascending_moved, ascending_where}
 
 -- a table with a key, and the columns of a row that tell it among its rows
 module _ (t : Table) (has : Has desk_tables t) (no_rowid : t.key ≡ None) (at : ℕ) (key : List ℕ) (is_key : slice_get t.uniques at ≡ Some key)

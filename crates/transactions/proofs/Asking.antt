@@ -5,8 +5,8 @@ use Rattle.sqlite.specs.Held.{Held, state}
 use Rattle.sqlite.specs.Store.{Ghosts}
 use Rattle.sqlite.proofs.Callers.{unchanged_then}
 use Rattle.sqlite.proofs.StateLemmas.{survives_then}
-use Rattle.database.specs.Queries.{IsAsked, IsClean}
-use Rattle.database.proofs.QueryLemmas.{no_answer}
+use Rattle.transactions.specs.Queries.{IsAsked, IsClean}
+use Rattle.transactions.proofs.QueryLemmas.{no_answer}
 
 module _ {S : Type 0} (g : Ghosts S) where
   -- no query

@@ -5,9 +5,9 @@ use Rattle.std.specs.Option.{ok_or}
 use Rattle.sqlite_value.specs.Order.{Row}
 use Rattle.tables.specs.Decode.{ShowsNone, DecodesAll, first_columns}
 use Rattle.tables.proofs.ReadLemmas.{all_show}
-use Rattle.making.specs.declared.fault.StoreFault.{StoreFault}
-use Rattle.making.specs.declared.fault.StoreFault.TheVariants.{Schema}
-use Rattle.database.proofs.values.read_within.Goals as goal
+use Rattle.transactions.specs.declared.fault.StoreFault.{StoreFault}
+use Rattle.transactions.specs.declared.fault.StoreFault.TheVariants.{Schema}
+use Rattle.transactions.proofs.values.read_within.Goals as goal
 
 refused_iff :
     {X : Type 0} (cells : X → Row) (fits : X → Type 0) (rows : List Row) (read : Option (Vec X)) (result : Result (Vec X) StoreFault)

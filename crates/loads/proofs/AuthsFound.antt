@@ -36,7 +36,7 @@ use Rattle.tables.proofs.GroupNeeds.{claims_grouped_once}
 use Rattle.tables.proofs.GroupOrder.{claim_cmp, claim_orders, entry_row_cmp, groups_in_order}
 use Rattle.tables.proofs.PartLemmas.{names}
 use Rattle.tables.proofs.Ungrouping.{grouped, ungrouped}
-use Rattle.database.specs.Laws.{ClaimsDiffer, number_columns}
+use Rattle.transactions.specs.Laws.{ClaimsDiffer, number_columns}
 
 -- ---- lists in order
 

@@ -1,9 +1,17 @@
--- Rows of which each is so to every later one, in another order.
+-- Rows of which each is so to every later one.
 use Rattle.std.proofs.Common.{List, [], ◌∷◌, IsPermutation}
+use Rattle.std.specs.List.{AllByRecursion}
 use Rattle.std.proofs.lemmas.List.Sorted.{IsPermutation-refl, IsPermutation-cons, IsPermutation-middle, IsPermutation-trans}
 use Rattle.sqlite_trees.specs.Tree.{IsAscending}
-use Rattle.sqlite_trees.proofs.ListLemmas.{all-permutation, along_permutation}
+use Rattle.sqlite_trees.proofs.ListLemmas.{all_both, all-permutation, along_permutation}
 
+-- a relation of each element and each later one, where it holds of all that are so
+pub ascending_where : {X : Type 0} (P : X → Type 0) (R S : X → X → Type 0) → ((a b : X) → P a → P b → R a b → S a b) → (xs : List X) → AllByRecursion P xs → IsAscending R xs → IsAscending S xs
+ascending_where P R S to [] all up = tt
+ascending_where P R S to (x ∷ xs) all up =
+    (all_both P (R x) (S x) (λ y p r. to x y all.0 p r) xs all.1 up.0, ascending_where P R S to xs all.1 up.1)
+
+-- and in another order
 module _ {X : Type 0} (R : X → X → Type 0) (flips : (x y : X) → R x y → R y x) where
   -- the items are the same, and so to one another if those are
   abbrev StaysSo : List X → List X → Type 0

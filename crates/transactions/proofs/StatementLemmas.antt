@@ -11,14 +11,14 @@ use Rattle.sqlite_schema.specs.declared.command.Command.{Command}
 use Rattle.sqlite_schema.specs.declared.schema.Schema.{Schema}
 use Rattle.tables.specs.Tables.{desk_beside, IsTree, AreTrees, as_strict, desk_tables}
 use Rattle.tables.specs.steps.Edits.{Edits}
-use Rattle.making.specs.Statements.{IsReady, IsExecuted, state_in, WhenClean, IfDone, StaysInside}
+use Rattle.transactions.specs.Statements.{IsReady, IsExecuted, state_in, WhenClean, IfDone, StaysInside}
 use Rattle.tables.proofs.Texts.{Means, beside}
 use Rattle.sqlite_sql.specs.Term.{Term}
 use Rattle.sqlite_schema.specs.declared.command.Command.TheVariants.{Insert}
 use Rattle.sqlite_schema.specs.declared.command.Source.TheVariants.{Values}
 use Rattle.sqlite_schema.specs.declared.schema.Table.{Table}
 use Rattle.sqlite_rules.specs.Cast.{cast_all}
-use Rattle.making.specs.steps.Making.{PutsRows}
+use Rattle.transactions.specs.steps.Statements.{PutsRows}
 use Rattle.tables.proofs.Inserting as inserting
 use Rattle.std.proofs.lemmas.Result.{on_ok_weaker}
 use Rattle.std.proofs.lemmas.List.{take_more}

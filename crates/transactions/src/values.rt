@@ -2,7 +2,7 @@
 ghost use Rattle.std.specs.Prelude.{◌≡◌, ◌≢◌, ◌≤◌, ◌↔◌, [], map, length, All, Any, Err, IfOk, vec_capacity};
 ghost use Rattle.tables.specs.Decode.{ShowsNone, first_columns};
 
-use making::StoreFault;
+use crate::fault::StoreFault;
 use sqlite::Row;
 use std::alloc::Global;
 use tables::{FromRow, in_rows};

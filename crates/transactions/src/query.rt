@@ -6,8 +6,8 @@ ghost use Rattle.sqlite.specs.Listing.{understood};
 ghost use Rattle.sqlite.specs.State.{Shown};
 ghost use Rattle.sqlite.specs.Values.{bound};
 ghost use Rattle.tables.specs.Tables.{OverDesk};
-ghost use Rattle.making.specs.Statements.{IfAnswered, IsReady, WhenClean};
-ghost use Rattle.database.specs.Queries.{IsAsked, IsClean, IsReadyToAsk, IsAskedInside};
+ghost use Rattle.transactions.specs.Statements.{IfAnswered, IsReady, WhenClean};
+ghost use Rattle.transactions.specs.Queries.{IsAsked, IsClean, IsReadyToAsk, IsAskedInside};
 
 use sqlite::types::ValueRef;
 use sqlite::{Alter, Connection, Error, Row, Transaction};
@@ -35,7 +35,7 @@ pub fn ask<S: Alter>(
 }
 
 /// All rows that a query answers within a transaction. The database stays as it is.
-pub(crate) fn ask_inside<S: Alter>(
+pub fn ask_inside<S: Alter>(
     tx: &mut Transaction<'_, S>,
     sql: &str,
     values: &[ValueRef<'_>],

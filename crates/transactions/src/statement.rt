@@ -1,7 +1,7 @@
 //! A statement within a transaction.
 ghost use Rattle.std.specs.Prelude.{◌≡◌, true};
 ghost use Rattle.sqlite.specs.Values.{bound};
-ghost use Rattle.making.specs.Statements.{WhenClean, IfDone, StaysInside, IsExecuted};
+ghost use Rattle.transactions.specs.Statements.{WhenClean, IfDone, StaysInside, IsExecuted};
 
 use sqlite::types::ValueRef;
 use sqlite::{Alter, Error, Transaction};

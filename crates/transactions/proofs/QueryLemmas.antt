@@ -16,12 +16,12 @@ use Rattle.sqlite_trees.specs.Tree.{Trees}
 use Rattle.sqlite_schema.specs.declared.command.Command.{Command}
 use Rattle.sqlite_schema.specs.declared.command.Returning.{Returning}
 use Rattle.tables.specs.Tables.{desk_tables, desk_beside, OverDesk}
-use Rattle.making.specs.Statements.{IsAsBefore, IsReady, StaysInside, state_in}
-use Rattle.making.proofs.StatementLemmas.{stays_then}
-use Rattle.database.specs.Queries.{IsAskedInside}
+use Rattle.transactions.specs.Statements.{IsAsBefore, IsReady, StaysInside, state_in}
+use Rattle.transactions.proofs.StatementLemmas.{stays_then}
+use Rattle.transactions.specs.Queries.{IsAskedInside}
 use Rattle.tables.proofs.Texts.{Means, beside, at_desk}
-use Rattle.making.specs.declared.fault.StoreFault.{StoreFault}
-use Rattle.making.specs.declared.fault.StoreFault.TheVariants.{Schema}
+use Rattle.transactions.specs.declared.fault.StoreFault.{StoreFault}
+use Rattle.transactions.specs.declared.fault.StoreFault.TheVariants.{Schema}
 
 -- a query that answered changed nothing
 pub shown_same : (sql : List ℕ) (params : Row) (old new : State) (rows : List Row) → IsPlain (understood old.now.schema sql) → Shown sql params old new rows → IsUnchanged old new

@@ -2,8 +2,8 @@ use Rattle.std.proofs.Common.{ap, ◌∙◌, not, arith}
 use Rattle.sqlite.specs.Held.{state}
 use Rattle.sqlite.specs.State.{HasCleanDisk}
 use Rattle.sqlite.specs.Values.{bound}
-use Rattle.database.proofs.QueryLemmas.{not_run, no_answer, as_before, answer_shown, answer_unchanged, answer_kept, answer_survives}
-use Rattle.database.proofs.query.ask.Goals as goal
+use Rattle.transactions.proofs.QueryLemmas.{not_run, no_answer, as_before, answer_shown, answer_unchanged, answer_kept, answer_survives}
+use Rattle.transactions.proofs.query.ask.Goals as goal
 
 pub returns-in_err-query-clause-asked : goal.returns-in_err-query-clause-asked
 returns-in_err-query-clause-asked g c =

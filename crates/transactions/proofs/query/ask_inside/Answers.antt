@@ -1,9 +1,9 @@
 use Rattle.std.proofs.Common.{arith}
 use Rattle.sqlite.specs.State.{HasCleanDisk}
 use Rattle.sqlite.specs.Values.{bound}
-use Rattle.making.specs.Statements.{state_in, IsReady}
-use Rattle.database.proofs.QueryLemmas.{inside_unchanged, inside_ready, inside_kept}
-use Rattle.database.proofs.query.ask_inside.Goals as goal
+use Rattle.transactions.specs.Statements.{state_in, IsReady}
+use Rattle.transactions.proofs.QueryLemmas.{inside_unchanged, inside_ready, inside_kept}
+use Rattle.transactions.proofs.query.ask_inside.Goals as goal
 
 pub returns-clause-asked : goal.returns-clause-asked
 returns-clause-asked g c =

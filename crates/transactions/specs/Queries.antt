@@ -5,8 +5,8 @@ use Rattle.sqlite.specs.Effect.{IsDatabase}
 use Rattle.sqlite.specs.Held.{Held, state}
 use Rattle.sqlite.specs.State.{State, HasCleanDisk, IsUnchanged, KeepsCounts, Shows, Survives}
 use Rattle.sqlite.specs.Store.{Ghosts}
-use Rattle.making.specs.Databases.{HasDeskTables}
-use Rattle.making.specs.Statements.{IsAsBefore, IfDone, IsReady, StaysInside}
+use Rattle.transactions.specs.Databases.{HasDeskTables}
+use Rattle.transactions.specs.Statements.{IsAsBefore, IfDone, IsReady, StaysInside}
 
 -- the disk of a connection returned what was written
 abbrev pub IsClean : {S : Type 0} → Ghosts S → Held S → Type 0

@@ -31,8 +31,8 @@ use Rattle.sqlite_schema.specs.declared.schema.Kind.TheVariants.{Integer as OfIn
 use Rattle.tables.specs.Tables.{desk_tables, holder_reference, required_column, rising, holder, claim, entry}
 use Rattle.tables.specs.TablesHold.{is_name_of}
 use Rattle.tables.proofs.TreeRows.{alike_flip}
-use Rattle.database.specs.Laws.{payload_columns, number_columns}
-use Rattle.database.proofs.Columns.{column_after}
+use Rattle.transactions.specs.Laws.{payload_columns, number_columns}
+use Rattle.tables.proofs.Columns.{column_after}
 
 -- ---- the number of columns
 

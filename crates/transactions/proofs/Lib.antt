@@ -1,0 +1,7 @@
+pub mod StatementLemmas
+pub mod PutLemmas
+pub mod QueryLemmas
+pub mod Asking
+pub mod Ascending
+pub mod Obeyed
+pub mod KeyedRows

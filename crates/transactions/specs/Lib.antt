@@ -1,0 +1,6 @@
+pub mod Fault
+pub mod Databases
+pub mod Statements
+pub mod Queries
+pub mod Laws
+pub mod steps

@@ -1,0 +1,2 @@
+-- The steps of the code, which no public contract cites.
+pub mod Statements

@@ -1,0 +1,14 @@
+//! Statements and queries on the tables of a desk: what one leaves of its transaction or its
+//! connection, what a transaction leaves, and how a store fails.
+#![tactic(auto)]
+
+mod fault;
+pub mod laws;
+mod query;
+mod statement;
+mod values;
+
+pub use fault::StoreFault;
+pub use query::{ask, ask_inside};
+pub use statement::execute;
+pub use values::read_all;
