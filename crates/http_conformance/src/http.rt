@@ -6,11 +6,12 @@ use addr::Day;
 use conformance::desks::example_desk;
 use conformance::fakes::{Drip, Tape};
 use desk::Desk;
-use library_conformance::rows::table_rows;
+use library_conformance::rows::{Row, table_rows};
 use library_conformance::sheet::Sheet;
 use sqlite::MemStore;
-use std::alloc::Global;
+use std::alloc::{AllocError, Global};
 use std::process::Abort;
+use std::str;
 use std::test::Fail;
 use web::{Device, WebFault, serve_one};
 
@@ -77,16 +78,15 @@ pub(crate) fn serve(
     })
 }
 
-/// How many writes of a connection that takes all bytes the response to a row's request is.
-pub(crate) fn writes_of(
+/// How many writes of a connection that takes all bytes the response to these is.
+fn count_writes(
     alloc: Global,
     desk: &mut Desk<MemStore>,
-    row: &str,
-) -> Result<usize, Fail> {
-    let day = Day::read(b"2026-03-01").ok_or("a day")?;
-    let request = request_text(alloc, row)?;
+    day: Day,
+    bytes: &[u8],
+) -> Result<usize, WebFault> {
     let mut source = Device::new(Tape {
-        bytes: request.as_bytes(),
+        bytes,
         piece: usize::MAX,
         fails: false,
         is_interrupted: false,
@@ -96,9 +96,33 @@ pub(crate) fn writes_of(
         calls: 0,
         written: Vec::new(alloc),
     };
-    let result = serve_one(alloc, &mut source, &mut Device::new(&mut drip), desk, day);
-    result.map_err(|_| "not served")?;
-    Ok(drip.calls)
+    match serve_one(alloc, &mut source, &mut Device::new(&mut drip), desk, day) {
+        Ok(()) => Ok(drip.calls),
+        Err(fault) => Err(fault),
+    }
+}
+
+/// The response to a row's request is so many writes of a connection that takes all bytes.
+pub(crate) fn assert_writes(
+    rt: &impl Abort,
+    alloc: Global,
+    desk: &mut Desk<MemStore>,
+    row: &str,
+    count: usize,
+) -> Result<(), Fail> {
+    let day = Day::read(b"2026-03-01").ok_or("a day")?;
+    let request = request_text(alloc, row)?;
+    let writes = count_writes(alloc, desk, day, request.as_bytes());
+    assert_eq!(rt; writes, Ok(count), "of {row:?}");
+    Ok(())
+}
+
+/// The field for the length of a body, where there is one.
+fn length_field(alloc: Global, body: &str) -> Result<String, AllocError> {
+    match body.len() {
+        0 => Ok(String::new(alloc)),
+        length => format!(in alloc; "Content-Length: {length}\r\n"),
+    }
 }
 
 /// The bytes of a row's request.
@@ -106,14 +130,10 @@ pub(crate) fn request_text(alloc: Global, row: &str) -> Result<String, Fail> {
     let (method, after_method) = row.split_once(' ').ok_or("no method")?;
     let (target, after_target) = after_method.split_once(' ').ok_or("no target")?;
     let (caller, body) = after_target.split_once(' ').unwrap_or((after_target, ""));
-    let mut text = format!(in alloc; "{method} {target} HTTP/1.1\r\nDesk-Caller: {caller}\r\n")?;
-    if !body.is_empty() {
-        let length = body.len();
-        text.push_str(&format!(in alloc; "Content-Length: {length}\r\n")?)?;
-    }
-    text.push_str("\r\n")?;
-    text.push_str(body)?;
-    Ok(text)
+    let length = length_field(alloc, body)?;
+    Ok(format!(in alloc;
+        "{method} {target} HTTP/1.1\r\nDesk-Caller: {caller}\r\n{length}\r\n{body}"
+    )?)
 }
 
 /// A response of this status and type, with these further fields.
@@ -163,9 +183,31 @@ pub(crate) fn assert_response(
     name: &str,
 ) -> Result<(), Fail> {
     let outcome = serve(alloc, desk, request, AT_ONCE)?;
-    let written = String::from_utf8(outcome.written)?;
-    assert_eq!(rt; written.as_str(), response, "{name}");
+    let written = str::from_utf8(&outcome.written).ok();
+    assert_eq!(rt; written, Some(response), "{name}");
     assert_eq!(rt; outcome.result, Ok(()), "{name}");
+    Ok(())
+}
+
+fn assert_row(
+    rt: &impl Abort,
+    alloc: Global,
+    desk: &mut Desk<MemStore>,
+    row: Row<'_>,
+) -> Result<(), Fail> {
+    let request = request_text(alloc, row.input)?;
+    assert_json(rt, alloc, desk, request.as_bytes(), row.output, row.input)
+}
+
+fn assert_each(
+    rt: &impl Abort,
+    alloc: Global,
+    desk: &mut Desk<MemStore>,
+    rows: &[Row<'_>],
+) -> Result<(), Fail> {
+    for row in rows {
+        assert_row(rt, alloc, desk, *row)?;
+    }
     Ok(())
 }
 
@@ -176,11 +218,8 @@ pub(crate) fn assert_rows(
     desk: &mut Desk<MemStore>,
     table: &str,
 ) -> Result<(), Fail> {
-    for row in &table_rows(alloc, table)? {
-        let request = request_text(alloc, row.input)?;
-        assert_json(rt, alloc, desk, request.as_bytes(), row.output, row.input)?;
-    }
-    Ok(())
+    let rows = table_rows(alloc, table)?;
+    assert_each(rt, alloc, desk, &rows)
 }
 
 /// The response to a row's request is CSV.

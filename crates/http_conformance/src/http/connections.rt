@@ -1,7 +1,7 @@
 //! Connections in pieces, cut short, failing, and with bytes to come.
 use super::{
-    AT_ONCE, Manner, assert_cut, assert_json, assert_rows, json_response, registered_holder,
-    request_text, serve, writes_of,
+    AT_ONCE, Manner, assert_cut, assert_json, assert_rows, assert_writes, json_response,
+    registered_holder, request_text, serve,
 };
 use desk::Desk;
 use sqlite::MemStore;
@@ -34,6 +34,24 @@ fn followed(alloc: Global, row: &str) -> Result<String, Fail> {
     Ok(text)
 }
 
+/// The bytes are answered so, but for those of `NEXT`, which are left.
+fn assert_next_is_left(
+    rt: &impl Abort,
+    alloc: Global,
+    desk: &mut Desk<MemStore>,
+    bytes: &[u8],
+    response: &str,
+    piece: usize,
+) -> Result<(), Fail> {
+    let outcome = serve(alloc, desk, bytes, Manner { piece, ..AT_ONCE })?;
+    assert!(rt;
+        outcome.written.as_slice() == response.as_bytes(),
+        "in pieces of {piece}"
+    );
+    assert_eq!(rt; outcome.unread, NEXT.len(), "in pieces of {piece}");
+    Ok(())
+}
+
 /// The request is answered, and what comes after it is left.
 fn assert_reads_no_more(
     rt: &impl Abort,
@@ -45,22 +63,20 @@ fn assert_reads_no_more(
 ) -> Result<(), Fail> {
     let bytes = followed(alloc, row)?;
     let response = json_response(alloc, output)?;
-    let outcome = serve(alloc, desk, bytes.as_bytes(), Manner { piece, ..AT_ONCE })?;
-    assert!(rt;
-        outcome.written.as_slice() == response.as_bytes(),
-        "in pieces of {piece}"
-    );
-    assert_eq!(rt; outcome.unread, NEXT.len(), "in pieces of {piece}");
-    Ok(())
+    assert_next_is_left(rt, alloc, desk, bytes.as_bytes(), &response, piece)
+}
+
+/// A create and a show that come in such pieces are read, and nothing after them.
+fn assert_reads_two(rt: &impl Abort, alloc: Global, piece: usize) -> Result<(), Fail> {
+    let mut desk = registered_holder(rt, alloc)?;
+    assert_reads_no_more(rt, alloc, &mut desk, CREATE, DONE, piece)?;
+    assert_reads_no_more(rt, alloc, &mut desk, SHOW, SHOWN, piece)
 }
 
 #[test]
 fn no_byte_after_the_request_is_read(rt: HostRuntime) -> Result<(), Fail> {
-    let alloc = rt.alloc();
-    for piece in [1, 7, usize::MAX] {
-        let mut desk = registered_holder(&rt, alloc)?;
-        assert_reads_no_more(&rt, alloc, &mut desk, CREATE, DONE, piece)?;
-        assert_reads_no_more(&rt, alloc, &mut desk, SHOW, SHOWN, piece)?;
+    for piece in &[1, 7, usize::MAX] {
+        assert_reads_two(&rt, rt.alloc(), *piece)?;
     }
     Ok(())
 }
@@ -149,12 +165,19 @@ const SHORT: [&str; 4] = [
     "GET /nowhere ann",
 ];
 
-#[test]
-fn short_response_is_one_write(rt: HostRuntime) -> Result<(), Fail> {
-    let alloc = rt.alloc();
-    let mut desk = registered_holder(&rt, alloc)?;
-    for row in SHORT {
-        assert_eq!(rt; writes_of(alloc, &mut desk, row)?, 1, "of {row:?}");
+fn assert_one_write_each(
+    rt: &impl Abort,
+    alloc: Global,
+    desk: &mut Desk<MemStore>,
+) -> Result<(), Fail> {
+    for row in &SHORT {
+        assert_writes(rt, alloc, desk, row, 1)?;
     }
     Ok(())
+}
+
+#[test]
+fn short_response_is_one_write(rt: HostRuntime) -> Result<(), Fail> {
+    let mut desk = registered_holder(&rt, rt.alloc())?;
+    assert_one_write_each(&rt, rt.alloc(), &mut desk)
 }

@@ -1,11 +1,11 @@
 //! Imports and exports over HTTP: bodies and answers that are CSV.
 use super::{
-    assert_csv, assert_cut, assert_json, assert_rows, registered_holder, response_of, writes_of,
+    assert_csv, assert_cut, assert_json, assert_rows, assert_writes, registered_holder, response_of,
 };
 use desk::Desk;
-use library_conformance::rows::table_rows;
+use library_conformance::rows::{Row, table_rows};
 use sqlite::MemStore;
-use std::alloc::Global;
+use std::alloc::{AllocError, Global};
 use std::process::Abort;
 use std::test::Fail;
 
@@ -222,7 +222,7 @@ const LOWEST: [(&str, &str, &[u8], &str); 7] = [
 const ROW: &[u8] = b"AS64496,192.0.2.0/24,24,2026-01-01,2026-12-31\n";
 
 /// How many rows an import has, the row after them, and the last line of the response.
-const MANY: [(u32, &[u8], &str); 3] = [
+const MANY: [(usize, &[u8], &str); 3] = [
     (9_999, ROW, "200 {\"made\":1,\"present\":9999}"),
     (10_000, ROW, "400 {\"malformed\":12}"),
     (
@@ -291,18 +291,13 @@ fn import_of(
     alloc: Global,
     holder: &str,
     caller: &str,
-    parts: [&[u8]; 2],
-) -> Result<Vec<u8>, Fail> {
-    let [first, second] = parts;
-    let mut body = Vec::from_slice(alloc, first)?;
-    body.extend_from_slice(second)?;
-    let length = body.len();
+    [first, second]: [&[u8]; 2],
+) -> Result<Vec<u8>, AllocError> {
+    let length = first.len().saturating_add(second.len());
     let head = format!(in alloc;
         "POST /holders/{holder}/imports HTTP/1.1\r\nDesk-Caller: {caller}\r\nContent-Length: {length}\r\n\r\n"
     )?;
-    let mut request = Vec::from_slice(alloc, head.as_bytes())?;
-    request.extend_from_slice(&body)?;
-    Ok(request)
+    [head.as_bytes(), first, second].concat(alloc)
 }
 
 /// The import by `ann` of these rows has this response.
@@ -318,14 +313,10 @@ fn assert_import(
 }
 
 /// The bytes of a text, a line feed for each semicolon.
-fn body_of(alloc: Global, text: &str) -> Result<Vec<u8>, Fail> {
+fn body_of(alloc: Global, text: &str) -> Result<Vec<u8>, AllocError> {
     let mut body = Vec::new(alloc);
     for byte in text.bytes() {
-        if byte == b';' {
-            body.push(b'\n')?;
-        } else {
-            body.push(byte)?;
-        }
+        body.push(if byte == b';' { b'\n' } else { byte })?;
     }
     Ok(body)
 }
@@ -341,6 +332,30 @@ fn assert_body(
     assert_json(rt, alloc, desk, &request, output, output)
 }
 
+fn assert_import_row(
+    rt: &impl Abort,
+    alloc: Global,
+    desk: &mut Desk<MemStore>,
+    header: &[u8],
+    row: Row<'_>,
+) -> Result<(), Fail> {
+    let body = body_of(alloc, row.input)?;
+    assert_body(rt, alloc, desk, [header, &body], row.output)
+}
+
+fn assert_import_rows(
+    rt: &impl Abort,
+    alloc: Global,
+    desk: &mut Desk<MemStore>,
+    header: &[u8],
+    rows: &[Row<'_>],
+) -> Result<(), Fail> {
+    for row in rows {
+        assert_import_row(rt, alloc, desk, header, *row)?;
+    }
+    Ok(())
+}
+
 /// Each row's body, after these bytes, has its response.
 fn assert_imports(
     rt: &impl Abort,
@@ -349,11 +364,8 @@ fn assert_imports(
     header: &[u8],
     table: &str,
 ) -> Result<(), Fail> {
-    for row in &table_rows(alloc, table)? {
-        let body = body_of(alloc, row.input)?;
-        assert_body(rt, alloc, desk, [header, &body], row.output)?;
-    }
-    Ok(())
+    let rows = table_rows(alloc, table)?;
+    assert_import_rows(rt, alloc, desk, header, &rows)
 }
 
 #[test]
@@ -363,13 +375,17 @@ fn bodies_of_imports(rt: HostRuntime) -> Result<(), Fail> {
     assert_imports(&rt, rt.alloc(), &mut desk, b"", HEADERS)
 }
 
+fn assert_bytes(rt: &impl Abort, alloc: Global, desk: &mut Desk<MemStore>) -> Result<(), Fail> {
+    for (_, body, output) in &BYTES {
+        assert_body(rt, alloc, desk, [body, b""], output)?;
+    }
+    Ok(())
+}
+
 #[test]
 fn bytes_of_imports(rt: HostRuntime) -> Result<(), Fail> {
     let mut desk = registered_holder(&rt, rt.alloc())?;
-    for (_, body, output) in BYTES {
-        assert_body(&rt, rt.alloc(), &mut desk, [body, b""], output)?;
-    }
-    Ok(())
+    assert_bytes(&rt, rt.alloc(), &mut desk)
 }
 
 fn assert_lowest(
@@ -383,49 +399,56 @@ fn assert_lowest(
     assert_json(rt, alloc, desk, &request, output, output)
 }
 
-#[test]
-fn lowest_faults_of_imports(rt: HostRuntime) -> Result<(), Fail> {
-    let mut desk = registered_holder(&rt, rt.alloc())?;
-    for row in LOWEST {
-        assert_lowest(&rt, rt.alloc(), &mut desk, row)?;
+fn assert_each_lowest(
+    rt: &impl Abort,
+    alloc: Global,
+    desk: &mut Desk<MemStore>,
+) -> Result<(), Fail> {
+    for row in &LOWEST {
+        assert_lowest(rt, alloc, desk, *row)?;
     }
     Ok(())
 }
 
+#[test]
+fn lowest_faults_of_imports(rt: HostRuntime) -> Result<(), Fail> {
+    let mut desk = registered_holder(&rt, rt.alloc())?;
+    assert_each_lowest(&rt, rt.alloc(), &mut desk)
+}
+
 /// So many rows like the one above, and then another.
-fn rows_of_many(alloc: Global, count: u32, last: &[u8]) -> Result<Vec<u8>, Fail> {
-    let mut rows = Vec::new(alloc);
-    for _ in 0..count {
-        rows.extend_from_slice(ROW)?;
-    }
-    rows.extend_from_slice(last)?;
-    Ok(rows)
+fn rows_of_many(alloc: Global, count: usize, last: &[u8]) -> Result<Vec<u8>, AllocError> {
+    let rows = ROW.repeat(alloc, count)?;
+    [rows.as_slice(), last].concat(alloc)
 }
 
 fn assert_many(
     rt: &impl Abort,
     alloc: Global,
     desk: &mut Desk<MemStore>,
-    row: (u32, &[u8], &str),
+    row: (usize, &[u8], &str),
 ) -> Result<(), Fail> {
     let (count, last, output) = row;
     let rows = rows_of_many(alloc, count, last)?;
     assert_import(rt, alloc, desk, &rows, output)
 }
 
-#[test]
-fn limits_of_rows(rt: HostRuntime) -> Result<(), Fail> {
-    let mut desk = registered_holder(&rt, rt.alloc())?;
-    for row in MANY {
-        assert_many(&rt, rt.alloc(), &mut desk, row)?;
+fn assert_each_many(rt: &impl Abort, alloc: Global, desk: &mut Desk<MemStore>) -> Result<(), Fail> {
+    for row in &MANY {
+        assert_many(rt, alloc, desk, *row)?;
     }
     Ok(())
 }
 
+#[test]
+fn limits_of_rows(rt: HostRuntime) -> Result<(), Fail> {
+    let mut desk = registered_holder(&rt, rt.alloc())?;
+    assert_each_many(&rt, rt.alloc(), &mut desk)
+}
+
 fn assert_exports(rt: &impl Abort, alloc: Global, desk: &mut Desk<MemStore>) -> Result<(), Fail> {
     assert_csv(rt, alloc, desk, EXPORT, EXPORT_HEADER)?;
-    let made = "200 {\"made\":2,\"present\":0}";
-    assert_import(rt, alloc, desk, TWO_ROWS, made)?;
+    assert_two_made(rt, alloc, desk)?;
     assert_csv(rt, alloc, desk, EXPORT, TWO_EXPORTED)
 }
 
@@ -462,63 +485,93 @@ fn export_two_authorizations(rt: HostRuntime) -> Result<(), Fail> {
     assert_exports_by_grants(&rt, rt.alloc(), &mut desk)
 }
 
+/// Each beginning of the response to an export is taken.
 fn assert_export_is_cut(
     rt: &impl Abort,
     alloc: Global,
     desk: &mut Desk<MemStore>,
+    response: &str,
 ) -> Result<(), Fail> {
-    let response = response_of(alloc, "200", "text/csv", "", TWO_EXPORTED)?;
     for room in 0..response.len() {
-        assert_cut(rt, alloc, desk, EXPORT, &response, room)?;
+        assert_cut(rt, alloc, desk, EXPORT, response, room)?;
     }
     Ok(())
 }
 
+/// The two rows are made.
+fn assert_two_made(rt: &impl Abort, alloc: Global, desk: &mut Desk<MemStore>) -> Result<(), Fail> {
+    assert_import(rt, alloc, desk, TWO_ROWS, "200 {\"made\":2,\"present\":0}")
+}
+
 #[test]
 fn export_that_is_cut_short(rt: HostRuntime) -> Result<(), Fail> {
+    let response = response_of(rt.alloc(), "200", "text/csv", "", TWO_EXPORTED)?;
     let mut desk = registered_holder(&rt, rt.alloc())?;
-    let made = "200 {\"made\":2,\"present\":0}";
-    assert_import(&rt, rt.alloc(), &mut desk, TWO_ROWS, made)?;
-    assert_export_is_cut(&rt, rt.alloc(), &mut desk)
+    assert_two_made(&rt, rt.alloc(), &mut desk)?;
+    assert_export_is_cut(&rt, rt.alloc(), &mut desk, &response)
+}
+
+fn assert_makes_nothing(
+    rt: &impl Abort,
+    alloc: Global,
+    desk: &mut Desk<MemStore>,
+) -> Result<(), Fail> {
+    assert_two_made(rt, alloc, desk)?;
+    let denied = "403 {\"denied\":\"held\",\"row\":2}";
+    assert_import(rt, alloc, desk, ONE_NOT_HELD, denied)?;
+    assert_rows(rt, alloc, desk, TWO_LISTED)
 }
 
 #[test]
 fn import_that_is_denied_makes_nothing(rt: HostRuntime) -> Result<(), Fail> {
-    let alloc = rt.alloc();
-    let mut desk = registered_holder(&rt, alloc)?;
+    let mut desk = registered_holder(&rt, rt.alloc())?;
+    assert_makes_nothing(&rt, rt.alloc(), &mut desk)
+}
+
+fn assert_both_families(
+    rt: &impl Abort,
+    alloc: Global,
+    desk: &mut Desk<MemStore>,
+) -> Result<(), Fail> {
+    assert_rows(rt, alloc, desk, IPV6_HOLDING)?;
     let made = "200 {\"made\":2,\"present\":0}";
-    assert_import(&rt, alloc, &mut desk, TWO_ROWS, made)?;
-    let denied = "403 {\"denied\":\"held\",\"row\":2}";
-    assert_import(&rt, alloc, &mut desk, ONE_NOT_HELD, denied)?;
-    assert_rows(&rt, alloc, &mut desk, TWO_LISTED)
+    assert_import(rt, alloc, desk, BOTH_FAMILIES, made)?;
+    assert_csv(rt, alloc, desk, EXPORT, BOTH_EXPORTED)
 }
 
 #[test]
 fn import_of_both_families(rt: HostRuntime) -> Result<(), Fail> {
-    let alloc = rt.alloc();
-    let mut desk = registered_holder(&rt, alloc)?;
-    assert_rows(&rt, alloc, &mut desk, IPV6_HOLDING)?;
-    let made = "200 {\"made\":2,\"present\":0}";
-    assert_import(&rt, alloc, &mut desk, BOTH_FAMILIES, made)?;
-    assert_csv(&rt, alloc, &mut desk, EXPORT, BOTH_EXPORTED)
+    let mut desk = registered_holder(&rt, rt.alloc())?;
+    assert_both_families(&rt, rt.alloc(), &mut desk)
+}
+
+/// Adds a row of this AS.
+fn add_row(alloc: Global, asn: u32, rows: &mut String) -> Result<(), AllocError> {
+    let row = format!(in alloc; "AS{asn},192.0.2.0/24,24,2026-01-01,2026-12-31\n")?;
+    rows.push_str(&row)
+}
+
+/// Adds what is exported of the row of this AS, whose number is that of the AS.
+fn add_exported(alloc: Global, asn: u32, exported: &mut String) -> Result<(), AllocError> {
+    let number = format!(in alloc; "{asn},")?;
+    exported.push_str(&number)?;
+    add_row(alloc, asn, exported)
 }
 
 /// So many rows, one for each AS from 1 on.
-fn rows_of_each(alloc: Global, count: u32) -> Result<String, Fail> {
+fn rows_of_each(alloc: Global, count: u32) -> Result<String, AllocError> {
     let mut rows = String::new(alloc);
     for asn in 1..=count {
-        rows.push_str(&format!(in alloc; "AS{asn},192.0.2.0/24,24,2026-01-01,2026-12-31\n")?)?;
+        add_row(alloc, asn, &mut rows)?;
     }
     Ok(rows)
 }
 
 /// What is exported of them.
-fn export_of_each(alloc: Global, count: u32) -> Result<String, Fail> {
+fn export_of_each(alloc: Global, count: u32) -> Result<String, AllocError> {
     let mut exported = String::from_str(alloc, EXPORT_HEADER)?;
     for asn in 1..=count {
-        exported.push_str(&format!(in alloc;
-            "{asn},AS{asn},192.0.2.0/24,24,2026-01-01,2026-12-31\n"
-        )?)?;
+        add_exported(alloc, asn, &mut exported)?;
     }
     Ok(exported)
 }
@@ -541,22 +594,29 @@ fn import_of_1001_rows_makes_nothing(rt: HostRuntime) -> Result<(), Fail> {
     assert_rows(&rt, rt.alloc(), &mut desk, NOTHING_LISTED)
 }
 
-fn assert_1000_rows_are_exported(
+fn assert_1000_rows_are_made(
     rt: &impl Abort,
     alloc: Global,
     desk: &mut Desk<MemStore>,
 ) -> Result<(), Fail> {
     let rows = rows_of_each(alloc, 1000)?;
     let made = "200 {\"made\":1000,\"present\":0}";
-    assert_import(rt, alloc, desk, rows.as_bytes(), made)?;
+    assert_import(rt, alloc, desk, rows.as_bytes(), made)
+}
+
+fn assert_1000_rows_are_exported(
+    rt: &impl Abort,
+    alloc: Global,
+    desk: &mut Desk<MemStore>,
+) -> Result<(), Fail> {
     let exported = export_of_each(alloc, 1000)?;
-    assert_csv(rt, alloc, desk, EXPORT, &exported)
+    assert_csv(rt, alloc, desk, EXPORT, &exported)?;
+    assert_writes(rt, alloc, desk, EXPORT, 2)
 }
 
 #[test]
 fn export_a_thousand_authorizations(rt: HostRuntime) -> Result<(), Fail> {
     let mut desk = registered_holder(&rt, rt.alloc())?;
-    assert_1000_rows_are_exported(&rt, rt.alloc(), &mut desk)?;
-    assert_eq!(rt; writes_of(rt.alloc(), &mut desk, EXPORT)?, 2);
-    Ok(())
+    assert_1000_rows_are_made(&rt, rt.alloc(), &mut desk)?;
+    assert_1000_rows_are_exported(&rt, rt.alloc(), &mut desk)
 }

@@ -196,6 +196,14 @@ const HEADS: [(&str, &[u8], &str); 9] = [
     ("other_words", b"hello\r\n\r\n", "400 {\"error\":400}"),
 ];
 
+/// The response whose last line this is.
+fn response_with(alloc: Global, output: &str) -> Result<String, Fail> {
+    match output {
+        "CSV" => response_of(alloc, "200", "text/csv", "", "asn,prefix,maxlength\n"),
+        _ => json_response(alloc, output),
+    }
+}
+
 /// The response to a request for VRPs, of which there are none, with these fields.
 fn assert_fields(
     rt: &impl Abort,
@@ -205,21 +213,25 @@ fn assert_fields(
 ) -> Result<(), Fail> {
     let (name, fields, output) = row;
     let request = format!(in alloc; "GET /payloads HTTP/1.1\r\n{fields}\r\n")?;
-    let response = if output == "CSV" {
-        response_of(alloc, "200", "text/csv", "", "asn,prefix,maxlength\n")?
-    } else {
-        json_response(alloc, output)?
-    };
+    let response = response_with(alloc, output)?;
     assert_response(rt, alloc, desk, request.as_bytes(), &response, name)
+}
+
+fn assert_each_fields(
+    rt: &impl Abort,
+    alloc: Global,
+    desk: &mut Desk<MemStore>,
+) -> Result<(), Fail> {
+    for row in &FIELDS {
+        assert_fields(rt, alloc, desk, *row)?;
+    }
+    Ok(())
 }
 
 #[test]
 fn fields_of_a_head(rt: HostRuntime) -> Result<(), Fail> {
     let mut desk = example_desk(rt.alloc())?;
-    for row in FIELDS {
-        assert_fields(&rt, rt.alloc(), &mut desk, row)?;
-    }
-    Ok(())
+    assert_each_fields(&rt, rt.alloc(), &mut desk)
 }
 
 fn assert_length(
@@ -235,13 +247,21 @@ fn assert_length(
     assert_json(rt, alloc, desk, request.as_bytes(), output, name)
 }
 
+fn assert_each_length(
+    rt: &impl Abort,
+    alloc: Global,
+    desk: &mut Desk<MemStore>,
+) -> Result<(), Fail> {
+    for row in &LENGTHS {
+        assert_length(rt, alloc, desk, *row)?;
+    }
+    Ok(())
+}
+
 #[test]
 fn content_length_spellings(rt: HostRuntime) -> Result<(), Fail> {
     let mut desk = example_desk(rt.alloc())?;
-    for row in LENGTHS {
-        assert_length(&rt, rt.alloc(), &mut desk, row)?;
-    }
-    Ok(())
+    assert_each_length(&rt, rt.alloc(), &mut desk)
 }
 
 fn assert_length_of_a_create(
@@ -257,13 +277,21 @@ fn assert_length_of_a_create(
     assert_json(rt, alloc, desk, request.as_bytes(), output, name)
 }
 
+fn assert_lengths_of_creates(
+    rt: &impl Abort,
+    alloc: Global,
+    desk: &mut Desk<MemStore>,
+) -> Result<(), Fail> {
+    for row in &LENGTHS_OF_A_CREATE {
+        assert_length_of_a_create(rt, alloc, desk, *row)?;
+    }
+    assert_rows(rt, alloc, desk, NOTHING_MADE)
+}
+
 #[test]
 fn lengths_of_a_create(rt: HostRuntime) -> Result<(), Fail> {
     let mut desk = registered_holder(&rt, rt.alloc())?;
-    for row in LENGTHS_OF_A_CREATE {
-        assert_length_of_a_create(&rt, rt.alloc(), &mut desk, row)?;
-    }
-    assert_rows(&rt, rt.alloc(), &mut desk, NOTHING_MADE)
+    assert_lengths_of_creates(&rt, rt.alloc(), &mut desk)
 }
 
 #[test]
@@ -276,11 +304,15 @@ fn head_that_is_cut_is_not_answered(rt: HostRuntime) -> Result<(), Fail> {
     Ok(())
 }
 
+fn assert_no_heads(rt: &impl Abort, alloc: Global, desk: &mut Desk<MemStore>) -> Result<(), Fail> {
+    for (name, request, output) in &HEADS {
+        assert_json(rt, alloc, desk, request, output, name)?;
+    }
+    Ok(())
+}
+
 #[test]
 fn bytes_that_are_no_head_are_refused(rt: HostRuntime) -> Result<(), Fail> {
     let mut desk = example_desk(rt.alloc())?;
-    for (name, request, output) in HEADS {
-        assert_json(&rt, rt.alloc(), &mut desk, request, output, name)?;
-    }
-    Ok(())
+    assert_no_heads(&rt, rt.alloc(), &mut desk)
 }

@@ -6,7 +6,7 @@ use conformance::desks::example_desk;
 use desk::Desk;
 use library_conformance::rows::nested;
 use sqlite::MemStore;
-use std::alloc::Global;
+use std::alloc::{AllocError, Global};
 use std::process::Abort;
 use std::test::Fail;
 
@@ -14,38 +14,28 @@ const HEAD_LIMIT: usize = 8192;
 
 const BODY_LIMIT: usize = 1_048_576;
 
+/// The beginning of a request for VRPs.
+const HEAD: &str = "GET /payloads HTTP/1.1\r\nDesk-Caller: bob\r\n";
+
 /// A request for VRPs whose head has so many bytes.
-fn long_head(alloc: Global, length: usize) -> Result<String, Fail> {
-    let mut text = String::from_str(
-        alloc,
-        "GET /payloads HTTP/1.1\r\nDesk-Caller: bob\r\nFiller: ",
-    )?;
-    for _ in text.len()..length.saturating_sub("\r\n\r\n".len()) {
-        text.push('x')?;
-    }
-    text.push_str("\r\n\r\n")?;
-    Ok(text)
+fn long_head(alloc: Global, length: usize) -> Result<String, AllocError> {
+    let others = HEAD.len() + "Filler: ".len() + "\r\n\r\n".len();
+    let filler = "x".repeat(alloc, length.saturating_sub(others))?;
+    format!(in alloc; "{HEAD}Filler: {filler}\r\n\r\n")
 }
 
 /// A request for VRPs with so many fields.
-fn many_fields(alloc: Global, count: u32) -> Result<String, Fail> {
-    let mut text = String::from_str(alloc, "GET /payloads HTTP/1.1\r\nDesk-Caller: bob\r\n")?;
-    for _ in 1..count {
-        text.push_str("Filler: x\r\n")?;
-    }
-    text.push_str("\r\n")?;
-    Ok(text)
+fn many_fields(alloc: Global, count: usize) -> Result<String, AllocError> {
+    let fillers = "Filler: x\r\n".repeat(alloc, count.saturating_sub(1))?;
+    format!(in alloc; "{HEAD}{fillers}\r\n")
 }
 
 /// A request whose body is this text and then spaces.
-fn padded(alloc: Global, text: &str, length: usize) -> Result<String, Fail> {
-    let mut request = format!(in alloc;
-        "POST /validity HTTP/1.1\r\nDesk-Caller: bob\r\nContent-Length: {length}\r\n\r\n{text}"
-    )?;
-    for _ in text.len()..length {
-        request.push(' ')?;
-    }
-    Ok(request)
+fn padded(alloc: Global, text: &str, length: usize) -> Result<String, AllocError> {
+    let spaces = " ".repeat(alloc, length.saturating_sub(text.len()))?;
+    format!(in alloc;
+        "POST /validity HTTP/1.1\r\nDesk-Caller: bob\r\nContent-Length: {length}\r\n\r\n{text}{spaces}"
+    )
 }
 
 /// A head is answered with the VRPs, of which there are none.
@@ -208,11 +198,19 @@ fn assert_nested(
     assert_json(rt, alloc, desk, request.as_bytes(), output, path)
 }
 
+fn assert_nested_on_a_new_desk(
+    rt: &impl Abort,
+    alloc: Global,
+    row: (&str, u32, &str),
+) -> Result<(), Fail> {
+    let mut desk = example_desk(alloc)?;
+    assert_nested(rt, alloc, &mut desk, row)
+}
+
 #[test]
 fn nesting_limits(rt: HostRuntime) -> Result<(), Fail> {
-    for row in NESTED_BODIES {
-        let mut desk = example_desk(rt.alloc())?;
-        assert_nested(&rt, rt.alloc(), &mut desk, row)?;
+    for row in &NESTED_BODIES {
+        assert_nested_on_a_new_desk(&rt, rt.alloc(), *row)?;
     }
     Ok(())
 }
@@ -236,11 +234,15 @@ fn assert_depth(
     assert_padded(rt, alloc, desk, &body, body.len(), output)
 }
 
+fn assert_depths(rt: &impl Abort, alloc: Global, desk: &mut Desk<MemStore>) -> Result<(), Fail> {
+    for (depth, output) in &DEPTHS {
+        assert_depth(rt, alloc, desk, *depth, output)?;
+    }
+    Ok(())
+}
+
 #[test]
 fn body_nests_at_most_127_levels(rt: HostRuntime) -> Result<(), Fail> {
     let mut desk = example_desk(rt.alloc())?;
-    for (depth, output) in DEPTHS {
-        assert_depth(&rt, rt.alloc(), &mut desk, depth, output)?;
-    }
-    Ok(())
+    assert_depths(&rt, rt.alloc(), &mut desk)
 }

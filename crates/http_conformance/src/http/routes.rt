@@ -206,13 +206,16 @@ fn malformed_requests_have_their_lowest_number(rt: HostRuntime) -> Result<(), Fa
     assert_rows(&rt, rt.alloc(), &mut desk, MALFORMED)
 }
 
+fn assert_payloads(rt: &impl Abort, alloc: Global, desk: &mut Desk<MemStore>) -> Result<(), Fail> {
+    assert_csv(rt, alloc, desk, PAYLOADS, "asn,prefix,maxlength\n")?;
+    assert_rows(rt, alloc, desk, CREATED)?;
+    assert_csv(rt, alloc, desk, PAYLOADS, ONE_PAYLOAD)
+}
+
 #[test]
 fn payloads_are_answered_as_csv(rt: HostRuntime) -> Result<(), Fail> {
-    let alloc = rt.alloc();
-    let mut desk = registered_holder(&rt, alloc)?;
-    assert_csv(&rt, alloc, &mut desk, PAYLOADS, "asn,prefix,maxlength\n")?;
-    assert_rows(&rt, alloc, &mut desk, CREATED)?;
-    assert_csv(&rt, alloc, &mut desk, PAYLOADS, ONE_PAYLOAD)
+    let mut desk = registered_holder(&rt, rt.alloc())?;
+    assert_payloads(&rt, rt.alloc(), &mut desk)
 }
 
 /// A request with the fields of a head, whose response has this body and these further fields.
@@ -233,19 +236,46 @@ fn assert_not_found(
     alloc: Global,
     desk: &mut Desk<MemStore>,
     target: &str,
+    response: &str,
 ) -> Result<(), Fail> {
-    let response = json_response(alloc, "404 {\"error\":404}")?;
-    for method in METHODS {
-        assert_refused(rt, alloc, desk, (method, target, ""), &response)?;
+    for method in &METHODS {
+        assert_refused(rt, alloc, desk, (method, target, ""), response)?;
+    }
+    Ok(())
+}
+
+fn assert_none_found(
+    rt: &impl Abort,
+    alloc: Global,
+    desk: &mut Desk<MemStore>,
+    response: &str,
+) -> Result<(), Fail> {
+    for target in &NOT_FOUND {
+        assert_not_found(rt, alloc, desk, target, response)?;
     }
     Ok(())
 }
 
 #[test]
 fn target_without_a_path_is_not_found(rt: HostRuntime) -> Result<(), Fail> {
+    let response = json_response(rt.alloc(), "404 {\"error\":404}")?;
     let mut desk = example_desk(rt.alloc())?;
-    for target in NOT_FOUND {
-        assert_not_found(&rt, rt.alloc(), &mut desk, target)?;
+    assert_none_found(&rt, rt.alloc(), &mut desk, &response)
+}
+
+/// Every method but those allowed has this response.
+fn assert_others_refused(
+    rt: &impl Abort,
+    alloc: Global,
+    desk: &mut Desk<MemStore>,
+    (path, allowed): (&str, &str),
+    response: &str,
+) -> Result<(), Fail> {
+    for method in &METHODS {
+        if !allowed.split(", ").any(|name| name == *method) {
+            let request = (*method, path, "Transfer-Encoding: chunked\r\n");
+            assert_refused(rt, alloc, desk, request, response)?;
+        }
     }
     Ok(())
 }
@@ -255,17 +285,21 @@ fn assert_allowed(
     rt: &impl Abort,
     alloc: Global,
     desk: &mut Desk<MemStore>,
-    path: &str,
-    allowed: &str,
+    row: (&str, &str),
 ) -> Result<(), Fail> {
-    let fields = format!(in alloc; "Allow: {allowed}\r\n")?;
+    let fields = format!(in alloc; "Allow: {}\r\n", row.1)?;
     let body = "{\"error\":405}\n";
     let response = response_of(alloc, "405", "application/json", &fields, body)?;
-    for method in METHODS {
-        if !allowed.split(", ").any(|name| name == method) {
-            let request = (method, path, "Transfer-Encoding: chunked\r\n");
-            assert_refused(rt, alloc, desk, request, &response)?;
-        }
+    assert_others_refused(rt, alloc, desk, row, &response)
+}
+
+fn assert_each_allowed(
+    rt: &impl Abort,
+    alloc: Global,
+    desk: &mut Desk<MemStore>,
+) -> Result<(), Fail> {
+    for row in &ALLOWED {
+        assert_allowed(rt, alloc, desk, *row)?;
     }
     Ok(())
 }
@@ -273,8 +307,5 @@ fn assert_allowed(
 #[test]
 fn other_methods_are_answered_with_those_allowed(rt: HostRuntime) -> Result<(), Fail> {
     let mut desk = example_desk(rt.alloc())?;
-    for (path, allowed) in ALLOWED {
-        assert_allowed(&rt, rt.alloc(), &mut desk, path, allowed)?;
-    }
-    Ok(())
+    assert_each_allowed(&rt, rt.alloc(), &mut desk)
 }

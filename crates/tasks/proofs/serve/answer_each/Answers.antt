@@ -1,0 +1,18 @@
+use Rattle.std.proofs.Common.{◌∙◌, ◌+◌, ◌≤◌, ◌++◌, ◌∷◌, [], ap, arith}
+use Rattle.tasks.proofs.ConnectionLemmas.{accepts-then, in-turn-then, length-then, logs-one}
+use Rattle.tasks.proofs.serve.answer_each.Goals as goal
+
+pub loop-served-preserved : goal.loop-served-preserved
+loop-served-preserved g c =
+    let (few, listens, passed, counted, accepted, in_turn, logged) = c.loop-served.invariant in
+    let (one, fault, accepted_one, answered) = c.in-Ok.ensures.ok in
+    let below : c.loop-served.served + 1 ≤ c.args.count = omega (arith, c.loop-served-test.true) in (
+      below,
+      c.answer_next.ensures.listens ∙ listens,
+      passed ++ one ∷ [],
+      length-then passed one ∙ ap (λ n. n + 1) counted,
+      accepts-then _ _ _ passed (one ∷ []) accepted accepted_one,
+      in-turn-then (g.E.AnswerConnections.answers c.args.day) c.args.engine.now c.loop-served.engine c.answer_next.new.engine
+          passed one in_turn answered,
+      logs-one _ _ _ _ _ _ c.loop-served.served passed one _ counted fault logged c.log_fault.ensures,
+    )

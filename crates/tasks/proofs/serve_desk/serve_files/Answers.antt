@@ -1,0 +1,36 @@
+use Rattle.std.proofs.Common.{[], arith, refl}
+use Rattle.sqlite.specs.Files.{image_of}
+use Rattle.tasks.proofs.ConnectionLemmas.{accepts-then, logs-none}
+use Rattle.tasks.proofs.HistoryLemmas.{if_ok_both}
+use Rattle.tasks.proofs.ServedFileLemmas.{if_closed, keep_served, keeps_files, where_closed}
+use Rattle.tasks.proofs.serve_desk.serve_files.Goals as goal
+
+pub returns-in-Ok-listen-clause-served : goal.returns-in-Ok-listen-clause-served
+returns-in-Ok-listen-clause-served g c =
+    let (passed, few, all, accepted, logged, closed) = c.serve_desk.ensures.served in (
+      passed,
+      few,
+      all,
+      accepts-then (g.C.Connections.accepted c.args.connections.now) (g.C.Connections.accepted c.listen.new.self)
+          (g.C.Connections.accepted c.serve_desk.new.connections) [] passed c.listen.ensures.none accepted,
+      logged,
+      if_closed c.serve_desk.result _ _ _ (λ files cleaned keeps clean.
+          keeps_files g.D.Disk (image_of g.D.Disk c.args.files) c.args.day passed c.in-Ok.desk files
+          (c.in-Ok.ensures.resumed (cleaned clean)) (keeps clean))
+          c.serve_desk.ensures.clean closed,
+    )
+
+pub returns-in-Err-listen-clause-served : goal.returns-in-Err-listen-clause-served
+returns-in-Err-listen-clause-served g c = (
+  [],
+  omega arith,
+  tt,
+  c.listen.ensures.none,
+  logs-none _ _,
+  where_closed c.close_desk.result c.ok.result _ c.ok.ensures.value
+      (if_ok_both c.close_desk.result _ _ _ (λ files cleaned keeps clean.
+      keeps_files g.D.Disk (image_of g.D.Disk c.args.files) c.args.day [] c.in-Ok.desk files
+      (c.in-Ok.ensures.resumed (cleaned clean))
+      (keep_served g.D.Disk c.args.day [] c.in-Ok.desk c.in-Ok.desk files refl (cleaned clean) (keeps clean)))
+      c.close_desk.ensures.clean c.close_desk.ensures.kept),
+)

@@ -1,0 +1,80 @@
+//! The task `serve`: a desk that answers connections, one after the other.
+ghost use Rattle.std.specs.Prelude.{◌≡◌, ◌<◌, ℕ, List, length, OnOk, OnErr, true};
+ghost use Rattle.web.specs.ScriptAnswer.{IsLaterDesk};
+ghost use Rattle.tasks.specs.Connections.{Accepts, Logs};
+ghost use Rattle.tasks.specs.Serving.{AnswersInTurn, Serves, Transcript, fault_lines};
+
+mod connections;
+mod fault_log;
+mod peer;
+mod timed;
+
+use addr::Day;
+pub use connections::{AnswerConnections, Connections, Incoming, Network, answer_in_time};
+use desk::Desk;
+use fault_log::log_fault;
+pub use fault_log::{Log, Printed};
+pub use peer::{Peer, Socket};
+use requests::Routes;
+use sqlite::Alter;
+use std::alloc::Global;
+pub use timed::Timed;
+use web::Failed;
+
+/// Accepts this many connections in turn and answers one request on each, on this day. If a
+/// connection fails, the log gets a line, and the next one is accepted. It ends early only if
+/// accepting fails.
+pub fn serve_on<C: Connections, S: Alter, L: Log>(
+    alloc: Global,
+    connections: &mut C,
+    count: u32,
+    desk: &mut Desk<S>,
+    day: Day,
+    log: &mut L,
+) -> Result<(), Failed>
+    // `passed` are the connections: there are as many, they were accepted, the desk answered them,
+    // and the log has the lines of those that failed.
+    ensures served { (passed : List Transcript)
+        × OnOk result (length passed ≡ count) × OnErr result (length passed < count)
+        × Accepts (C.accepted connections.old) (C.accepted connections.new) passed
+        × AnswersInTurn (Serves S.Store day) desk.old passed desk.new
+        × Logs (L.has_lost log.old) (L.has_lost log.new) (L.contents log.old)
+        (L.contents log.new) (fault_lines 1 passed) }
+    ensures failed { OnErr result (C.has_failed connections.new ≡ true) }
+    ensures listens { C.cannot_listen connections.new ≡ C.cannot_listen connections.old }
+    ensures later { IsLaterDesk S.Store desk.old desk.new }
+{
+    // If there is no memory for them now, each connection tries to make its own.
+    let routes = Routes::new(alloc).ok();
+    answer_each(alloc, routes.as_ref(), connections, count, desk, day, log)
+}
+
+/// Has this many connections answered in turn. The log gets a line for each that failed.
+pub fn answer_each<C: Connections, E: AnswerConnections, L: Log>(
+    alloc: Global,
+    routes: Option<&Routes>,
+    connections: &mut C,
+    count: u32,
+    engine: &mut E,
+    day: Day,
+    log: &mut L,
+) -> Result<(), Failed>
+    ensures served { (passed : List Transcript)
+        × OnOk result (length passed ≡ count) × OnErr result (length passed < count)
+        × Accepts (C.accepted connections.old) (C.accepted connections.new) passed
+        × AnswersInTurn (E.answers day) engine.old passed engine.new
+        × Logs (L.has_lost log.old) (L.has_lost log.new) (L.contents log.old)
+        (L.contents log.new) (fault_lines 1 passed) }
+    ensures failed { OnErr result (C.has_failed connections.new ≡ true) }
+    ensures listens { C.cannot_listen connections.new ≡ C.cannot_listen connections.old }
+{
+    let mut served = 0;
+    while served < count {
+        let Ok(ended) = connections.answer_next(alloc, routes, engine, day) else {
+            return Err(Failed);
+        };
+        served += 1;
+        log_fault(log, served, ended);
+    }
+    Ok(())
+}

@@ -1,0 +1,238 @@
+//! Connections that are accepted and answered, one after the other.
+ghost use Rattle.std.specs.Prelude.{◌≡◌, ◌<◌, ◌≤◌, ◌∷◌, ℕ, Bool, List, [], Option, None, true, length, IfOk, OnErr, OnOk};
+ghost use Rattle.std.specs.Result.{result_err};
+ghost use Rattle.http_messages.specs.Input.{Gives, IsOver};
+ghost use Rattle.tasks.specs.ConnectionTime.{discard_limit};
+ghost use Rattle.tasks.specs.Connections.{Accepts};
+ghost use Rattle.tasks.specs.Serving.{Serves, Transcript};
+ghost use Rattle.web.specs.declared.http.WebFault.{WebFault as Fault};
+
+use crate::serve::peer::{Peer, Socket};
+use crate::serve::timed::Timed;
+use addr::Day;
+use desk::Desk;
+use requests::Routes;
+use sqlite::Alter;
+use std::alloc::Global;
+use std::io::{self, BufReader, ErrorKind, Read, Write};
+use std::net::{Shutdown, TcpListener, TcpStream};
+use std::time::{Clock, Instant};
+use web::{Device, Drain, Extent, Failed, Source, WebFault, serve_request};
+
+/// Answers connections, one after the other.
+pub trait AnswerConnections {
+    // What may pass on a connection on a day, and which state that leaves.
+    ghost answers: { ℕ → Self → Transcript → Self → Type 0 };
+
+    /// Answers the request of a new connection, and returns how much of it was read. The routes are
+    /// those that all connections share, if there was memory for them.
+    fn answer<S: Source, D: Drain>(
+        &mut self,
+        alloc: Global,
+        routes: Option<&Routes>,
+        source: &mut S,
+        drain: &mut D,
+        day: Day,
+    ) -> Result<Extent, WebFault>
+        ensures { S.handed_out source.old ≡ [] → D.written drain.old ≡ []
+            → answers day self.old (record {
+              received = S.handed_out source.new;
+              has_ended = S.has_ended source.new;
+              read_failed = S.has_failed source.new;
+              sent = D.written drain.new;
+              write_failed = D.has_failed drain.new;
+              fault = result_err result;
+            }) self.new };
+}
+
+impl<A: Alter> AnswerConnections for Desk<A> {
+    ghost answers = { Serves A.Store };
+
+    fn answer<S: Source, D: Drain>(
+        &mut self,
+        alloc: Global,
+        routes: Option<&Routes>,
+        source: &mut S,
+        drain: &mut D,
+        day: Day,
+    ) -> Result<Extent, WebFault> {
+        serve_request(alloc, routes, source, drain, self, day)
+    }
+}
+
+/// A source of connections.
+pub trait Connections {
+    // The connections that were accepted, if they are known.
+    ghost accepted: { Self → Option (List Transcript) } = { λ _. None };
+
+    // Whether listening has failed.
+    ghost cannot_listen: { Self → Bool };
+
+    // Whether the last one could not be accepted.
+    ghost has_failed: { Self → Bool };
+
+    /// Binds the socket, so that clients can connect.
+    fn listen(&mut self) -> io::Result<()>
+        ensures none { Accepts (accepted self.old) (accepted self.new) [] }
+        ensures listens { OnOk result (cannot_listen self.new ≡ cannot_listen self.old) }
+        ensures failed { OnErr result (cannot_listen self.new ≡ true) };
+
+    /// Accepts a connection and has it answered. The connection has ended when the call returns.
+    fn answer_next<E: AnswerConnections>(
+        &mut self,
+        alloc: Global,
+        routes: Option<&Routes>,
+        engine: &mut E,
+        day: Day,
+    ) -> Result<Result<Extent, WebFault>, Failed>
+        ensures ok { IfOk result (λ ended. (passed : Transcript) × (passed.fault ≡ result_err ended)
+            × Accepts (accepted self.old) (accepted self.new) (passed ∷ [])
+            × E.answers day engine.old passed engine.new) }
+        ensures err { OnErr result (engine.new ≡ engine.old) }
+        ensures not_accepted { OnErr result (Accepts (accepted self.old) (accepted self.new) []) }
+        ensures failed { OnErr result (has_failed self.new ≡ true) }
+        ensures listens { cannot_listen self.new ≡ cannot_listen self.old };
+}
+
+/// Binds a socket to an address.
+pub trait Network {
+    fn bind(&mut self, address: &str) -> io::Result<TcpListener>;
+}
+
+/// The connections to an address, once it is bound.
+#[derive(Drop)]
+pub struct Incoming<'a, R, N> {
+    clock: &'a R,
+    network: &'a mut N,
+    address: &'a str,
+    listener: Option<TcpListener>,
+    // Both are kept for proofs.
+    cannot_listen: bool,
+    has_failed: bool,
+}
+
+impl<'a, R: Clock, N: Network> Incoming<'a, R, N> {
+    pub fn new(clock: &'a R, network: &'a mut N, address: &'a str) -> Incoming<'a, R, N> {
+        Incoming {
+            clock,
+            network,
+            address,
+            listener: None,
+            cannot_listen: false,
+            has_failed: false,
+        }
+    }
+}
+
+impl<R: Clock, N: Network> Connections for Incoming<'_, R, N> {
+    ghost cannot_listen = { λ incoming. incoming.cannot_listen };
+
+    ghost has_failed = { λ incoming. incoming.has_failed };
+
+    fn listen(&mut self) -> io::Result<()> {
+        match self.network.bind(self.address) {
+            Ok(listener) => {
+                self.listener = Some(listener);
+                Ok(())
+            }
+            Err(error) => {
+                self.cannot_listen = true;
+                Err(error)
+            }
+        }
+    }
+
+    fn answer_next<E: AnswerConnections>(
+        &mut self,
+        alloc: Global,
+        routes: Option<&Routes>,
+        engine: &mut E,
+        day: Day,
+    ) -> Result<Result<Extent, WebFault>, Failed> {
+        let accepted = match &self.listener {
+            Some(listener) => listener.accept(),
+            None => Err(ErrorKind::NotConnected.into()),
+        };
+        let Ok((stream, _)) = accepted else {
+            self.has_failed = true;
+            return Err(Failed);
+        };
+        let began = Instant::now(self.clock).ok();
+        let from = Socket::new(self.clock, &stream, began);
+        let to = Socket::new(self.clock, &stream, began);
+        let ended = answer_in_time(alloc, routes, from, to, engine, day);
+        if let Ok(Extent::Part) = ended {
+            let_response_arrive(self.clock, &stream, began);
+        }
+        Ok(ended)
+    }
+}
+
+/// Ends the response, and discards what the client still sends of its request: a stream that is
+/// closed with bytes unread is reset, and the client may lose the response.
+fn let_response_arrive<R: Clock>(clock: &R, stream: &TcpStream, began: Option<Instant>) {
+    if stream.shutdown(Shutdown::Write).is_ok() {
+        let rest = Socket::new(clock, stream, began);
+        discard(&mut Device::new(Timed::new(rest)));
+    }
+}
+
+/// How many bytes are discarded at most.
+const DISCARD_LIMIT: usize = 2 * 1_048_576;
+
+/// Discards what the source still gives, until it ends or fails or `DISCARD_LIMIT` bytes have come.
+fn discard<S: Source>(source: &mut S)
+    ensures { (bytes : List ℕ) × Gives bytes (S.handed_out source.old) (S.handed_out source.new)
+        × (length bytes ≤ discard_limit)
+        × (length bytes < discard_limit
+        → IsOver (S.has_ended source.new) (S.has_failed source.new)) }
+{
+    let mut piece = [0; 4096];
+    let mut left = DISCARD_LIMIT;
+    while left > 0 {
+        let room = left.min(piece.len());
+        match source.read(&mut piece[..room]) {
+            Ok(count) if count > 0 => left -= count,
+            _ => return,
+        }
+    }
+}
+
+/// Answers a connection that is read from one peer and written to the other, each within its time.
+/// More of the stream than the request may be taken into a buffer, which is never looked at.
+pub fn answer_in_time<P: Peer + Drop, Q: Peer + Drop, E: AnswerConnections>(
+    alloc: Global,
+    routes: Option<&Routes>,
+    from: P,
+    to: Q,
+    engine: &mut E,
+    day: Day,
+) -> Result<Extent, WebFault>
+    ensures { (passed : Transcript) × (passed.fault ≡ result_err result)
+        × E.answers day engine.old passed engine.new }
+{
+    let mut from = Timed::new(from);
+    let to = Timed::new(to);
+    // A head is read a few bytes at a time, which without a buffer are as many calls of the system.
+    if let Ok(buffered) = BufReader::new(alloc, &mut from) {
+        return answer_between(alloc, routes, buffered, to, engine, day);
+    }
+    answer_between(alloc, routes, from, to, engine, day)
+}
+
+/// Answers a connection that is read from one stream and written to the other.
+fn answer_between<R: Read + Drop, W: Write + Drop, E: AnswerConnections>(
+    alloc: Global,
+    routes: Option<&Routes>,
+    from: R,
+    to: W,
+    engine: &mut E,
+    day: Day,
+) -> Result<Extent, WebFault>
+    ensures { (passed : Transcript) × (passed.fault ≡ result_err result)
+        × E.answers day engine.old passed engine.new }
+{
+    let mut source = Device::new(from);
+    let mut drain = Device::new(to);
+    engine.answer(alloc, routes, &mut source, &mut drain, day)
+}

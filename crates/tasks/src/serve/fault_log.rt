@@ -1,0 +1,76 @@
+//! The lines for connections that failed.
+ghost use Rattle.std.specs.Prelude.{◌≡◌, ℕ, Bool, List, Option, None};
+ghost use Rattle.std.specs.Result.{result_err};
+ghost use Rattle.tasks.specs.Connections.{Logs};
+ghost use Rattle.tasks.specs.Serving.{fault_line, line_for};
+ghost use Rattle.web.specs.WebFault.{web_fault_number};
+
+use addr::digits;
+use arrayvec::ArrayString;
+use std::io::Write;
+use web::{Extent, WebFault};
+
+/// A log of lines. A line that cannot be written is lost, and the next is tried.
+pub trait Log {
+    // The text of the log, if that is known.
+    ghost contents: { Self → Option (List ℕ) } = { λ _. None };
+
+    // Whether a line was lost, or a part of one.
+    ghost has_lost: { Self → Bool };
+
+    fn add(&mut self, line: &str)
+        ensures { Logs (has_lost self.old) (has_lost self.new) (contents self.old)
+            (contents self.new) line.now };
+}
+
+/// A writer as a log.
+#[derive(Drop)]
+pub struct Printed<'a, W> {
+    writer: &'a mut W,
+    // Kept for proofs.
+    has_lost: bool,
+}
+
+impl<'a, W: Write> Printed<'a, W> {
+    pub fn new(writer: &'a mut W) -> Printed<'a, W> {
+        Printed {
+            writer,
+            has_lost: false,
+        }
+    }
+}
+
+impl<W: Write> Log for Printed<'_, W> {
+    ghost contents = { λ log. W.contents log.writer.now };
+
+    ghost has_lost = { λ log. log.has_lost };
+
+    fn add(&mut self, line: &str) {
+        if self.writer.write_all(line.as_bytes()).is_err() {
+            self.has_lost = true;
+        }
+    }
+}
+
+/// Adds the line for the connection of this number, if it failed.
+pub(super) fn log_fault<L: Log>(log: &mut L, number: u32, ended: Result<Extent, WebFault>)
+    ensures { Logs (L.has_lost log.old) (L.has_lost log.new) (L.contents log.old)
+        (L.contents log.new) (line_for number (result_err ended)) }
+{
+    if let Err(fault) = ended {
+        log.add(fault_line(number, fault).as_str());
+    }
+}
+
+/// The line for a connection that failed.
+fn fault_line(number: u32, fault: WebFault) -> ArrayString<80>
+    ensures { result.bytes ≡ fault_line number (web_fault_number fault) }
+{
+    let mut line = ArrayString::new();
+    line.push_str("roadesk: connection ");
+    line.push_str(digits(u64::from(number)).as_str());
+    line.push_str(": fault ");
+    line.push_str(digits(u64::from(fault.number())).as_str());
+    line.push_str("\n");
+    line
+}
