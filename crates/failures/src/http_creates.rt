@@ -1,6 +1,6 @@
 //! A create over HTTP, on desks over files that stop at each call of the disk.
 use crate::example_requests::{Answers, COUNT_BEFORE_CREATE, ask_first, sheet_of};
-use crate::sweep::{Course, Sweep, begin, failing_files, small_options};
+use crate::sweep::{Course, Sweep, begin, copying_options, failing_files, small_options};
 use addr::Day;
 use desk::Desk;
 use desk_files::stop;
@@ -60,11 +60,11 @@ pub(crate) fn ask_until_create<S: Alter>(
 }
 
 /// The create was answered with 503 in some run, and was found after it; and so was not in another.
+/// A run that stops before the last request ahead of it does not send it, and is one of those that
+/// send lines alone.
 fn stop_at_a_create(rt: &impl Abort, alloc: Global, options: Options) -> Result<(), Fail> {
-    let mut sweep = Sweep::new(alloc, options, Course::HttpCreate);
-    sweep.fail_both::<Fuse<Memory>>(rt)?;
-    sweep.assert_stopped_at(rt, COUNT_BEFORE_CREATE);
-    Ok(())
+    let requests = COUNT_BEFORE_CREATE.saturating_sub(1)..Course::HttpCreate.count();
+    Sweep::new(alloc, options, Course::HttpCreate).fail_at::<Fuse<Memory>>(rt, &requests)
 }
 
 #[test]
@@ -74,9 +74,7 @@ fn stop_at_a_create_while_the_log_grows(rt: HostRuntime) -> Result<(), Fail> {
 
 #[test]
 fn stop_at_a_create_while_the_log_is_copied(rt: HostRuntime) -> Result<(), Fail> {
-    let mut options = small_options();
-    options.checkpoint_frames = 1;
-    stop_at_a_create(&rt, rt.alloc(), options)
+    stop_at_a_create(&rt, rt.alloc(), copying_options())
 }
 
 /// A create whose response is not taken.

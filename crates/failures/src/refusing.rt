@@ -30,8 +30,9 @@ impl<D: Disk> Refusing<D> {
         &self.inner
     }
 
-    pub(crate) fn has_refused(&self) -> bool {
-        self.calls_before.is_none()
+    /// How many calls come before the one that is refused; none once it was.
+    pub(crate) fn calls_left(&self) -> Option<u64> {
+        self.calls_before
     }
 }
 

@@ -1,32 +1,52 @@
 //! Desks over files that stop at each call of the disk.
 use crate::example_requests::{REQUEST_COUNT, ask_first};
-use crate::sweep::{Course, Sweep, begin, failing_files, small_options};
+use crate::sweep::{Course, Sweep, begin, copying_options, failing_files, small_options};
 use desk_files::{reopen, stop};
 use sqlite_disk::{Files, Fuse, Memory};
 use sqlite_pager::Options;
 use std::alloc::Global;
+use std::ops::Range;
 use std::process::Abort;
 use std::test::Fail;
 
-fn stop_at_each_call(rt: &impl Abort, alloc: Global, options: Options) -> Result<(), Fail> {
-    let mut sweep = Sweep::new(alloc, options, Course::Lines);
-    sweep.fail_both::<Fuse<Memory>>(rt)?;
-    for request in 0..REQUEST_COUNT {
-        sweep.assert_stopped_at(rt, request);
-    }
-    Ok(())
+/// The desk stops at each call of these requests.
+fn stop_at(
+    rt: &impl Abort,
+    alloc: Global,
+    options: Options,
+    requests: Range<usize>,
+) -> Result<(), Fail> {
+    Sweep::new(alloc, options, Course::Lines).fail_at::<Fuse<Memory>>(rt, &requests)
 }
 
 #[test]
-fn stop_while_the_log_grows(rt: HostRuntime) -> Result<(), Fail> {
-    stop_at_each_call(&rt, rt.alloc(), small_options())
+fn stop_at_the_first_four_while_the_log_grows(rt: HostRuntime) -> Result<(), Fail> {
+    stop_at(&rt, rt.alloc(), small_options(), 0..4)
 }
 
 #[test]
-fn stop_while_the_log_is_copied(rt: HostRuntime) -> Result<(), Fail> {
-    let mut options = small_options();
-    options.checkpoint_frames = 1;
-    stop_at_each_call(&rt, rt.alloc(), options)
+fn stop_at_the_last_four_while_the_log_grows(rt: HostRuntime) -> Result<(), Fail> {
+    stop_at(&rt, rt.alloc(), small_options(), 4..REQUEST_COUNT)
+}
+
+#[test]
+fn stop_at_the_first_while_the_log_is_copied(rt: HostRuntime) -> Result<(), Fail> {
+    stop_at(&rt, rt.alloc(), copying_options(), 0..1)
+}
+
+#[test]
+fn stop_at_the_next_two_while_the_log_is_copied(rt: HostRuntime) -> Result<(), Fail> {
+    stop_at(&rt, rt.alloc(), copying_options(), 1..3)
+}
+
+#[test]
+fn stop_at_the_middle_two_while_the_log_is_copied(rt: HostRuntime) -> Result<(), Fail> {
+    stop_at(&rt, rt.alloc(), copying_options(), 3..5)
+}
+
+#[test]
+fn stop_at_the_last_three_while_the_log_is_copied(rt: HostRuntime) -> Result<(), Fail> {
+    stop_at(&rt, rt.alloc(), copying_options(), 5..REQUEST_COUNT)
 }
 
 /// Files that were closed in order have all requests, even if the power fails after that.

@@ -1,4 +1,5 @@
 //! Runs of desks over files of which one fails, and what is found when the files are opened again.
+//! A sweep goes over the calls of some requests, and several tests together go over all calls.
 use crate::example_requests::{
     Answers, COUNT_BEFORE_CREATE, REQUEST_COUNT, ask_first, count_found, example_charter,
 };
@@ -9,7 +10,8 @@ use desk_files::{open_files, stop};
 use sqlite::{Alter, Connection, FileStore};
 use sqlite_disk::{Crash, Disk, Files, Fuse, Memory};
 use sqlite_pager::Options;
-use std::alloc::Global;
+use std::alloc::{AllocError, Global};
+use std::ops::Range;
 use std::process::Abort;
 use std::test::Fail;
 
@@ -20,6 +22,13 @@ pub(crate) const MANY: u64 = 1_000;
 pub(crate) fn small_options() -> Options {
     let mut options = Options::new(1);
     options.cache_pages = 16;
+    options
+}
+
+/// The log is copied into the database after each request.
+pub(crate) fn copying_options() -> Options {
+    let mut options = small_options();
+    options.checkpoint_frames = 1;
     options
 }
 
@@ -63,7 +72,7 @@ impl FailingFile for Refusing<Memory> {
     }
 
     fn has_failed(&mut self) -> bool {
-        self.has_refused()
+        self.calls_left().is_none()
     }
 }
 
@@ -81,11 +90,11 @@ pub(crate) fn failing_files<D: FailingFile>(alloc: Global, is_log: bool, calls: 
     }
 }
 
-/// A file of these bytes, which does not fail.
-fn file_of<D: FailingFile>(alloc: Global, bytes: &[u8]) -> Result<D, Fail> {
+/// A file of these bytes.
+fn file_of(alloc: Global, bytes: &[u8]) -> Result<Memory, Fail> {
     let mut file = Memory::new(alloc);
     file.write_at(0, bytes)?;
-    Ok(D::failing(file, u64::MAX))
+    Ok(file)
 }
 
 /// A new desk; `None` if the disk failed before there was one.
@@ -108,10 +117,10 @@ pub(crate) fn begin<D: Disk + Drop>(
 }
 
 /// How many of the requests the desk of these files has.
-fn found_in<D: Disk + Drop>(
+fn count_in(
     rt: &impl Abort,
     alloc: Global,
-    files: Files<D>,
+    files: Files<Memory>,
     options: Options,
 ) -> Result<usize, Fail> {
     if !files.may_be_used() {
@@ -121,6 +130,56 @@ fn found_in<D: Disk + Drop>(
         return Err("a desk that is refused".into());
     };
     count_found(rt, alloc, &mut desk)
+}
+
+/// How many calls of a file come before the first one of this request; none before that of the
+/// first, which has the calls of making the desk.
+fn calls_before(
+    rt: &impl Abort,
+    alloc: Global,
+    options: Options,
+    is_log: bool,
+    request: usize,
+) -> Result<u64, Fail> {
+    if request == 0 {
+        return Ok(0);
+    }
+    let files: Files<Refusing<Memory>> = failing_files(alloc, is_log, u64::MAX);
+    let mut desk = begin(alloc, files, options)?.ok_or("no desk")?;
+    let answers = ask_first(rt, alloc, &mut desk, request)?;
+    assert_eq!(rt; answers.count, request);
+    let files = stop(desk);
+    let left = if is_log {
+        files.log.calls_left()
+    } else {
+        files.db.calls_left()
+    };
+    Ok(u64::MAX.saturating_sub(left.ok_or("a refused call")?))
+}
+
+/// Files that were opened, and how many of the requests their desk had.
+#[derive(Drop)]
+struct Opened {
+    log: Vec<u8>,
+    db: Vec<u8>,
+    found: usize,
+}
+
+impl Opened {
+    fn new(alloc: Global, log: &[u8], db: &[u8], found: usize) -> Result<Opened, AllocError> {
+        let mut opened = Opened {
+            log: Vec::new(alloc),
+            db: Vec::new(alloc),
+            found,
+        };
+        opened.log.extend_from_slice(log)?;
+        opened.db.extend_from_slice(db)?;
+        Ok(opened)
+    }
+
+    fn has(&self, log: &[u8], db: &[u8]) -> bool {
+        self.db.as_slice() == db && self.log.as_slice() == log
+    }
 }
 
 /// What a run sends to its desk.
@@ -134,7 +193,7 @@ pub(crate) enum Course {
 
 impl Course {
     /// How many requests there are.
-    fn count(self) -> usize {
+    pub(crate) fn count(self) -> usize {
         match self {
             Course::Lines => REQUEST_COUNT,
             Course::HttpCreate => COUNT_BEFORE_CREATE.saturating_add(1),
@@ -168,6 +227,8 @@ pub(crate) struct Sweep {
     pub(crate) kept: Vec<usize>,
     /// The requests that were in progress at a stop, and were not found.
     pub(crate) lost: Vec<usize>,
+    /// What is found depends on the bytes of the files alone, so the same ones are opened once.
+    opened: Vec<Opened>,
 }
 
 impl Sweep {
@@ -180,17 +241,35 @@ impl Sweep {
             delayed: Vec::new(alloc),
             kept: Vec::new(alloc),
             lost: Vec::new(alloc),
+            opened: Vec::new(alloc),
         }
     }
 
+    /// How many of the requests the desk of these files has.
+    fn found_in(&mut self, rt: &impl Abort, log: &[u8], db: &[u8]) -> Result<usize, Fail> {
+        for opened in &self.opened {
+            if opened.has(log, db) {
+                return Ok(opened.found);
+            }
+        }
+        let files = Files {
+            log: file_of(self.alloc, log)?,
+            db: file_of(self.alloc, db)?,
+        };
+        let found = count_in(rt, self.alloc, files, self.options)?;
+        self.opened.push(Opened::new(self.alloc, log, db, found)?)?;
+        Ok(found)
+    }
+
     /// The files have the requests that were answered, and perhaps the one that was in progress.
-    fn assert_found<D: Disk + Drop>(
+    fn assert_found(
         &mut self,
         rt: &impl Abort,
-        files: Files<D>,
+        log: &[u8],
+        db: &[u8],
         answered: usize,
     ) -> Result<(), Fail> {
-        let found = found_in(rt, self.alloc, files, self.options)?;
+        let found = self.found_in(rt, log, db)?;
         if found == answered {
             self.lost.push(answered)?;
         } else {
@@ -207,14 +286,10 @@ impl Sweep {
         mut files: Files<D>,
         answered: usize,
     ) -> Result<(), Fail> {
-        let killed: Files<D> = Files {
-            log: file_of(self.alloc, files.log.bytes())?,
-            db: file_of(self.alloc, files.db.bytes())?,
-        };
-        self.assert_found(rt, killed, answered)?;
+        self.assert_found(rt, files.log.bytes(), files.db.bytes(), answered)?;
         files.log.crash();
         files.db.crash();
-        self.assert_found(rt, files, answered)
+        self.assert_found(rt, files.log.bytes(), files.db.bytes(), answered)
     }
 
     /// Sends requests to a new desk until it is unavailable, and stops it; returns whether a file
@@ -239,32 +314,46 @@ impl Sweep {
         Ok(has_failed)
     }
 
-    /// The file fails at each of its calls, until a run has none that fails.
+    /// The file fails at each of its calls of these requests; where the last one is among them,
+    /// until a run has none that fails.
     fn fail_each_call<D: FailingFile + Drop>(
         &mut self,
         rt: &impl Abort,
         is_log: bool,
+        requests: &Range<usize>,
     ) -> Result<(), Fail> {
-        for calls in 0..MANY {
+        let is_last = requests.end == self.course.count();
+        let start = calls_before(rt, self.alloc, self.options, is_log, requests.start)?;
+        let end = if is_last {
+            MANY
+        } else {
+            calls_before(rt, self.alloc, self.options, is_log, requests.end)?
+        };
+        for calls in start..end {
             let files: Files<D> = failing_files(self.alloc, is_log, calls);
             if !self.run(rt, files)? {
+                assert!(rt; is_last, "no call {calls}");
                 return Ok(());
             }
         }
-        Err("a run that does not end".into())
-    }
-
-    /// Either file fails at each of its calls.
-    pub(crate) fn fail_both<D: FailingFile + Drop>(&mut self, rt: &impl Abort) -> Result<(), Fail> {
-        self.fail_each_call::<D>(rt, true)?;
-        self.fail_each_call::<D>(rt, false)?;
-        assert!(rt; self.without_desk > 0);
+        assert!(rt; !is_last, "a run that does not end");
         Ok(())
     }
 
-    /// The request was in progress at a stop and found in some run, and not in another.
-    pub(crate) fn assert_stopped_at(&self, rt: &impl Abort, request: usize) {
-        assert!(rt; self.kept.contains(&request), "{request} kept");
-        assert!(rt; self.lost.contains(&request), "{request} lost");
+    /// Either file fails at each of its calls of these requests. Each of them was in progress at a
+    /// stop and found in some run, and not in another.
+    pub(crate) fn fail_at<D: FailingFile + Drop>(
+        &mut self,
+        rt: &impl Abort,
+        requests: &Range<usize>,
+    ) -> Result<(), Fail> {
+        self.fail_each_call::<D>(rt, true, requests)?;
+        self.fail_each_call::<D>(rt, false, requests)?;
+        assert!(rt; requests.start > 0 || self.without_desk > 0);
+        for request in requests.start..requests.end {
+            assert!(rt; self.kept.contains(&request), "{request} kept");
+            assert!(rt; self.lost.contains(&request), "{request} lost");
+        }
+        Ok(())
     }
 }
