@@ -1,7 +1,7 @@
 //! A desk that keeps a day beside one that builds it anew before each question, over the same
 //! commands, which a fixed seed chooses.
-use crate::desks::example_desk;
-use crate::scripts::{ALPHA, AUTHORIZATION, Dialogue, reply_to};
+use crate::desks::{example_desk, opened};
+use crate::scripts::{ALPHA, AUTHORIZATION, desk_after, reply_to};
 use addr::Day;
 use desk::Desk;
 use library_conformance::rows::split_row;
@@ -175,14 +175,6 @@ struct Pair {
     building: Desk<MemStore>,
 }
 
-/// The desk of a database.
-fn opened(alloc: Global, conn: Connection<MemStore>) -> Result<Desk<MemStore>, Fail> {
-    match Desk::open_from(alloc, conn) {
-        Ok(desk) => Ok(desk),
-        Err(_) => Err("not opened".into()),
-    }
-}
-
 impl Pair {
     fn new(alloc: Global) -> Result<Pair, Fail> {
         let keeping = example_desk(alloc)?;
@@ -326,9 +318,7 @@ fn moved_tables_keep_the_day(rt: HostRuntime) -> Result<(), Fail> {
 
 /// The database of a desk that was closed.
 fn closed(rt: &impl Abort, alloc: Global) -> Result<Connection<MemStore>, Fail> {
-    let mut desk = example_desk(alloc)?;
-    let setup = Dialogue::of(alloc, &[ALPHA, AUTHORIZATION])?;
-    setup.assert_replies_of_lines(rt, "closed", &mut desk)?;
+    let desk = desk_after(rt, alloc, "closed", &[ALPHA, AUTHORIZATION])?;
     Ok(desk.close())
 }
 
