@@ -2,7 +2,7 @@
 use addr::{Name, Prefix};
 use desk::Desk;
 use policy::Charter;
-use sqlite::MemStore;
+use sqlite::{Connection, MemStore};
 use std::alloc::Global;
 use std::test::Fail;
 
@@ -37,4 +37,12 @@ pub fn example_charter(alloc: Global) -> Result<Charter, Fail> {
 /// A new desk with this charter.
 pub fn example_desk(alloc: Global) -> Result<Desk<MemStore>, Fail> {
     desk_of(alloc, EXAMPLE_POOL)
+}
+
+/// The desk of a database.
+pub fn opened(alloc: Global, conn: Connection<MemStore>) -> Result<Desk<MemStore>, Fail> {
+    match Desk::open_from(alloc, conn) {
+        Ok(desk) => Ok(desk),
+        Err(_) => Err("not opened".into()),
+    }
 }

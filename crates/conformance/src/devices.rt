@@ -47,54 +47,71 @@ fn run(
     }
 }
 
-/// An input, whether the source then fails, the answer and the replies. A line that is empty or a
-/// word is malformed 1, and a list malformed 2.
-const LINES: [(&str, bool, Result<(), ScriptFault>, &str); 7] = [
-    ("", false, Ok(()), ""),
-    ("\n", false, Ok(()), "{\"malformed\":1}\n"),
-    (
-        "ab\r\n[]\n c",
-        false,
-        Ok(()),
-        "{\"malformed\":1}\n{\"malformed\":2}\n{\"malformed\":1}\n",
-    ),
-    (
-        "[]\nc\n",
-        false,
-        Ok(()),
-        "{\"malformed\":2}\n{\"malformed\":1}\n",
-    ),
-    ("", true, Err(ScriptFault::Read), ""),
-    (
-        "[]\ncd",
-        true,
-        Err(ScriptFault::Read),
-        "{\"malformed\":2}\n",
-    ),
-    (
-        "[]\ncd\n",
-        true,
-        Err(ScriptFault::Read),
-        "{\"malformed\":2}\n{\"malformed\":1}\n",
-    ),
-];
+/// The answer to a script, and the replies.
+fn assert_outcome(
+    rt: &impl Abort,
+    outcome: &ScriptOutcome,
+    expected: Result<(), ScriptFault>,
+    replies: &[u8],
+    about: &str,
+) {
+    assert_eq!(rt; outcome.result, expected, "{about:?}");
+    assert_eq!(rt; outcome.written.as_slice(), replies, "{about:?}");
+}
 
-#[test]
-fn answers_each_line(rt: HostRuntime) -> Result<(), Fail> {
-    for (input, fails, result, replies) in LINES {
-        for piece in [1, 2, 10_000] {
-            let mut desk = example_desk(rt.alloc())?;
-            let bytes = input.as_bytes();
-            let outcome = run(rt.alloc(), &mut desk, bytes, fails, piece, usize::MAX);
-            assert_eq!(rt; outcome.result, result, "of {input:?}");
-            assert_eq!(rt;
-                outcome.written.as_slice(),
-                replies.as_bytes(),
-                "of {input:?}"
-            );
-        }
+/// The answer to an input and the replies, in whatever pieces it comes.
+fn assert_answers(
+    rt: &impl Abort,
+    alloc: Global,
+    input: &str,
+    fails: bool,
+    expected: Result<(), ScriptFault>,
+    replies: &str,
+) -> Result<(), Fail> {
+    for piece in [1, 2, 10_000] {
+        let mut desk = example_desk(alloc)?;
+        let outcome = run(alloc, &mut desk, input.as_bytes(), fails, piece, usize::MAX);
+        assert_outcome(rt, &outcome, expected, replies.as_bytes(), input);
     }
     Ok(())
+}
+
+fn assert_ends(rt: &impl Abort, alloc: Global, input: &str, replies: &str) -> Result<(), Fail> {
+    assert_answers(rt, alloc, input, false, Ok(()), replies)
+}
+
+/// A line that is empty or a word is malformed 1, and a list malformed 2.
+#[test]
+fn answers_each_line(rt: HostRuntime) -> Result<(), Fail> {
+    let alloc = rt.alloc();
+    assert_ends(&rt, alloc, "", "")?;
+    assert_ends(&rt, alloc, "\n", "{\"malformed\":1}\n")?;
+    let three = "{\"malformed\":1}\n{\"malformed\":2}\n{\"malformed\":1}\n";
+    assert_ends(&rt, alloc, "ab\r\n[]\n c", three)?;
+    assert_ends(
+        &rt,
+        alloc,
+        "[]\nc\n",
+        "{\"malformed\":2}\n{\"malformed\":1}\n",
+    )
+}
+
+fn assert_torn(rt: &impl Abort, alloc: Global, input: &str, replies: &str) -> Result<(), Fail> {
+    assert_answers(rt, alloc, input, true, Err(ScriptFault::Read), replies)
+}
+
+/// The source fails after these lines.
+#[test]
+fn answers_each_whole_line_before_a_failure(rt: HostRuntime) -> Result<(), Fail> {
+    let alloc = rt.alloc();
+    assert_torn(&rt, alloc, "", "")?;
+    assert_torn(&rt, alloc, "[]\ncd", "{\"malformed\":2}\n")?;
+    assert_torn(
+        &rt,
+        alloc,
+        "[]\ncd\n",
+        "{\"malformed\":2}\n{\"malformed\":1}\n",
+    )
 }
 
 /// Three commands whose replies have 14 bytes each.
@@ -105,8 +122,13 @@ const REGISTER_THREE: &str = r#"{"day":"2026-03-01","caller":"reg","do":"registe
 
 const DONE_THREE: &str = "{\"done\":null}\n{\"done\":null}\n{\"done\":null}\n";
 
-/// How many of these commands are denied when they are sent again, since they were acted on.
-fn count_denied(alloc: Global, desk: &mut Desk<MemStore>) -> Result<usize, Fail> {
+/// So many of these commands are denied when they are sent again, since they were acted on.
+fn assert_acted_on(
+    rt: &impl Abort,
+    alloc: Global,
+    desk: &mut Desk<MemStore>,
+    commands: usize,
+) -> Result<(), Fail> {
     let again = run(
         alloc,
         desk,
@@ -115,32 +137,34 @@ fn count_denied(alloc: Global, desk: &mut Desk<MemStore>) -> Result<usize, Fail>
         10_000,
         usize::MAX,
     );
-    let again = String::from_utf8(again.written)?;
-    Ok(
-        again
-            .lines()
-            .filter(|line| *line == "{\"denied\":\"fresh\"}")
-            .count(),
-    )
+    let replies = str::from_utf8(again.written.as_slice())?;
+    let denied = replies
+        .lines()
+        .filter(|line| *line == "{\"denied\":\"fresh\"}")
+        .count();
+    assert_eq!(rt; denied, commands);
+    Ok(())
 }
 
 fn assert_replies_cut(rt: &impl Abort, alloc: Global, room: usize) -> Result<(), Fail> {
+    let replies = DONE_THREE.as_bytes().get(..room).ok_or("more room")?;
     let mut desk = example_desk(alloc)?;
-    let script = REGISTER_THREE.as_bytes();
-    let outcome = run(alloc, &mut desk, script, false, 10_000, room);
-    assert_eq!(rt;
-        outcome.result,
+    let outcome = run(
+        alloc,
+        &mut desk,
+        REGISTER_THREE.as_bytes(),
+        false,
+        10_000,
+        room,
+    );
+    assert_outcome(
+        rt,
+        &outcome,
         Err(ScriptFault::Write),
-        "after {room} bytes"
+        replies,
+        "replies cut short",
     );
-    assert_eq!(rt;
-        Some(outcome.written.as_slice()),
-        DONE_THREE.as_bytes().get(..room),
-        "after {room} bytes"
-    );
-    let denied = count_denied(alloc, &mut desk)?;
-    assert_eq!(rt; denied, (room / 14).saturating_add(1), "after {room} bytes");
-    Ok(())
+    assert_acted_on(rt, alloc, &mut desk, (room / 14).saturating_add(1))
 }
 
 /// The command whose reply was cut short was acted on, and none after it.
@@ -154,21 +178,20 @@ fn write_that_fails_cuts_the_replies_short(rt: HostRuntime) -> Result<(), Fail> 
 
 fn assert_script_ended(rt: &impl Abort, alloc: Global, read: &[u8]) -> Result<(), Fail> {
     let whole = read.iter().filter(|byte| **byte == b'\n').count();
+    let replies = DONE_THREE
+        .as_bytes()
+        .get(..whole.saturating_mul(14))
+        .ok_or("more lines")?;
     let mut desk = example_desk(alloc)?;
     let outcome = run(alloc, &mut desk, read, true, 10_000, usize::MAX);
-    assert_eq!(rt;
-        outcome.result,
+    assert_outcome(
+        rt,
+        &outcome,
         Err(ScriptFault::Read),
-        "after {whole} lines"
+        replies,
+        "script cut short",
     );
-    assert_eq!(rt;
-        Some(outcome.written.as_slice()),
-        DONE_THREE.as_bytes().get(..whole.saturating_mul(14)),
-        "after {whole} lines"
-    );
-    let denied = count_denied(alloc, &mut desk)?;
-    assert_eq!(rt; denied, whole, "after {whole} lines");
-    Ok(())
+    assert_acted_on(rt, alloc, &mut desk, whole)
 }
 
 /// The commands whose lines came whole were acted on and answered, and no others.
@@ -181,42 +204,38 @@ fn read_that_fails_ends_the_script_after_whole_lines(rt: HostRuntime) -> Result<
     Ok(())
 }
 
-/// What follows the longest line that is judged, whether the source then fails, the answer and the
-/// replies.
-const LONG_LINES: [(&str, bool, Result<(), ScriptFault>, &str); 4] = [
-    ("", false, Ok(()), "{\"malformed\":1}\n"),
-    ("x", false, Ok(()), "{\"malformed\":13}\n"),
-    ("x", true, Err(ScriptFault::Read), ""),
-    (
-        "x\n[]\n",
-        false,
-        Ok(()),
-        "{\"malformed\":13}\n{\"malformed\":2}\n",
-    ),
-];
+/// The answer to the longest line that is judged and what follows it, and the replies.
+fn assert_long(
+    rt: &impl Abort,
+    alloc: Global,
+    end: &str,
+    fails: bool,
+    expected: Result<(), ScriptFault>,
+    replies: &str,
+) -> Result<(), Fail> {
+    let mut input = vec![in alloc; b'x'; 1_048_576]?;
+    input.extend_from_slice(end.as_bytes())?;
+    let mut desk = example_desk(alloc)?;
+    let outcome = run(
+        alloc,
+        &mut desk,
+        input.as_slice(),
+        fails,
+        10_000,
+        usize::MAX,
+    );
+    assert_outcome(rt, &outcome, expected, replies.as_bytes(), end);
+    Ok(())
+}
 
 #[test]
 fn line_length_limit(rt: HostRuntime) -> Result<(), Fail> {
-    for (end, fails, result, replies) in LONG_LINES {
-        let mut input = vec![in rt.alloc(); b'x'; 1_048_576]?;
-        input.extend_from_slice(end.as_bytes())?;
-        let mut desk = example_desk(rt.alloc())?;
-        let outcome = run(
-            rt.alloc(),
-            &mut desk,
-            input.as_slice(),
-            fails,
-            10_000,
-            usize::MAX,
-        );
-        assert_eq!(rt; outcome.result, result, "then {end:?}");
-        assert_eq!(rt;
-            outcome.written.as_slice(),
-            replies.as_bytes(),
-            "then {end:?}"
-        );
-    }
-    Ok(())
+    let alloc = rt.alloc();
+    assert_long(&rt, alloc, "", false, Ok(()), "{\"malformed\":1}\n")?;
+    assert_long(&rt, alloc, "x", false, Ok(()), "{\"malformed\":13}\n")?;
+    assert_long(&rt, alloc, "x", true, Err(ScriptFault::Read), "")?;
+    let two = "{\"malformed\":13}\n{\"malformed\":2}\n";
+    assert_long(&rt, alloc, "x\n[]\n", false, Ok(()), two)
 }
 
 #[test]
@@ -317,6 +336,12 @@ struct Counter {
     flushes: Calls,
 }
 
+impl Counter {
+    fn new(calls: Calls, flushes: Calls) -> Counter {
+        Counter { calls, flushes }
+    }
+}
+
 impl Read for &Counter {
     fn read(&mut self, buffer: &mut [u8]) -> std::io::Result<usize> {
         self.calls.answer()?;
@@ -335,112 +360,71 @@ impl Write for &Counter {
     }
 }
 
-/// A reader's interruptions, whether it then fails, and the calls that two reads of its device make.
-const READS: [(&str, usize, bool, usize); 4] = [
-    ("each_read_is_one_call", 0, false, 2),
-    ("interrupted_read_is_made_again", 3, false, 5),
-    ("failed_read_is_not_made_again", 0, true, 1),
-    (
-        "read_that_fails_after_interruptions_is_the_last",
-        3,
-        true,
-        4,
-    ),
-];
+/// Two reads of a device whose reader is interrupted so often, and then may fail, make so many calls.
+fn assert_reads(rt: &impl Abort, interruptions: usize, failure: Option<ErrorKind>, calls: usize) {
+    let counter = Counter::new(Calls::new(interruptions, failure), Calls::new(0, None));
+    let mut device = Device::new(&counter);
+    for _ in 0..2 {
+        let result = device.read(&mut [0; 8]);
+        assert_eq!(rt; result.is_err(), failure.is_some(), "{failure:?}");
+    }
+    assert_eq!(rt; counter.calls.made.get(), calls, "{failure:?}");
+}
 
-/// If reads fail, they fail with an error of this kind.
-fn assert_reads(rt: &impl Abort, kind: ErrorKind) {
-    for (name, interruptions, fails, calls) in READS {
-        let counter = Counter {
-            calls: Calls::new(interruptions, fails.then_some(kind)),
-            flushes: Calls::new(0, None),
-        };
-        let mut device = Device::new(&counter);
-        for _ in 0..2 {
-            let result = device.read(&mut [0; 8]);
-            assert_eq!(rt; result.is_err(), fails, "{name}, {kind:?}");
-        }
-        assert_eq!(rt; counter.calls.made.get(), calls, "{name}, {kind:?}");
+#[test]
+fn interrupted_read_is_made_again(rt: HostRuntime) {
+    assert_reads(&rt, 0, None, 2);
+    assert_reads(&rt, 3, None, 5);
+}
+
+#[test]
+fn failed_read_is_not_made_again(rt: HostRuntime) {
+    for kind in KINDS {
+        assert_reads(&rt, 0, Some(kind), 1);
+        assert_reads(&rt, 3, Some(kind), 4);
+    }
+}
+
+/// Two writes of a device whose writer has these calls and flushes make so many writes and so many
+/// flushes.
+fn assert_writes(rt: &impl Abort, counter: &Counter, writes: usize, flushes: usize) {
+    let failure = counter.calls.failure.or(counter.flushes.failure);
+    let mut device = Device::new(counter);
+    for _ in 0..2 {
+        let result = device.write(b"reply");
+        assert_eq!(rt; result.is_err(), failure.is_some(), "{failure:?}");
+    }
+    assert_eq!(rt; counter.calls.made.get(), writes, "{failure:?}");
+    assert_eq!(rt; counter.flushes.made.get(), flushes, "{failure:?}");
+}
+
+#[test]
+fn each_write_is_flushed(rt: HostRuntime) {
+    let sound = Counter::new(Calls::new(0, None), Calls::new(0, None));
+    assert_writes(&rt, &sound, 2, 2);
+    let interrupted = Counter::new(Calls::new(3, None), Calls::new(0, None));
+    assert_writes(&rt, &interrupted, 5, 2);
+    let interrupted = Counter::new(Calls::new(0, None), Calls::new(3, None));
+    assert_writes(&rt, &interrupted, 2, 5);
+}
+
+#[test]
+fn failed_write_is_not_made_again(rt: HostRuntime) {
+    for kind in KINDS {
+        let failing = Counter::new(Calls::new(0, Some(kind)), Calls::new(0, None));
+        assert_writes(&rt, &failing, 1, 0);
+        let failing = Counter::new(Calls::new(3, Some(kind)), Calls::new(0, None));
+        assert_writes(&rt, &failing, 4, 0);
     }
 }
 
 #[test]
-fn device_reads(rt: HostRuntime) {
+fn failed_flush_is_not_made_again(rt: HostRuntime) {
     for kind in KINDS {
-        assert_reads(&rt, kind);
-    }
-}
-
-/// How many writes are interrupted and whether they then fail, the same for flushes, and the writes
-/// and the flushes that two writes of the device make.
-const WRITES: [(&str, (usize, bool), (usize, bool), usize, usize); 7] = [
-    ("each_write_is_flushed", (0, false), (0, false), 2, 2),
-    (
-        "interrupted_write_is_made_again",
-        (3, false),
-        (0, false),
-        5,
-        2,
-    ),
-    (
-        "interrupted_flush_is_made_again",
-        (0, false),
-        (3, false),
-        2,
-        5,
-    ),
-    (
-        "failed_write_is_not_made_again",
-        (0, true),
-        (0, false),
-        1,
-        0,
-    ),
-    (
-        "failed_flush_is_not_made_again",
-        (0, false),
-        (0, true),
-        1,
-        1,
-    ),
-    (
-        "write_that_fails_after_interruptions_is_the_last",
-        (3, true),
-        (0, false),
-        4,
-        0,
-    ),
-    (
-        "flush_that_fails_after_interruptions_is_the_last",
-        (0, false),
-        (3, true),
-        1,
-        4,
-    ),
-];
-
-/// If writes and flushes fail, they fail with an error of this kind.
-fn assert_writes(rt: &impl Abort, kind: ErrorKind) {
-    for (name, writes, flushes, calls, flush_calls) in WRITES {
-        let counter = Counter {
-            calls: Calls::new(writes.0, writes.1.then_some(kind)),
-            flushes: Calls::new(flushes.0, flushes.1.then_some(kind)),
-        };
-        let fails = writes.1 || flushes.1;
-        let mut device = Device::new(&counter);
-        for _ in 0..2 {
-            let result = device.write(b"reply");
-            assert_eq!(rt; result.is_err(), fails, "{name}, {kind:?}");
-        }
-        assert_eq!(rt; counter.calls.made.get(), calls, "{name}, {kind:?}");
-        assert_eq!(rt; counter.flushes.made.get(), flush_calls, "{name}, {kind:?}");
-    }
-}
-
-#[test]
-fn device_writes(rt: HostRuntime) {
-    for kind in KINDS {
-        assert_writes(&rt, kind);
+        let failing = Counter::new(Calls::new(0, None), Calls::new(0, Some(kind)));
+        assert_writes(&rt, &failing, 1, 1);
+        let failing = Counter::new(Calls::new(0, None), Calls::new(3, Some(kind)));
+        assert_writes(&rt, &failing, 1, 4);
     }
 }
 
@@ -464,42 +448,31 @@ fn device_reads_on_after_many_calls(rt: HostRuntime) -> Result<(), Fail> {
     Ok(())
 }
 
-/// How many bytes a writer takes a call, a text, and the calls that write it through a device.
-const PIECES: [(&str, usize, &[u8], usize); 5] = [
-    ("one_byte_is_one_call", 1, b"r", 1),
-    ("each_byte_is_a_call", 1, b"reply", 5),
-    ("the_last_piece_is_shorter", 2, b"reply", 3),
-    ("the_last_piece_is_one_byte", 4, b"reply", 2),
-    ("all_bytes_are_one_call", 5, b"reply", 1),
-];
+/// A writer that takes so many bytes a call is written a text through a device by so many calls.
+fn assert_pieces(rt: &impl Abort, alloc: Global, piece: usize, text: &[u8], calls: usize) {
+    let mut drip = Drip {
+        piece,
+        calls: 0,
+        written: Vec::new(alloc),
+    };
+    let result = write_all(&mut Device::new(&mut drip), text);
+    assert_eq!(rt; result, Ok(()), "pieces of {piece}");
+    assert_eq!(rt; drip.written.as_slice(), text, "pieces of {piece}");
+    assert_eq!(rt; drip.calls, calls, "pieces of {piece}");
+}
 
 #[test]
-fn device_hands_on_every_byte(rt: HostRuntime) -> Result<(), Fail> {
-    for (name, piece, text, calls) in PIECES {
-        let mut drip = Drip {
-            piece,
-            calls: 0,
-            written: Vec::new(rt.alloc()),
-        };
-        let result = write_all(&mut Device::new(&mut drip), text);
-        assert_eq!(rt; result, Ok(()), "{name}");
-        assert_eq!(rt; drip.written.as_slice(), text, "{name}");
-        assert_eq!(rt; drip.calls, calls, "{name}");
-    }
-    Ok(())
+fn device_hands_on_every_byte(rt: HostRuntime) {
+    assert_pieces(&rt, rt.alloc(), 1, b"r", 1);
+    assert_pieces(&rt, rt.alloc(), 1, b"reply", 5);
+    assert_pieces(&rt, rt.alloc(), 2, b"reply", 3);
+    assert_pieces(&rt, rt.alloc(), 4, b"reply", 2);
+    assert_pieces(&rt, rt.alloc(), 5, b"reply", 1);
 }
 
 #[test]
 fn device_writes_on_after_many_calls(rt: HostRuntime) -> Result<(), Fail> {
-    let mut drip = Drip {
-        piece: 1,
-        calls: 0,
-        written: Vec::new(rt.alloc()),
-    };
     let text = vec![in rt.alloc(); b'r'; MANY_CALLS]?;
-    let result = write_all(&mut Device::new(&mut drip), text.as_slice());
-    assert_eq!(rt; result, Ok(()));
-    assert_eq!(rt; drip.written.as_slice(), text.as_slice());
-    assert_eq!(rt; drip.calls, MANY_CALLS);
+    assert_pieces(&rt, rt.alloc(), 1, text.as_slice(), MANY_CALLS);
     Ok(())
 }

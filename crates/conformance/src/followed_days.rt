@@ -1,7 +1,7 @@
 //! A desk that keeps a day beside one that builds it anew before each question, over the same
 //! commands, which a fixed seed chooses.
-use crate::desks::example_desk;
-use crate::scripts::{ALPHA, AUTHORIZATION, Dialogue, reply_to};
+use crate::desks::{example_desk, opened};
+use crate::scripts::{ALPHA, AUTHORIZATION, assert_reply, desk_after, reply_to};
 use addr::Day;
 use desk::Desk;
 use library_conformance::rows::split_row;
@@ -132,31 +132,42 @@ fn withdraw(alloc: Global, dice: &mut Dice, made: u64) -> Result<String, Fail> {
     Ok(format!(in alloc; "\"withdraw\",\"number\":{number}")?)
 }
 
-/// A command of `ann` on the authorizations of a holder, of which so many may be made.
-fn command_of_ann(alloc: Global, dice: &mut Dice, made: u64) -> Result<String, Fail> {
-    let holder = dice.pick(&HOLDERS)?;
-    let members = match dice.below(8) {
+/// What `ann` commands at a holder, of whose authorizations so many may be made.
+fn members_of_ann(alloc: Global, dice: &mut Dice, made: u64) -> Result<String, Fail> {
+    match dice.below(8) {
         0..=2 => create(alloc, dice),
         3 => import(alloc, dice),
         4..=6 => amend(alloc, dice, made),
         _ => withdraw(alloc, dice, made),
-    };
-    let members = members?;
+    }
+}
+
+/// A command of `ann` on the authorizations of a holder, of which so many may be made.
+fn command_of_ann(alloc: Global, dice: &mut Dice, made: u64) -> Result<String, Fail> {
+    let holder = dice.pick(&HOLDERS)?;
+    let members = members_of_ann(alloc, dice, made)?;
     Ok(format!(in alloc; "ann {{\"holder\":\"{holder}\",\"do\":{members}}}")?)
+}
+
+fn transfer(alloc: Global, dice: &mut Dice, giver: &str) -> Result<String, Fail> {
+    let taker = dice.pick(&HOLDERS)?;
+    Ok(format!(in alloc; "\"transfer\",\"giver\":\"{giver}\",\"taker\":\"{taker}\"")?)
+}
+
+/// What the operator commands of the addresses of a holder.
+fn members_of_reg(alloc: Global, dice: &mut Dice, holder: &str) -> Result<String, Fail> {
+    match dice.below(4) {
+        0 => Ok(format!(in alloc; "\"reclaim\",\"holder\":\"{holder}\"")?),
+        1 => transfer(alloc, dice, holder),
+        _ => Ok(format!(in alloc; "\"delegate\",\"holder\":\"{holder}\"")?),
+    }
 }
 
 /// A command of the operator on the addresses of the holders.
 fn command_of_reg(alloc: Global, dice: &mut Dice) -> Result<String, Fail> {
     let prefix = dice.pick(&HALVES)?;
     let holder = dice.pick(&HOLDERS)?;
-    let members = match dice.below(4) {
-        0 => format!(in alloc; "\"reclaim\",\"holder\":\"{holder}\"")?,
-        1 => {
-            let taker = dice.pick(&HOLDERS)?;
-            format!(in alloc; "\"transfer\",\"giver\":\"{holder}\",\"taker\":\"{taker}\"")?
-        }
-        _ => format!(in alloc; "\"delegate\",\"holder\":\"{holder}\"")?,
-    };
+    let members = members_of_reg(alloc, dice, holder)?;
     Ok(format!(in alloc; "reg {{\"prefix\":\"{prefix}\",\"do\":{members}}}")?)
 }
 
@@ -173,14 +184,6 @@ fn command(alloc: Global, dice: &mut Dice, made: u64) -> Result<String, Fail> {
 struct Pair {
     keeping: Desk<MemStore>,
     building: Desk<MemStore>,
-}
-
-/// The desk of a database.
-fn opened(alloc: Global, conn: Connection<MemStore>) -> Result<Desk<MemStore>, Fail> {
-    match Desk::open_from(alloc, conn) {
-        Ok(desk) => Ok(desk),
-        Err(_) => Err("not opened".into()),
-    }
 }
 
 impl Pair {
@@ -212,8 +215,14 @@ impl Pair {
     ) -> Result<String, Fail> {
         let reply = reply_to(alloc, &mut self.keeping, day, request)?;
         let other = reply_to(alloc, &mut self.building, day, request)?;
-        assert_eq!(rt; reply.as_str(), other.as_str(), "{name}: {request}");
+        assert_reply(rt, &reply, &other, name, request);
         Ok(reply)
+    }
+
+    /// The day is still kept after a request, unless that changed the exceptions.
+    fn assert_kept(&self, rt: &impl Abort, request: &str) {
+        let is_kept = self.keeping.kept() == Day::read(DAY.as_bytes());
+        assert!(rt; is_kept != request.starts_with("slurm "), "{request}");
     }
 
     /// Both have the same day, which one of them builds anew.
@@ -243,8 +252,7 @@ fn send(
 ) -> Result<bool, Fail> {
     let request = command(alloc, dice, made / 8 + 1)?;
     let reply = pair.ask(rt, alloc, DAY_OF_COMMANDS, &request, "command")?;
-    let is_kept = pair.keeping.kept() == Day::read(DAY.as_bytes());
-    assert!(rt; is_kept != request.starts_with("slurm "), "{request}");
+    pair.assert_kept(rt, &request);
     pair.assert_same_day(rt, alloc, &request)?;
     Ok(!reply.starts_with("{\"denied\""))
 }
@@ -294,11 +302,8 @@ ann {"do":"amend","holder":"alpha","number":5,"max":24,"until":"2026-06-15"} => 
 fn assert_row(rt: &impl Abort, alloc: Global, pair: &mut Pair, row: &str) -> Result<(), Fail> {
     let (request, expected) = split_row(row)?;
     let reply = pair.ask(rt, alloc, DAY_OF_COMMANDS, request, "after opening")?;
-    assert_eq!(rt; reply.trim(), expected, "{request}");
-    assert!(rt;
-        pair.keeping.kept() == Day::read(DAY.as_bytes()),
-        "{request}"
-    );
+    assert_reply(rt, reply.trim(), expected, "after opening", request);
+    pair.assert_kept(rt, request);
     pair.assert_same_day(rt, alloc, request)
 }
 
@@ -326,9 +331,7 @@ fn moved_tables_keep_the_day(rt: HostRuntime) -> Result<(), Fail> {
 
 /// The database of a desk that was closed.
 fn closed(rt: &impl Abort, alloc: Global) -> Result<Connection<MemStore>, Fail> {
-    let mut desk = example_desk(alloc)?;
-    let setup = Dialogue::of(alloc, &[ALPHA, AUTHORIZATION])?;
-    setup.assert_replies_of_lines(rt, "closed", &mut desk)?;
+    let desk = desk_after(rt, alloc, "closed", &[ALPHA, AUTHORIZATION])?;
     Ok(desk.close())
 }
 

@@ -4,7 +4,9 @@
 //! Beside the rows of a script there are two that call the desk: `payloads`, for the VRPs of the day,
 //! which are written as the reply is, and `kept`, for the day that is kept, if one is.
 use crate::desks::example_desk;
-use crate::scripts::{assert_script, reply_to, setups_of, text_of};
+use crate::scripts::{
+    FIRST_DAY, assert_reply, assert_script, push_line, reply_to, setups_of, text_of,
+};
 use addr::Day;
 use desk::{Desk, Reply, Vrps};
 use library_conformance::listing::listed;
@@ -230,6 +232,28 @@ fn answer(
     reply_to(alloc, desk, day, input)
 }
 
+/// The answer to a row of a script on a day.
+fn assert_answer(
+    rt: &impl Abort,
+    alloc: Global,
+    desk: &mut Desk<MemStore>,
+    day: &str,
+    row: &str,
+    name: &str,
+) -> Result<(), Fail> {
+    let (input, output) = split_row(row)?;
+    if input == "kept" {
+        assert!(rt;
+            desk.kept() == Day::read(output.as_bytes()),
+            "{name}: {row}"
+        );
+        return Ok(());
+    }
+    let answered = answer(alloc, desk, day, input)?;
+    assert_reply(rt, answered.trim(), output, name, input);
+    Ok(())
+}
+
 fn assert_answers(
     rt: &impl Abort,
     alloc: Global,
@@ -237,17 +261,12 @@ fn assert_answers(
     name: &str,
     lines: &str,
 ) -> Result<(), Fail> {
-    let mut day = String::from_str(alloc, "2026-03-01")?;
+    let mut day = FIRST_DAY;
     for line in lines.lines() {
         if let Some(next) = line.strip_prefix("day ") {
-            day.clear();
-            day.push_str(next)?;
-        } else if let Some(kept) = line.strip_prefix("kept => ") {
-            assert!(rt; desk.kept() == Day::read(kept.as_bytes()), "{name}: {line}");
+            day = next;
         } else if !line.is_empty() {
-            let (input, output) = split_row(line)?;
-            let answered = answer(alloc, desk, &day, input)?;
-            assert_eq!(rt; answered.trim(), output, "{name}: {input}");
+            assert_answer(rt, alloc, desk, day, line, name)?;
         }
     }
     Ok(())
@@ -259,11 +278,9 @@ fn as_requests(alloc: Global, script: &str) -> Result<String, Fail> {
     for line in script.lines() {
         if let Some(output) = line.strip_prefix("payloads => ") {
             text.push_str(r#"bob {"do":"payloads"} => "#)?;
-            text.push_str(output)?;
-            text.push('\n')?;
+            push_line(&mut text, output)?;
         } else if !line.starts_with("kept => ") {
-            text.push_str(line)?;
-            text.push('\n')?;
+            push_line(&mut text, line)?;
         }
     }
     Ok(text)

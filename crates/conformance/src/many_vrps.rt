@@ -3,7 +3,7 @@ use crate::fakes::Drip;
 use addr::{Asn, Prefix, Vrp};
 use csv_records::payload_lines;
 use desk::{Reply, Vrps};
-use std::alloc::Global;
+use std::alloc::{AllocError, Global};
 use std::test::Fail;
 use web::{Device, write_reply};
 
@@ -19,9 +19,8 @@ fn vrps(alloc: Global) -> Result<Vec<Vrp>, Fail> {
     Ok(vrps)
 }
 
-#[test]
-fn prints_100_001_vrps_as_json(rt: HostRuntime) -> Result<(), Fail> {
-    let alloc = rt.alloc();
+/// What is printed of them as JSON.
+fn json(alloc: Global) -> Result<String, AllocError> {
     let mut text = String::from_str(alloc, "{\"payloads\":[")?;
     for asn in 1..=COUNT {
         let separator = if asn == 1 { "" } else { "," };
@@ -31,11 +30,26 @@ fn prints_100_001_vrps_as_json(rt: HostRuntime) -> Result<(), Fail> {
         text.push_str(&item)?;
     }
     text.push_str("]}\n")?;
-    let reply = Reply::Payloads(Vrps::from(vrps(alloc)?));
+    Ok(text)
+}
+
+/// What is printed of them as CSV.
+fn csv(alloc: Global) -> Result<String, AllocError> {
+    let mut text = String::from_str(alloc, "asn,prefix,maxlength\n")?;
+    for asn in 1..=COUNT {
+        text.push_str(&format!(in alloc; "AS{asn},192.0.2.0/24,24\n")?)?;
+    }
+    Ok(text)
+}
+
+#[test]
+fn prints_100_001_vrps_as_json(rt: HostRuntime) -> Result<(), Fail> {
+    let reply = Reply::Payloads(Vrps::from(vrps(rt.alloc())?));
+    let text = json(rt.alloc())?;
     let mut drip = Drip {
         piece: usize::MAX,
         calls: 0,
-        written: Vec::new(alloc),
+        written: Vec::new(rt.alloc()),
     };
     let result = write_reply(&reply, &mut Device::new(&mut drip));
     assert_eq!(rt; result, Ok(()));
@@ -45,13 +59,9 @@ fn prints_100_001_vrps_as_json(rt: HostRuntime) -> Result<(), Fail> {
 
 #[test]
 fn prints_100_001_vrps_as_csv(rt: HostRuntime) -> Result<(), Fail> {
-    let alloc = rt.alloc();
-    let mut text = String::from_str(alloc, "asn,prefix,maxlength\n")?;
-    for asn in 1..=COUNT {
-        text.push_str(&format!(in alloc; "AS{asn},192.0.2.0/24,24\n")?)?;
-    }
-    let vrps = vrps(alloc)?;
-    let lines = payload_lines(alloc, vrps.as_slice())?;
+    let vrps = vrps(rt.alloc())?;
+    let lines = payload_lines(rt.alloc(), vrps.as_slice())?;
+    let text = csv(rt.alloc())?;
     assert!(rt; lines.as_slice() == text.as_bytes());
     Ok(())
 }

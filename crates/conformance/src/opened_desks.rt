@@ -1,8 +1,7 @@
 //! Desks that go on where another one ended.
-use crate::desks::example_desk;
+use crate::desks::opened;
 use crate::scripts::exceptions::FILTER_AND_ASSERTION;
-use crate::scripts::{ALPHA, AUTHORIZATION, Dialogue};
-use desk::Desk;
+use crate::scripts::{ALPHA, AUTHORIZATION, assert_lines, desk_after};
 use sqlite::{Connection, MemStore};
 use std::alloc::Global;
 use std::process::Abort;
@@ -32,10 +31,8 @@ fn assert_opened(
     conn: Connection<MemStore>,
     lines: &str,
 ) -> Result<Connection<MemStore>, Fail> {
-    let Ok(mut desk) = Desk::open_from(alloc, conn) else {
-        return Err("not opened".into());
-    };
-    Dialogue::of(alloc, &[lines])?.assert_replies_of_lines(rt, name, &mut desk)?;
+    let mut desk = opened(alloc, conn)?;
+    assert_lines(rt, alloc, name, &mut desk, &[lines])?;
     Ok(desk.close())
 }
 
@@ -72,9 +69,7 @@ fn old_tables_are_moved_on_opening(rt: HostRuntime) -> Result<(), Fail> {
 #[test]
 fn closed_desk_is_opened(rt: HostRuntime) -> Result<(), Fail> {
     let name = "closed_desk_is_opened";
-    let mut desk = example_desk(rt.alloc())?;
-    let setup = Dialogue::of(rt.alloc(), &[ALPHA, AUTHORIZATION])?;
-    setup.assert_replies_of_lines(&rt, name, &mut desk)?;
+    let desk = desk_after(&rt, rt.alloc(), name, &[ALPHA, AUTHORIZATION])?;
     assert_goes_on(&rt, rt.alloc(), name, desk.close())
 }
 
@@ -97,14 +92,10 @@ bob {"do":"payloads"} => {"payloads":[]}
 #[test]
 fn opened_desk_has_its_exceptions(rt: HostRuntime) -> Result<(), Fail> {
     let name = "opened_desk_has_its_exceptions";
-    let mut desk = example_desk(rt.alloc())?;
-    let setup = Dialogue::of(rt.alloc(), &[ALPHA, AUTHORIZATION, FILTER_AND_ASSERTION])?;
-    setup.assert_replies_of_lines(&rt, name, &mut desk)?;
-    let Ok(mut opened) = Desk::open_from(rt.alloc(), desk.close()) else {
-        return Err("not opened".into());
-    };
-    let afterwards = Dialogue::of(rt.alloc(), &[EXCEPTIONS_AFTERWARDS])?;
-    afterwards.assert_replies_of_lines(&rt, name, &mut opened)
+    let setup = [ALPHA, AUTHORIZATION, FILTER_AND_ASSERTION];
+    let desk = desk_after(&rt, rt.alloc(), name, &setup)?;
+    assert_opened(&rt, rt.alloc(), name, desk.close(), EXCEPTIONS_AFTERWARDS)?;
+    Ok(())
 }
 
 /// Two files of a set, and what is left of them when the desk is opened again.
@@ -121,9 +112,7 @@ bob {"do":"payloads"} => {"payloads":[{"asn":64496,"prefix":"192.0.2.0/24","max"
 #[test]
 fn opened_desk_has_its_slurm_files(rt: HostRuntime) -> Result<(), Fail> {
     let name = "opened_desk_has_its_slurm_files";
-    let mut desk = example_desk(rt.alloc())?;
-    let setup = Dialogue::of(rt.alloc(), &[ALPHA, AUTHORIZATION, FILES])?;
-    setup.assert_replies_of_lines(&rt, name, &mut desk)?;
+    let desk = desk_after(&rt, rt.alloc(), name, &[ALPHA, AUTHORIZATION, FILES])?;
     assert_opened(&rt, rt.alloc(), name, desk.close(), FILES_AFTERWARDS)?;
     Ok(())
 }
@@ -161,9 +150,12 @@ ann {"do":"list","holder":"alpha"} => {"listed":[{"number":1,"asn":64496,"prefix
 fn last_number_of_a_holder(rt: HostRuntime) -> Result<(), Fail> {
     let mut conn = made(rt.alloc(), TABLES)?;
     conn.execute_batch(ALL_BUT_ONE_MADE)?;
-    let Ok(mut desk) = Desk::open_from(rt.alloc(), conn) else {
-        return Err("not opened".into());
-    };
-    let dialogue = Dialogue::of(rt.alloc(), &[LAST_NUMBER])?;
-    dialogue.assert_replies_of_lines(&rt, "last_number_of_a_holder", &mut desk)
+    assert_opened(
+        &rt,
+        rt.alloc(),
+        "last_number_of_a_holder",
+        conn,
+        LAST_NUMBER,
+    )?;
+    Ok(())
 }

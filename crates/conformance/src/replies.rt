@@ -49,102 +49,143 @@ fn assert_printed(rt: &impl Abort, alloc: Global, reply: &Reply, text: &str) {
     }
 }
 
+/// The reply has this text as its short one, and writes it.
+fn assert_short(rt: &impl Abort, alloc: Global, reply: &Reply, text: &str) {
+    assert!(rt; short_text(reply).is_some(), "of {text}");
+    assert_printed(rt, alloc, reply, text);
+}
+
 #[test]
 fn prints_short_replies(rt: HostRuntime) {
-    for (reply, text) in [
-        (Reply::Done(None), "{\"done\":null}\n"),
-        (Reply::Done(Some(7)), "{\"done\":7}\n"),
-        (
-            Reply::Imported {
-                made: 2,
-                present: 0,
-            },
-            "{\"made\":2,\"present\":0}\n",
-        ),
-        (
-            Reply::Imported {
-                made: u64::MAX,
-                present: u64::MAX,
-            },
-            "{\"made\":18446744073709551615,\"present\":18446744073709551615}\n",
-        ),
-        (Reply::Denied(Rule::Grant, None), "{\"denied\":\"grant\"}\n"),
-        (
-            Reply::Denied(Rule::Held, Some(2)),
-            "{\"denied\":\"held\",\"row\":2}\n",
-        ),
-        (
-            Reply::Denied(Rule::Operator, Some(u64::MAX)),
-            "{\"denied\":\"operator\",\"row\":18446744073709551615}\n",
-        ),
-        (Reply::Unavailable, "{\"unavailable\":true}\n"),
-    ] {
-        assert!(rt; short_text(&reply).is_some(), "of {text}");
-        assert_printed(&rt, rt.alloc(), &reply, text);
-    }
+    let alloc = rt.alloc();
+    assert_short(&rt, alloc, &Reply::Done(None), "{\"done\":null}\n");
+    assert_short(&rt, alloc, &Reply::Done(Some(7)), "{\"done\":7}\n");
+    assert_short(&rt, alloc, &Reply::Unavailable, "{\"unavailable\":true}\n");
+}
+
+fn imported(made: u64, present: u64) -> Reply {
+    Reply::Imported { made, present }
+}
+
+#[test]
+fn prints_counts_of_imports(rt: HostRuntime) {
+    let text = "{\"made\":2,\"present\":0}\n";
+    assert_short(&rt, rt.alloc(), &imported(2, 0), text);
+    let text = "{\"made\":18446744073709551615,\"present\":18446744073709551615}\n";
+    assert_short(&rt, rt.alloc(), &imported(u64::MAX, u64::MAX), text);
+}
+
+#[test]
+fn prints_denials(rt: HostRuntime) {
+    let alloc = rt.alloc();
+    let text = "{\"denied\":\"grant\"}\n";
+    assert_short(&rt, alloc, &Reply::Denied(Rule::Grant, None), text);
+    let text = "{\"denied\":\"held\",\"row\":2}\n";
+    assert_short(&rt, alloc, &Reply::Denied(Rule::Held, Some(2)), text);
+    let text = "{\"denied\":\"operator\",\"row\":18446744073709551615}\n";
+    assert_short(
+        &rt,
+        alloc,
+        &Reply::Denied(Rule::Operator, Some(u64::MAX)),
+        text,
+    );
+}
+
+#[test]
+fn prints_an_authorization(rt: HostRuntime) -> Result<(), Fail> {
+    let shown = Reply::Shown(auth(rt.alloc(), 1, "192.0.2.0/24")?);
+    let text =
+        "{\"shown\":{\"number\":1,\"asn\":64496,\"prefix\":\"192.0.2.0/24\",\"max\":24,\"from\":\"2026-01-01\",\"until\":\"2026-12-31\"}}\n";
+    assert_printed(&rt, rt.alloc(), &shown, text);
+    Ok(())
+}
+
+#[test]
+fn prints_a_content(rt: HostRuntime) -> Result<(), Fail> {
+    let content = Reply::Content(String::from_str(rt.alloc(), "3017c0")?);
+    assert_printed(&rt, rt.alloc(), &content, "{\"content\":\"3017c0\"}\n");
+    Ok(())
+}
+
+#[test]
+fn prints_empty_lists(rt: HostRuntime) {
+    let alloc = rt.alloc();
+    assert_printed(
+        &rt,
+        alloc,
+        &Reply::Listed(Vec::new(alloc)),
+        "{\"listed\":[]}\n",
+    );
+    let none = Reply::Payloads(Vrps::from(Vec::new(alloc)));
+    assert_printed(&rt, alloc, &none, "{\"payloads\":[]}\n");
+    assert_printed(
+        &rt,
+        alloc,
+        &Reply::Report(Vec::new(alloc)),
+        "{\"report\":[]}\n",
+    );
 }
 
 #[test]
 fn prints_authorizations(rt: HostRuntime) -> Result<(), Fail> {
-    let alloc = rt.alloc();
-    let one = auth(alloc, 1, "192.0.2.0/24")?;
-    let other = auth(alloc, 4_294_967_295, "2001:db8::/32")?;
-    let shown =
-        "{\"shown\":{\"number\":1,\"asn\":64496,\"prefix\":\"192.0.2.0/24\",\"max\":24,\"from\":\"2026-01-01\",\"until\":\"2026-12-31\"}}\n";
-    assert_printed(&rt, alloc, &Reply::Shown(one.clone()?), shown);
-    let content = Reply::Content(String::from_str(alloc, "3017c0")?);
-    assert_printed(&rt, alloc, &content, "{\"content\":\"3017c0\"}\n");
-    let none = Reply::Listed(Vec::new(alloc));
-    assert_printed(&rt, alloc, &none, "{\"listed\":[]}\n");
-    let two = Reply::Listed(vec![in alloc; one, other]?);
+    let one = auth(rt.alloc(), 1, "192.0.2.0/24")?;
+    let other = auth(rt.alloc(), 4_294_967_295, "2001:db8::/32")?;
+    let two = Reply::Listed(vec![in rt.alloc(); one, other]?);
     let listed =
         "{\"listed\":[{\"number\":1,\"asn\":64496,\"prefix\":\"192.0.2.0/24\",\"max\":24,\"from\":\"2026-01-01\",\"until\":\"2026-12-31\"},{\"number\":4294967295,\"asn\":64496,\"prefix\":\"2001:db8::/32\",\"max\":32,\"from\":\"2026-01-01\",\"until\":\"2026-12-31\"}]}\n";
-    assert_printed(&rt, alloc, &two, listed);
+    assert_printed(&rt, rt.alloc(), &two, listed);
     Ok(())
 }
 
 #[test]
-fn prints_vrps_and_states(rt: HostRuntime) -> Result<(), Fail> {
-    let alloc = rt.alloc();
-    let none = Reply::Payloads(Vrps::from(Vec::new(alloc)));
-    assert_printed(&rt, alloc, &none, "{\"payloads\":[]}\n");
+fn prints_vrps(rt: HostRuntime) -> Result<(), Fail> {
     let v4 = vrp(64496, "192.0.2.0/24", 24)?;
     let v6 = vrp(4_294_967_295, "::/0", 128)?;
-    let two = Reply::Payloads(Vrps::from(vec![in alloc; v4, v6]?));
+    let two = Reply::Payloads(Vrps::from(vec![in rt.alloc(); v4, v6]?));
     let payloads =
         "{\"payloads\":[{\"asn\":64496,\"prefix\":\"192.0.2.0/24\",\"max\":24},{\"asn\":4294967295,\"prefix\":\"::/0\",\"max\":128}]}\n";
-    assert_printed(&rt, alloc, &two, payloads);
+    assert_printed(&rt, rt.alloc(), &two, payloads);
+    Ok(())
+}
+
+#[test]
+fn prints_validity_states(rt: HostRuntime) -> Result<(), Fail> {
     let states = [Validity::Valid, Validity::NotFound, Validity::Invalid];
-    let answers = Reply::Answers(Vec::from_slice(alloc, &states)?);
+    let answers = Reply::Answers(Vec::from_slice(rt.alloc(), &states)?);
     let text = "{\"answers\":[\"Valid\",\"NotFound\",\"Invalid\"]}\n";
-    assert_printed(&rt, alloc, &answers, text);
-    let none = Reply::Report(Vec::new(alloc));
-    assert_printed(&rt, alloc, &none, "{\"report\":[]}\n");
+    assert_printed(&rt, rt.alloc(), &answers, text);
+    Ok(())
+}
+
+#[test]
+fn prints_reports(rt: HostRuntime) -> Result<(), Fail> {
     let pairs = [
         (Validity::Valid, Validity::Invalid),
         (Validity::NotFound, Validity::Valid),
     ];
-    let report = Reply::Report(Vec::from_slice(alloc, &pairs)?);
+    let report = Reply::Report(Vec::from_slice(rt.alloc(), &pairs)?);
     let text = "{\"report\":[[\"Valid\",\"Invalid\"],[\"NotFound\",\"Valid\"]]}\n";
-    assert_printed(&rt, alloc, &report, text);
+    assert_printed(&rt, rt.alloc(), &report, text);
     Ok(())
+}
+
+/// With room for less than this text, the reply writes its beginning and fails.
+fn assert_cut(rt: &impl Abort, alloc: Global, reply: &Reply, whole: &[u8]) {
+    for room in 0..whole.len() {
+        let (result, bytes) = written(alloc, reply, room);
+        assert_eq!(rt; result, Err(Failed), "after {room} bytes");
+        assert_eq!(rt; bytes.as_slice(), &whole[..room], "after {room} bytes");
+    }
 }
 
 #[test]
 fn write_that_fails_leaves_a_beginning(rt: HostRuntime) -> Result<(), Fail> {
-    let alloc = rt.alloc();
-    let auths = vec![in alloc;
-        auth(alloc, 1, "192.0.2.0/24")?,
-        auth(alloc, 2, "192.0.2.0/25")?,
-    ]?;
-    let reply = Reply::Listed(auths);
+    let one = auth(rt.alloc(), 1, "192.0.2.0/24")?;
+    let other = auth(rt.alloc(), 2, "192.0.2.0/25")?;
+    let reply = Reply::Listed(vec![in rt.alloc(); one, other]?);
     let whole =
         b"{\"listed\":[{\"number\":1,\"asn\":64496,\"prefix\":\"192.0.2.0/24\",\"max\":24,\"from\":\"2026-01-01\",\"until\":\"2026-12-31\"},{\"number\":2,\"asn\":64496,\"prefix\":\"192.0.2.0/25\",\"max\":25,\"from\":\"2026-01-01\",\"until\":\"2026-12-31\"}]}\n";
-    for room in 0..whole.len() {
-        let (result, bytes) = written(alloc, &reply, room);
-        assert_eq!(rt; result, Err(Failed), "after {room} bytes");
-        assert_eq!(rt; bytes.as_slice(), &whole[..room], "after {room} bytes");
-    }
+    assert_cut(&rt, rt.alloc(), &reply, whole);
     Ok(())
 }
 

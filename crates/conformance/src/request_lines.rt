@@ -1,12 +1,16 @@
 //! Lines of a script: the number that is reported of a malformed one, 0 where it is a request.
 use crate::scripts::exceptions::file_of_many;
-use crate::scripts::line_of;
-use library_conformance::rows::{nested, table_rows};
-use std::alloc::Global;
+use crate::scripts::{line_of, push_item};
+use library_conformance::rows::{Row, nested, table_rows};
+use std::alloc::{AllocError, Global};
+use std::process::Abort;
 use std::test::Fail;
 use web::{LineFault, read_line_request};
 
 const REGISTER: &str = r#"{"day":"2026-03-01","caller":"reg","do":"register","holder":"alpha"}"#;
+
+/// The day of the requests that have their callers before them.
+const DAY: &str = "2026-03-01";
 
 const LINE_LENGTH_LIMIT: usize = 1_048_576;
 
@@ -249,125 +253,135 @@ fn reported(alloc: Global, line: &[u8]) -> u8 {
     }
 }
 
+/// The number that is reported of a request with its caller before it.
+fn reported_of_request(alloc: Global, request: &str) -> Result<u8, Fail> {
+    let line = line_of(alloc, DAY, request)?;
+    Ok(reported(alloc, line.as_bytes()))
+}
+
+#[test]
+fn bytes_that_are_no_json_are_malformed_1(rt: HostRuntime) {
+    for line in NOT_JSON {
+        assert_eq!(rt; reported(rt.alloc(), line), 1, "{line:?}");
+    }
+}
+
+/// The number that is reported of a row is that of the row.
+fn assert_number(rt: &impl Abort, row: &Row<'_>, reported: u8) -> Result<(), Fail> {
+    let number: u8 = row.output.parse()?;
+    assert_eq!(rt; reported, number, "{}: {}", row.name, row.input);
+    Ok(())
+}
+
 #[test]
 fn reports_why_a_line_is_refused(rt: HostRuntime) -> Result<(), Fail> {
-    let alloc = rt.alloc();
-    for line in NOT_JSON {
-        assert_eq!(rt; reported(alloc, line), 1, "{line:?}");
-    }
-    for row in &table_rows(alloc, LINES)? {
-        let number = reported(alloc, row.input.as_bytes()).to_string(alloc)?;
-        assert_eq!(rt; number.as_str(), row.output, "{}: {}", row.name, row.input);
-    }
-    for table in [REQUESTS, LISTS] {
-        for row in &table_rows(alloc, table)? {
-            let line = line_of(alloc, "2026-03-01", row.input)?;
-            let number = reported(alloc, line.as_bytes()).to_string(alloc)?;
-            assert_eq!(rt; number.as_str(), row.output, "{}: {}", row.name, row.input);
-        }
+    for row in &table_rows(rt.alloc(), LINES)? {
+        assert_number(&rt, row, reported(rt.alloc(), row.input.as_bytes()))?;
     }
     Ok(())
 }
 
-/// The text before the items of a list, the text of an item before its prefix and after it, the text
-/// after the list, and how many items it may have.
-const LIMITED: [(&str, &str, &str, &str, u32); 4] = [
-    (
-        r#"reg {"do":"validity","routes":["#,
-        r#"{"prefix":""#,
-        r#"","origin":1}"#,
-        "]}",
-        10_000,
-    ),
-    (
-        r#"reg {"do":"whatif","holder":"alpha","changes":[],"routes":["#,
-        r#"{"origin":null,"prefix":""#,
-        r#""}"#,
-        "]}",
-        10_000,
-    ),
-    (
-        r#"reg {"do":"import","holder":"alpha","rows":["#,
-        r#"{"asn":1,"prefix":""#,
-        r#"","max":0,"from":"2026-01-01","until":"2026-12-31"}"#,
-        "]}",
-        10_000,
-    ),
-    (
-        r#"reg {"do":"whatif","holder":"alpha","changes":["#,
-        r#"{"do":"create","asn":1,"prefix":""#,
-        r#"","max":0,"from":"2026-01-01","until":"2026-12-31"}"#,
-        r#"],"routes":[{"prefix":"::/0","origin":1}]}"#,
-        1_000,
-    ),
-];
+fn assert_requests(rt: &impl Abort, alloc: Global, table: &str) -> Result<(), Fail> {
+    for row in &table_rows(alloc, table)? {
+        assert_number(rt, row, reported_of_request(alloc, row.input)?)?;
+    }
+    Ok(())
+}
 
-/// A list of so many items, the last of which has this prefix.
-fn long_list(
-    alloc: Global,
-    before: &str,
-    after: &str,
-    count: u32,
-    last: &str,
-) -> Result<String, Fail> {
+#[test]
+fn reports_why_a_request_is_refused(rt: HostRuntime) -> Result<(), Fail> {
+    assert_requests(&rt, rt.alloc(), REQUESTS)?;
+    assert_requests(&rt, rt.alloc(), LISTS)
+}
+
+/// The text before the items of a list, an item with the prefix `::/0`, and the text after the list;
+/// and how many items it may have.
+const LIMITED: &str = r#"
+# limits_of_lists
+reg {"do":"validity","routes":[ ; {"prefix":"::/0","origin":1} ; ]} => 10000
+reg {"do":"whatif","holder":"alpha","changes":[],"routes":[ ; {"origin":null,"prefix":"::/0"} ; ]} => 10000
+reg {"do":"import","holder":"alpha","rows":[ ; {"asn":1,"prefix":"::/0","max":0,"from":"2026-01-01","until":"2026-12-31"} ; ]} => 10000
+reg {"do":"whatif","holder":"alpha","changes":[ ; {"do":"create","asn":1,"prefix":"::/0","max":0,"from":"2026-01-01","until":"2026-12-31"} ; ],"routes":[{"prefix":"::/0","origin":1}]} => 1000
+"#;
+
+/// A request with a list, of whose items this is one.
+#[derive(Clone, Copy)]
+struct Limited<'a> {
+    head: &'a str,
+    item: &'a str,
+    end: &'a str,
+}
+
+/// So many items, the last of which is `last`.
+fn long_list(alloc: Global, item: &str, count: u32, last: &str) -> Result<String, AllocError> {
     let mut list = String::new(alloc);
     for _ in 1..count {
-        list.push_str(before)?;
-        list.push_str("::/0")?;
-        list.push_str(after)?;
-        list.push(',')?;
+        push_item(&mut list, item)?;
     }
-    list.push_str(before)?;
-    list.push_str(last)?;
-    list.push_str(after)?;
+    push_item(&mut list, last)?;
     Ok(list)
+}
+
+impl Limited<'_> {
+    fn read(input: &str) -> Result<Limited<'_>, Fail> {
+        let (head, list) = input.split_once(" ; ").ok_or("no item")?;
+        let (item, end) = list.split_once(" ; ").ok_or("no end")?;
+        Ok(Limited { head, item, end })
+    }
+
+    /// The number that is reported of so many items, the last of which is `last`.
+    fn assert_number(
+        &self,
+        rt: &impl Abort,
+        alloc: Global,
+        count: u32,
+        last: &str,
+        number: u8,
+    ) -> Result<(), Fail> {
+        let list = long_list(alloc, self.item, count, last)?;
+        let request = format!(in alloc; "{}{list}{}", self.head, self.end)?;
+        let reported = reported_of_request(alloc, &request)?;
+        assert_eq!(rt; reported, number, "{} {count} items", self.head);
+        Ok(())
+    }
+
+    /// So many items are a list, and one more is not, even if it is malformed otherwise.
+    fn assert_limit(&self, rt: &impl Abort, alloc: Global, most: u32) -> Result<(), Fail> {
+        let more = most.checked_add(1).ok_or("no limit")?;
+        self.assert_number(rt, alloc, 1, self.item, 0)?;
+        self.assert_number(rt, alloc, most, self.item, 0)?;
+        self.assert_number(rt, alloc, more, self.item, 12)?;
+        let (before, after) = self.item.split_once("::/0").ok_or("no prefix")?;
+        let malformed = format!(in alloc; "{before}::{after}")?;
+        self.assert_number(rt, alloc, more, &malformed, 5)
+    }
 }
 
 #[test]
 fn limits_of_lists(rt: HostRuntime) -> Result<(), Fail> {
-    let alloc = rt.alloc();
-    for (head, before, after, end, most) in LIMITED {
-        for (count, last, number) in [
-            (1, "::/0", 0),
-            (most, "::/0", 0),
-            (most + 1, "::/0", 12),
-            (most + 1, "::", 5),
-        ] {
-            let list = long_list(alloc, before, after, count, last)?;
-            let request = format!(in alloc; "{head}{list}{end}")?;
-            let line = line_of(alloc, "2026-03-01", &request)?;
-            assert_eq!(rt;
-                reported(alloc, line.as_bytes()),
-                number,
-                "{head} {count} items"
-            );
-        }
+    for row in &table_rows(rt.alloc(), LIMITED)? {
+        let limited = Limited::read(row.input)?;
+        limited.assert_limit(&rt, rt.alloc(), row.output.parse()?)?;
     }
+    Ok(())
+}
+
+/// The number of a line that is so many arrays deep.
+fn assert_depth(rt: &impl Abort, alloc: Global, depth: u32, number: u8) -> Result<(), Fail> {
+    let line = nested(alloc, depth)?;
+    assert_eq!(rt; reported(alloc, line.as_bytes()), number, "{depth} deep");
     Ok(())
 }
 
 #[test]
 fn nesting_over_127_is_no_json(rt: HostRuntime) -> Result<(), Fail> {
-    for (depth, number) in [(127, 2), (128, 1)] {
-        let line = nested(rt.alloc(), depth)?;
-        assert_eq!(rt;
-            reported(rt.alloc(), line.as_bytes()),
-            number,
-            "{depth} deep"
-        );
-    }
-    Ok(())
-}
-
-/// The numbers of a line that brings this file, both 0 where it is a request.
-fn reported_of_file(alloc: Global, file: &str) -> Result<(u8, u8), Fail> {
-    let request = format!(in alloc; "reg {{\"do\":\"slurm\",\"file\":{file}}}")?;
-    reported_of_slurm(alloc, &request)
+    assert_depth(&rt, rt.alloc(), 127, 2)?;
+    assert_depth(&rt, rt.alloc(), 128, 1)
 }
 
 /// The numbers of such a request, both 0 where it is one.
 fn reported_of_slurm(alloc: Global, request: &str) -> Result<(u8, u8), Fail> {
-    let line = line_of(alloc, "2026-03-01", request)?;
+    let line = line_of(alloc, DAY, request)?;
     match read_line_request(alloc, line.as_bytes()) {
         Ok(_) => Ok((0, 0)),
         Err(LineFault::Malformed(malformed)) => {
@@ -377,54 +391,91 @@ fn reported_of_slurm(alloc: Global, request: &str) -> Result<(u8, u8), Fail> {
     }
 }
 
-/// The numbers of a line that brings these two files, both 0 where it is a request.
-fn reported_of_two_files(alloc: Global, one: &str, other: &str) -> Result<(u8, u8), Fail> {
+fn assert_slurm(
+    rt: &impl Abort,
+    alloc: Global,
+    request: &str,
+    numbers: (u8, u8),
+    name: &str,
+) -> Result<(), Fail> {
+    let reported = reported_of_slurm(alloc, request)?;
+    assert_eq!(rt; reported, numbers, "{name}");
+    Ok(())
+}
+
+/// The numbers of a line that brings this file.
+fn assert_file(
+    rt: &impl Abort,
+    alloc: Global,
+    file: &str,
+    numbers: (u8, u8),
+    name: &str,
+) -> Result<(), Fail> {
+    let request = format!(in alloc; "reg {{\"do\":\"slurm\",\"file\":{file}}}")?;
+    assert_slurm(rt, alloc, &request, numbers, name)
+}
+
+#[test]
+fn limits_of_slurm_files(rt: HostRuntime) -> Result<(), Fail> {
+    let full = file_of_many(rt.alloc(), 4095)?;
+    assert_file(&rt, rt.alloc(), &full, (0, 0), "4095 filters")?;
+    let over = file_of_many(rt.alloc(), 4096)?;
+    assert_file(&rt, rt.alloc(), &over, (11, 11), "4096 filters")
+}
+
+/// The line's own object is one level more.
+#[test]
+fn nesting_of_slurm_files(rt: HostRuntime) -> Result<(), Fail> {
+    let deep = nested(rt.alloc(), 126)?;
+    assert_file(&rt, rt.alloc(), &deep, (11, 2), "126 deep")?;
+    let deeper = nested(rt.alloc(), 127)?;
+    assert_file(&rt, rt.alloc(), &deeper, (1, 0), "127 deep")
+}
+
+/// The numbers of a line that brings these two files.
+fn assert_two_files(
+    rt: &impl Abort,
+    alloc: Global,
+    one: &str,
+    other: &str,
+    numbers: (u8, u8),
+    name: &str,
+) -> Result<(), Fail> {
     let request = format!(in alloc;
         "reg {{\"do\":\"slurm\",\"files\":[{{\"name\":\"a\",\"file\":{one}}},\
          {{\"name\":\"b\",\"file\":{other}}}]}}"
     )?;
-    reported_of_slurm(alloc, &request)
+    assert_slurm(rt, alloc, &request, numbers, name)
 }
 
 /// The limit on entries is that of each file.
 #[test]
 fn limits_of_sets_of_slurm_files(rt: HostRuntime) -> Result<(), Fail> {
-    let alloc = rt.alloc();
-    let full = file_of_many(alloc, 4095)?;
-    let over = file_of_many(alloc, 4096)?;
-    assert_eq!(rt; reported_of_two_files(alloc, &full, &full)?, (0, 0));
-    assert_eq!(rt; reported_of_two_files(alloc, &full, &over)?, (11, 11));
-    Ok(())
+    let full = file_of_many(rt.alloc(), 4095)?;
+    assert_two_files(&rt, rt.alloc(), &full, &full, (0, 0), "both full")?;
+    let over = file_of_many(rt.alloc(), 4096)?;
+    assert_two_files(
+        &rt,
+        rt.alloc(),
+        &full,
+        &over,
+        (11, 11),
+        "one over its limit",
+    )
 }
 
-/// The line's own object is one level more.
-#[test]
-fn limits_of_slurm_files(rt: HostRuntime) -> Result<(), Fail> {
-    for (filters, numbers) in [(4095, (0, 0)), (4096, (11, 11))] {
-        let file = file_of_many(rt.alloc(), filters)?;
-        assert_eq!(rt;
-            reported_of_file(rt.alloc(), &file)?,
-            numbers,
-            "{filters} filters"
-        );
+/// A request of this length, with blanks after it.
+fn padded(alloc: Global, length: usize) -> Result<String, AllocError> {
+    let mut line = String::from_str(alloc, REGISTER)?;
+    for _ in REGISTER.len()..length {
+        line.push(' ')?;
     }
-    for (depth, numbers) in [(126, (11, 2)), (127, (1, 0))] {
-        let file = nested(rt.alloc(), depth)?;
-        assert_eq!(rt;
-            reported_of_file(rt.alloc(), &file)?,
-            numbers,
-            "{depth} deep"
-        );
-    }
-    Ok(())
+    Ok(line)
 }
 
 #[test]
 fn length_is_tested_before_anything_else(rt: HostRuntime) -> Result<(), Fail> {
-    let mut line = String::from_str(rt.alloc(), REGISTER)?;
-    for _ in REGISTER.len()..LINE_LENGTH_LIMIT {
-        line.push(' ')?;
-    }
+    let mut line = padded(rt.alloc(), LINE_LENGTH_LIMIT)?;
     assert_eq!(rt; reported(rt.alloc(), line.as_bytes()), 0);
     line.push('{')?;
     assert_eq!(rt; reported(rt.alloc(), line.as_bytes()), 13);
@@ -432,47 +483,41 @@ fn length_is_tested_before_anything_else(rt: HostRuntime) -> Result<(), Fail> {
 }
 
 /// So many entries, each of a prefix of its own.
-fn entries_text(alloc: Global, count: u32) -> Result<String, Fail> {
+fn entries_text(alloc: Global, count: u32) -> Result<String, AllocError> {
     let mut entries = String::new(alloc);
     for index in 0..count {
-        if index > 0 {
-            entries.push(',')?;
-        }
         let entry = format!(in alloc; r#"{{"prefix":"10.0.{index}.0/24","max":24}}"#)?;
-        entries.push_str(&entry)?;
+        push_item(&mut entries, &entry)?;
     }
     Ok(entries)
 }
 
-/// The number that is reported of a create with so many entries.
-fn reported_of_entries(alloc: Global, count: u32) -> Result<u8, Fail> {
+/// The number of a create with so many entries.
+fn assert_entries(rt: &impl Abort, alloc: Global, count: u32, number: u8) -> Result<(), Fail> {
     let entries = entries_text(alloc, count)?;
     let request = format!(in alloc;
         r#"ann {{"do":"create","holder":"alpha","asn":1,"entries":[{entries}],"from":"2026-01-01","until":"2026-12-31"}}"#
     )?;
-    let line = line_of(alloc, "2026-03-01", &request)?;
-    Ok(reported(alloc, line.as_bytes()))
+    let reported = reported_of_request(alloc, &request)?;
+    assert_eq!(rt; reported, number, "{count} entries");
+    Ok(())
 }
 
-/// The number that is reported of an amendment to so many maxLengths.
-fn reported_of_maxes(alloc: Global, count: u32) -> Result<u8, Fail> {
-    let mut list = String::new(alloc);
-    for index in 0..count {
-        list.push_str(if index > 0 { ",24" } else { "24" })?;
-    }
+/// The number of an amendment to so many maxLengths.
+fn assert_max_lengths(rt: &impl Abort, alloc: Global, count: u32, number: u8) -> Result<(), Fail> {
+    let list = long_list(alloc, "24", count, "24")?;
     let request = format!(in alloc;
         r#"ann {{"do":"amend","holder":"alpha","number":1,"maxes":[{list}],"until":"2026-12-31"}}"#
     )?;
-    let line = line_of(alloc, "2026-03-01", &request)?;
-    Ok(reported(alloc, line.as_bytes()))
+    let reported = reported_of_request(alloc, &request)?;
+    assert_eq!(rt; reported, number, "{count} maxLengths");
+    Ok(())
 }
 
 #[test]
 fn authorization_has_up_to_64_entries(rt: HostRuntime) -> Result<(), Fail> {
-    let alloc = rt.alloc();
-    assert_eq!(rt; reported_of_entries(alloc, 64)?, 0);
-    assert_eq!(rt; reported_of_entries(alloc, 65)?, 12);
-    assert_eq!(rt; reported_of_maxes(alloc, 64)?, 0);
-    assert_eq!(rt; reported_of_maxes(alloc, 65)?, 12);
-    Ok(())
+    assert_entries(&rt, rt.alloc(), 64, 0)?;
+    assert_entries(&rt, rt.alloc(), 65, 12)?;
+    assert_max_lengths(&rt, rt.alloc(), 64, 0)?;
+    assert_max_lengths(&rt, rt.alloc(), 65, 12)
 }

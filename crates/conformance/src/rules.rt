@@ -1,13 +1,15 @@
 //! Requests that no line brings, and rows that no short script leaves.
-use crate::desks::{example_charter, example_desk};
-use crate::scripts::{ALPHA, Dialogue};
+use crate::desks::example_charter;
+use crate::scripts::{ALPHA, desk_after};
 use addr::{Asn, Day, Holdings, Name, Prefix};
-use desk::{Reply, Request};
+use desk::{Desk, Reply, Request};
 use policy::{
-    AuthTerms, Change, Command, Edit, Granted, HolderRows, ImportRow, Proposed, Refusal, Role,
-    Rule, Scope, View, decide, suppose,
+    Change, Command, Edit, Granted, HolderRows, ImportRow, Proposed, Refusal, Role, Rule, Scope,
+    View, decide, suppose,
 };
+use sqlite::MemStore;
 use std::alloc::Global;
+use std::process::Abort;
 use std::test::Fail;
 
 fn name(text: &str) -> Result<Name, Fail> {
@@ -18,35 +20,49 @@ fn first_of_march() -> Result<Day, Fail> {
     Ok(Day::read(b"2026-03-01").ok_or("a day")?)
 }
 
-/// The limits on the number of rows are those of texts alone.
-#[test]
-fn import_without_rows_asks_no_rule(rt: HostRuntime) -> Result<(), Fail> {
-    let mut desk = example_desk(rt.alloc())?;
-    let setup = Dialogue::of(rt.alloc(), &[ALPHA])?;
-    setup.assert_replies_of_lines(&rt, "import_without_rows_asks_no_rule", &mut desk)?;
-    for (caller, holder) in [("ann", "alpha"), ("bob", "alpha"), ("bob", "zeta")] {
-        let request = Request::Command(Command::Import {
-            holder: name(holder)?,
-            rows: Vec::new(rt.alloc()),
-        });
-        let reply = desk.handle(first_of_march()?, &name(caller)?, &request);
-        let makes_nothing = matches!(
-            reply,
-            Reply::Imported {
-                made: 0,
-                present: 0
-            }
-        );
-        assert!(rt; makes_nothing, "{caller} at {holder}");
-    }
+/// An import without rows makes nothing, whoever asks for it.
+fn assert_makes_nothing(
+    rt: &impl Abort,
+    alloc: Global,
+    desk: &mut Desk<MemStore>,
+    caller: &str,
+    holder: &str,
+) -> Result<(), Fail> {
+    let (day, asking, asked) = (first_of_march()?, name(caller)?, name(holder)?);
+    let request = Request::Command(Command::Import {
+        holder: asked,
+        rows: Vec::new(alloc),
+    });
+    let reply = desk.handle(day, &asking, &request);
+    let makes_nothing = matches!(
+        reply,
+        Reply::Imported {
+            made: 0,
+            present: 0
+        }
+    );
+    assert!(rt; makes_nothing, "{caller} at {holder}");
     Ok(())
 }
 
-/// The holder of 192.0.2.0/24 at which so many authorizations were made, none of them active, with
-/// `ann` as its manager.
-fn view_after(alloc: Global, created: u32) -> Result<View, Fail> {
+/// The limits on the number of rows are those of texts alone.
+#[test]
+fn import_without_rows_asks_no_rule(rt: HostRuntime) -> Result<(), Fail> {
+    let name = "import_without_rows_asks_no_rule";
+    let mut desk = desk_after(&rt, rt.alloc(), name, &[ALPHA])?;
+    assert_makes_nothing(&rt, rt.alloc(), &mut desk, "ann", "alpha")?;
+    assert_makes_nothing(&rt, rt.alloc(), &mut desk, "bob", "alpha")?;
+    assert_makes_nothing(&rt, rt.alloc(), &mut desk, "bob", "zeta")
+}
+
+fn holdings(alloc: Global) -> Result<Holdings, Fail> {
+    let prefix = Prefix::read(b"192.0.2.0/24")?;
     let mut holdings = Holdings::new(alloc);
-    holdings.add(&Prefix::read(b"192.0.2.0/24")?)?;
+    holdings.add(&prefix)?;
+    Ok(holdings)
+}
+
+fn grants(alloc: Global) -> Result<Vec<Granted>, Fail> {
     let manager = Granted {
         number: 1,
         caller: name("ann")?,
@@ -54,9 +70,16 @@ fn view_after(alloc: Global, created: u32) -> Result<View, Fail> {
         scope: Scope::All,
         until: first_of_march()?,
     };
+    Ok(vec![in alloc; manager]?)
+}
+
+/// The holder of 192.0.2.0/24 at which so many authorizations were made, none of them active, with
+/// `ann` as its manager.
+fn view_after(alloc: Global, created: u32) -> Result<View, Fail> {
+    let holdings = holdings(alloc)?;
     let rows = HolderRows {
         holdings,
-        grants: vec![in alloc; manager]?,
+        grants: grants(alloc)?,
         auths: Vec::new(alloc),
         granted: 1,
         created,
@@ -77,8 +100,8 @@ fn row(asn: u32) -> Result<ImportRow, Fail> {
     })
 }
 
-fn terms(alloc: Global, asn: u32) -> Result<AuthTerms, Fail> {
-    Ok(row(asn)?.terms(alloc)?)
+fn creation(alloc: Global, asn: u32) -> Result<Proposed, Fail> {
+    Ok(Proposed::Create(row(asn)?.terms(alloc)?))
 }
 
 /// The rule and the row that a denial names.
@@ -95,25 +118,28 @@ fn import_after(
     created: u32,
     rows: &[ImportRow],
 ) -> Result<Result<Change, Refusal>, Fail> {
-    let command = Command::Import {
-        holder: name("alpha")?,
-        rows: Vec::from_slice(alloc, rows)?,
-    };
-    let view = view_after(alloc, created)?;
+    let (day, caller, holder) = (first_of_march()?, name("ann")?, name("alpha")?);
     let charter = example_charter(alloc)?;
-    let (day, caller) = (first_of_march()?, name("ann")?);
+    let view = view_after(alloc, created)?;
+    let rows = Vec::from_slice(alloc, rows)?;
+    let command = Command::Import { holder, rows };
     Ok(decide(alloc, &charter, &view, day, &caller, &command))
 }
 
 #[test]
-fn number_999999_is_the_last(rt: HostRuntime) -> Result<(), Fail> {
-    let alloc = rt.alloc();
+fn import_past_number_999999_is_denied(rt: HostRuntime) -> Result<(), Fail> {
     let rows = [row(1)?, row(2)?];
-    let second = import_after(alloc, 999_998, &rows)?;
-    assert_eq!(rt; denial(second), Some((Rule::Room, Some(2))));
-    let first = import_after(alloc, 999_999, &rows)?;
-    assert_eq!(rt; denial(first), Some((Rule::Room, Some(1))));
-    let change = import_after(alloc, 999_998, &rows[..1])??;
+    let second = denial(import_after(rt.alloc(), 999_998, &rows)?);
+    assert_eq!(rt; second, Some((Rule::Room, Some(2))));
+    let first = denial(import_after(rt.alloc(), 999_999, &rows)?);
+    assert_eq!(rt; first, Some((Rule::Room, Some(1))));
+    Ok(())
+}
+
+#[test]
+fn number_999999_is_the_last(rt: HostRuntime) -> Result<(), Fail> {
+    let rows = [row(1)?];
+    let change = import_after(rt.alloc(), 999_998, &rows)??;
     assert_eq!(rt; change.imported(), 1);
     let Change::Holders { first, .. } = &change else {
         return Err("another change".into());
@@ -126,20 +152,33 @@ fn number_999999_is_the_last(rt: HostRuntime) -> Result<(), Fail> {
     Ok(())
 }
 
+/// What these changes by `ann` would leave where 999,998 authorizations were made.
+fn supposed(alloc: Global, changes: &[Proposed]) -> Result<Result<HolderRows, Refusal>, Fail> {
+    let (day, caller) = (first_of_march()?, name("ann")?);
+    let charter = example_charter(alloc)?;
+    let view = view_after(alloc, 999_998)?;
+    Ok(suppose(alloc, &charter, &view, day, &caller, changes))
+}
+
+/// A create, its withdrawal and a second create.
+fn creation_after_withdrawal(alloc: Global) -> Result<[Proposed; 3], Fail> {
+    let first = creation(alloc, 1)?;
+    let second = creation(alloc, 2)?;
+    Ok([first, Proposed::Withdraw(999_999), second])
+}
+
 #[test]
 fn supposed_create_counts_as_made(rt: HostRuntime) -> Result<(), Fail> {
-    let alloc = rt.alloc();
-    let view = view_after(alloc, 999_998)?;
-    let charter = example_charter(alloc)?;
-    let (day, caller) = (first_of_march()?, name("ann")?);
-    let changes = [
-        Proposed::Create(terms(alloc, 1)?),
-        Proposed::Withdraw(999_999),
-        Proposed::Create(terms(alloc, 2)?),
-    ];
-    let third = suppose(alloc, &charter, &view, day, &caller, &changes);
-    assert_eq!(rt; denial(third), Some((Rule::Room, Some(3))));
-    let rows = suppose(alloc, &charter, &view, day, &caller, &changes[..2])?;
+    let changes = creation_after_withdrawal(rt.alloc())?;
+    let third = denial(supposed(rt.alloc(), &changes)?);
+    assert_eq!(rt; third, Some((Rule::Room, Some(3))));
+    Ok(())
+}
+
+#[test]
+fn supposed_create_and_withdrawal_leave_its_number(rt: HostRuntime) -> Result<(), Fail> {
+    let changes = creation_after_withdrawal(rt.alloc())?;
+    let rows = supposed(rt.alloc(), &changes[..2])??;
     assert!(rt; rows.auths.is_empty());
     assert_eq!(rt; rows.created, 999_999);
     Ok(())

@@ -4,13 +4,13 @@
 //! Each script begins with a line `# NAME`, or `# NAME after SETUP, SETUP, ..` where other lines
 //! come before its own. A line is `CALLER {"do":..} => REPLY`, sent on the first of March, or
 //! `day DAY`, the day of the lines that follow it.
-use crate::desks::{EXAMPLE_POOL, desk_of};
+use crate::desks::{EXAMPLE_POOL, desk_of, example_desk};
 use crate::fakes::Tape;
-use desk::{Desk, Reply};
+use desk::{Asked, Desk, Reply};
 use library_conformance::rows::split_row;
 use library_conformance::sheet::Sheet;
 use sqlite::MemStore;
-use std::alloc::Global;
+use std::alloc::{AllocError, Global};
 use std::process::Abort;
 use std::test::Fail;
 use web::{Device, read_line_request, run_script, write_reply};
@@ -67,12 +67,21 @@ reg {"do":"delegate","holder":"beta","prefix":"198.51.100.0/24"} => {"done":null
 reg {"do":"grant","holder":"beta","name":"bea","role":"manager","scope":"all","until":"2026-12-31"} => {"done":1}
 "#;
 
+/// The day of the lines of a script before its first `day`.
+pub(crate) const FIRST_DAY: &str = "2026-03-01";
+
 const HALVES: &[&str] = &["192.0.2.0/25", "192.0.2.128/25"];
 
 /// The line of a script on a day, of a request with its caller before it.
 pub(crate) fn line_of(alloc: Global, day: &str, request: &str) -> Result<String, Fail> {
     let (caller, members) = request.split_once(" {").ok_or("no caller")?;
     Ok(format!(in alloc; "{{\"day\":\"{day}\",\"caller\":\"{caller}\",{members}")?)
+}
+
+/// The line of a script on a day, of the request of a row.
+fn row_line(alloc: Global, day: &str, request: &str) -> Result<String, Fail> {
+    let request = exceptions::request_line(alloc, request)?;
+    line_of(alloc, day, &request)
 }
 
 /// What the desk writes to a script, which a source gives few bytes at a time.
@@ -107,8 +116,7 @@ pub(crate) fn reply_to(
     day: &str,
     request: &str,
 ) -> Result<String, Fail> {
-    let request = exceptions::request_line(alloc, request)?;
-    let line = line_of(alloc, day, &request)?;
+    let line = row_line(alloc, day, request)?;
     replies_to(alloc, desk, &line)
 }
 
@@ -126,6 +134,55 @@ pub(crate) fn text_of(alloc: Global, replies: &[Reply]) -> Result<String, Fail> 
         };
     }
     Ok(String::from_utf8(sheet.bytes)?)
+}
+
+/// The reply to a request of a script is the expected one.
+pub(crate) fn assert_reply(
+    rt: &impl Abort,
+    reply: &str,
+    expected: &str,
+    name: &str,
+    request: &str,
+) {
+    assert_eq!(rt; reply, expected, "{name}: {request}");
+}
+
+/// Appends a line to a text.
+pub(crate) fn push_line(text: &mut String, line: &str) -> Result<(), AllocError> {
+    text.push_str(line)?;
+    text.push('\n')
+}
+
+/// Appends an item of a list, with a comma before it if it is not the first.
+pub(crate) fn push_item(list: &mut String, item: &str) -> Result<(), AllocError> {
+    if !list.is_empty() {
+        list.push(',')?;
+    }
+    list.push_str(item)
+}
+
+/// A new desk to which these lines were sent.
+pub(crate) fn desk_after(
+    rt: &impl Abort,
+    alloc: Global,
+    name: &str,
+    texts: &[&str],
+) -> Result<Desk<MemStore>, Fail> {
+    let mut desk = example_desk(alloc)?;
+    assert_lines(rt, alloc, name, &mut desk, texts)?;
+    Ok(desk)
+}
+
+/// These lines, sent to the desk one by one, have their replies.
+pub(crate) fn assert_lines(
+    rt: &impl Abort,
+    alloc: Global,
+    name: &str,
+    desk: &mut Desk<MemStore>,
+    texts: &[&str],
+) -> Result<(), Fail> {
+    let dialogue = Dialogue::of(alloc, texts)?;
+    dialogue.assert_replies_of_lines(rt, name, desk)
 }
 
 /// The lines of a script, and the replies that are expected.
@@ -155,22 +212,22 @@ impl Dialogue {
     }
 
     fn add(&mut self, text: &str) -> Result<(), Fail> {
-        let mut day = String::from_str(self.alloc, "2026-03-01")?;
+        let mut day = FIRST_DAY;
         for line in text.lines() {
             if let Some(next) = line.strip_prefix("day ") {
-                day.clear();
-                day.push_str(next)?;
-            } else if let Some((request, reply)) = line.split_once(" => ") {
-                let request = exceptions::request_line(self.alloc, request)?;
-                let line = line_of(self.alloc, &day, &request)?;
-                self.script.push_str(&line)?;
-                self.script.push('\n')?;
-                self.expected.push_str(reply)?;
-                self.expected.push('\n')?;
+                day = next;
             } else if !line.is_empty() {
-                return Err("a line that is no row".into());
+                self.add_row(day, line)?;
             }
         }
+        Ok(())
+    }
+
+    fn add_row(&mut self, day: &str, row: &str) -> Result<(), Fail> {
+        let (request, reply) = split_row(row)?;
+        let line = row_line(self.alloc, day, request)?;
+        push_line(&mut self.script, &line)?;
+        push_line(&mut self.expected, reply)?;
         Ok(())
     }
 
@@ -182,7 +239,7 @@ impl Dialogue {
         desk: &mut Desk<MemStore>,
     ) -> Result<(), Fail> {
         let written = replies_to(self.alloc, desk, &self.script)?;
-        assert_eq!(rt; written.as_str(), self.expected.as_str(), "{name}");
+        assert_reply(rt, &written, &self.expected, name, "line by line");
         Ok(())
     }
 
@@ -192,6 +249,18 @@ impl Dialogue {
         self.assert_replies_of_run(rt, name, &mut desk_of(self.alloc, pool)?)
     }
 
+    /// The lines that are requests, and their replies.
+    fn requests(&self) -> Result<Requests, Fail> {
+        let mut requests = Requests {
+            asked: Vec::new(self.alloc),
+            expected: String::new(self.alloc),
+        };
+        for (line, reply) in self.script.lines().zip(self.expected.lines()) {
+            requests.add(self.alloc, line, reply)?;
+        }
+        Ok(requests)
+    }
+
     /// The lines that are requests, sent as one list, have the same replies.
     fn assert_replies_of_run(
         &self,
@@ -199,18 +268,28 @@ impl Dialogue {
         name: &str,
         desk: &mut Desk<MemStore>,
     ) -> Result<(), Fail> {
-        let mut asked = Vec::new(self.alloc);
-        let mut expected = String::new(self.alloc);
-        for (line, reply) in self.script.lines().zip(self.expected.lines()) {
-            if let Ok(one) = read_line_request(self.alloc, line.as_bytes()) {
-                asked.push(one)?;
-                expected.push_str(reply)?;
-                expected.push('\n')?;
-            }
-        }
-        let replies = desk.run(asked.as_slice())?;
+        let requests = self.requests()?;
+        let replies = desk.run(requests.asked.as_slice())?;
         let written = text_of(self.alloc, &replies)?;
-        assert_eq!(rt; written.as_str(), expected.as_str(), "{name} as one list");
+        assert_reply(rt, &written, &requests.expected, name, "as one list");
+        Ok(())
+    }
+}
+
+/// Requests that are sent as one list, and the replies that are expected.
+#[derive(Drop)]
+struct Requests {
+    asked: Vec<Asked>,
+    expected: String,
+}
+
+impl Requests {
+    /// A line that is no request is left out.
+    fn add(&mut self, alloc: Global, line: &str, reply: &str) -> Result<(), AllocError> {
+        if let Ok(one) = read_line_request(alloc, line.as_bytes()) {
+            self.asked.push(one)?;
+            push_line(&mut self.expected, reply)?;
+        }
         Ok(())
     }
 }
@@ -275,8 +354,7 @@ fn one_of_pair(alloc: Global, pair: &str, own: &str, other: &str) -> Result<Stri
     let mut script = String::new(alloc);
     for line in pair.lines() {
         if !line.starts_with(other) {
-            script.push_str(line.strip_prefix(own).unwrap_or(line))?;
-            script.push('\n')?;
+            push_line(&mut script, line.strip_prefix(own).unwrap_or(line))?;
         }
     }
     Ok(script)
@@ -309,13 +387,22 @@ fn scripts_have_their_replies(rt: HostRuntime) -> Result<(), Fail> {
     assert_all(&rt, rt.alloc(), exceptions::SCRIPTS)
 }
 
+fn assert_one_of_pair(
+    rt: &impl Abort,
+    alloc: Global,
+    pair: &str,
+    own: &str,
+    other: &str,
+) -> Result<(), Fail> {
+    let script = one_of_pair(alloc, pair, own, other)?;
+    assert_script(rt, alloc, &script)
+}
+
 #[test]
 fn other_holders_change_no_reply(rt: HostRuntime) -> Result<(), Fail> {
     for pair in other_holders::PAIRS.split("\n# ").skip(1) {
-        for (own, other) in [("first: ", "second: "), ("second: ", "first: ")] {
-            let script = one_of_pair(rt.alloc(), pair, own, other)?;
-            assert_script(&rt, rt.alloc(), &script)?;
-        }
+        assert_one_of_pair(&rt, rt.alloc(), pair, "first: ", "second: ")?;
+        assert_one_of_pair(&rt, rt.alloc(), pair, "second: ", "first: ")?;
     }
     Ok(())
 }

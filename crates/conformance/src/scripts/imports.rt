@@ -1,4 +1,5 @@
 //! Imports: what is made, what is present already, and what an import is denied for.
+use super::push_item;
 use std::alloc::Global;
 use std::test::Fail;
 
@@ -107,13 +108,11 @@ ann {"do":"create","holder":"alpha","asn":64497,"prefix":"192.0.2.0/25","max":25
 fn terms_of_many(alloc: Global, members: &str, count: u32) -> Result<String, Fail> {
     let mut objects = String::new(alloc);
     for asn in 1..=count {
-        if asn > 1 {
-            objects.push(',')?;
-        }
-        objects.push_str(&format!(in alloc;
+        let object = format!(in alloc;
             "{{{members}\"asn\":{asn},\"prefix\":\"192.0.2.0/24\",\"max\":24,\
              \"from\":\"2026-01-01\",\"until\":\"2026-12-31\"}}"
-        )?)?;
+        )?;
+        push_item(&mut objects, &object)?;
     }
     Ok(objects)
 }

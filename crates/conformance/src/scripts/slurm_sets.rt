@@ -3,6 +3,7 @@
 //! A row `slurms NAME FILTERS ; ASSERTIONS | NAME FILTERS ; ASSERTIONS ..` is the request of the
 //! operator `reg` with the files of these entries.
 use super::exceptions::slurm_file;
+use super::push_item;
 use std::alloc::Global;
 use std::test::Fail;
 
@@ -85,10 +86,8 @@ bob {"do":"payloads"} => {"payloads":[{"asn":64500,"prefix":"198.51.100.0/24","m
 pub(crate) fn set_line(alloc: Global, files: &str) -> Result<String, Fail> {
     let mut list = String::new(alloc);
     for named in files.split(" | ") {
-        if !list.is_empty() {
-            list.push(',')?;
-        }
-        list.push_str(&named_file(alloc, named)?)?;
+        let file = named_file(alloc, named)?;
+        push_item(&mut list, &file)?;
     }
     let request = format!(in alloc; "reg {{\"do\":\"slurm\",\"files\":[{list}]}}")?;
     Ok(request)
