@@ -1,8 +1,10 @@
 //! Charter files: what they spell, and the line of the fault of each that is refused.
-use crate::rows::table_rows;
+use crate::rows::{Row, table_rows};
 use addr::{Name, Prefix};
 use command_line::charter_from;
+use policy::Charter;
 use std::alloc::{AllocError, Global};
+use std::process::Abort;
 use std::test::Fail;
 
 /// Files with a semicolon for each line feed, and the lines of their faults.
@@ -73,6 +75,20 @@ fn line(alloc: Global, text: &str) -> Result<String, AllocError> {
     }
 }
 
+fn push_operators(alloc: Global, text: &mut String, count: u8) -> Result<(), AllocError> {
+    for number in 0..count {
+        text.push_str(&format!(in alloc; "operator,op-{number}\n")?)?;
+    }
+    Ok(())
+}
+
+fn push_prefixes(alloc: Global, text: &mut String, count: u8) -> Result<(), AllocError> {
+    for number in 0..count {
+        text.push_str(&format!(in alloc; "pool,198.51.{number}.0/24\n")?)?;
+    }
+    Ok(())
+}
+
 /// A file with so many operators and so many prefixes, and a row after them.
 fn charter_file(
     alloc: Global,
@@ -80,17 +96,27 @@ fn charter_file(
     prefixes: u8,
     last: &str,
 ) -> Result<String, AllocError> {
-    let mut text = format!(in alloc; "kind,value\n")?;
-    for number in 0..operators {
-        let row = format!(in alloc; "operator,op-{number}\n")?;
-        text.push_str(row.as_str())?;
-    }
-    for number in 0..prefixes {
-        let row = format!(in alloc; "pool,198.51.{number}.0/24\n")?;
-        text.push_str(row.as_str())?;
-    }
+    let mut text = String::from_str(alloc, "kind,value\n")?;
+    push_operators(alloc, &mut text, operators)?;
+    push_prefixes(alloc, &mut text, prefixes)?;
     text.push_str(last)?;
     Ok(text)
+}
+
+fn assert_operators(rt: &impl Abort, charter: &Charter) -> Result<(), Fail> {
+    assert_eq!(rt; charter.operators().len(), 2);
+    assert!(rt; charter.is_operator(&Name::read(b"reg").ok_or("a name")?));
+    assert!(rt; charter.is_operator(&Name::read(b"alpha").ok_or("a name")?));
+    Ok(())
+}
+
+fn assert_pool(rt: &impl Abort, charter: &Charter) -> Result<(), Fail> {
+    let pool = [
+        Prefix::read(b"192.0.2.0/24")?,
+        Prefix::read(b"2001:db8::/32")?,
+    ];
+    assert_eq!(rt; charter.pool(), pool.as_slice());
+    Ok(())
 }
 
 #[test]
@@ -100,40 +126,45 @@ fn charter_of_rows(rt: HostRuntime) -> Result<(), Fail> {
     let Ok(charter) = charter_from(rt.alloc(), text) else {
         return Err("refused".into());
     };
-    assert_eq!(rt; charter.operators().len(), 2);
-    assert!(rt; charter.is_operator(&Name::read(b"reg").ok_or("a name")?));
-    assert!(rt; charter.is_operator(&Name::read(b"alpha").ok_or("a name")?));
-    assert_eq!(rt;
-        charter.pool(),
-        [
-            Prefix::read(b"192.0.2.0/24")?,
-            Prefix::read(b"2001:db8::/32")?
-        ]
-        .as_slice()
-    );
+    assert_operators(&rt, &charter)?;
+    assert_pool(&rt, &charter)
+}
+
+fn assert_fault(rt: &impl Abort, alloc: Global, row: &Row<'_>) -> Result<(), AllocError> {
+    let text = row.input.replace(alloc, ';', "\n")?;
+    let fault = line(alloc, &text)?;
+    assert_eq!(rt; fault.as_str(), row.output, "{}: {:?}", row.name, row.input);
     Ok(())
 }
 
 #[test]
 fn faults(rt: HostRuntime) -> Result<(), Fail> {
     for row in &table_rows(rt.alloc(), FAULTS)? {
-        let text = row.input.replace(rt.alloc(), ';', "\n")?;
-        let fault = line(rt.alloc(), &text)?;
-        assert_eq!(rt; fault.as_str(), row.output, "{}: {:?}", row.name, row.input);
+        assert_fault(&rt, rt.alloc(), row)?;
     }
+    Ok(())
+}
+
+fn assert_count(
+    rt: &impl Abort,
+    alloc: Global,
+    count: &(u8, u8, &str, &str),
+) -> Result<(), AllocError> {
+    let (operators, prefixes, last, expected) = *count;
+    let text = charter_file(alloc, operators, prefixes, last)?;
+    let fault = line(alloc, &text)?;
+    assert_eq!(rt;
+        fault.as_str(),
+        expected,
+        "{operators} operators and {prefixes} prefixes"
+    );
     Ok(())
 }
 
 #[test]
 fn counts(rt: HostRuntime) -> Result<(), Fail> {
-    for (operators, prefixes, last, expected) in COUNTS {
-        let text = charter_file(rt.alloc(), operators, prefixes, last)?;
-        let fault = line(rt.alloc(), &text)?;
-        assert_eq!(rt;
-            fault.as_str(),
-            expected,
-            "{operators} operators and {prefixes} prefixes"
-        );
+    for count in &COUNTS {
+        assert_count(&rt, rt.alloc(), count)?;
     }
     Ok(())
 }

@@ -1,7 +1,7 @@
 //! Checks of routes on VRPs: the lines of two files, and the line of the fault where one is refused.
-use crate::rows::table_rows;
+use crate::rows::{Row, table_rows};
 use crate::sheet::Sheet;
-use command_line::check_on;
+use command_line::{ProgramFault, check_on};
 use std::alloc::{AllocError, Global};
 use std::process::Abort;
 use std::test::Fail;
@@ -114,100 +114,76 @@ const EXAMPLE_STATES: &str = "192.0.2.0/24,AS64496,Valid\n\
     2001:db8:ffff::/48,AS65537,Invalid\n\
     10.0.0.0/8,AS64496,NotFound\n";
 
-/// How a check ended: what it wrote, the line of its fault, which is empty where there is none, and
-/// its status.
+/// What a check wrote, and how it ended.
 #[derive(Drop)]
 struct Ended {
     written: Vec<u8>,
-    line: String,
-    status: u8,
+    result: Result<(), ProgramFault>,
 }
 
 /// The check writes to a drain that takes so many bytes.
-fn checked(
-    alloc: Global,
-    payloads: &[u8],
-    routes: &[u8],
-    room: usize,
-) -> Result<Ended, AllocError> {
+fn checked(alloc: Global, payloads: &[u8], routes: &[u8], room: usize) -> Ended {
     let mut sheet = Sheet {
         bytes: Vec::new(alloc),
         room,
         is_interrupted: false,
     };
-    let (line, status) = match check_on(alloc, payloads, routes, &mut Device::new(&mut sheet)) {
-        Ok(()) => (String::new(alloc), 0),
-        Err(fault) => (
-            format!(in alloc; "{}", fault.line().as_str())?,
-            fault.status(),
-        ),
-    };
-    Ok(Ended {
+    let result = check_on(alloc, payloads, routes, &mut Device::new(&mut sheet));
+    Ended {
         written: sheet.bytes,
-        line,
-        status,
-    })
+        result,
+    }
 }
 
-fn assert_prints(
-    rt: &impl Abort,
-    alloc: Global,
-    payloads: &str,
-    routes: &str,
-    lines: &str,
-) -> Result<(), Fail> {
-    let ended = checked(alloc, payloads.as_bytes(), routes.as_bytes(), 1000)?;
-    assert_eq!(rt; ended.line.as_str(), "", "{routes:?}");
-    assert_eq!(rt; ended.status, 0, "{routes:?}");
+fn assert_prints(rt: &impl Abort, alloc: Global, payloads: &str, routes: &str, lines: &str) {
+    let ended = checked(alloc, payloads.as_bytes(), routes.as_bytes(), 1000);
+    assert_eq!(rt; ended.result, Ok(()), "{routes:?}");
     assert_eq!(rt; ended.written.as_slice(), lines.as_bytes(), "{routes:?}");
-    Ok(())
 }
 
-fn assert_refuses(
-    rt: &impl Abort,
-    alloc: Global,
-    payloads: &[u8],
-    routes: &[u8],
-    line: &str,
-) -> Result<(), Fail> {
-    let ended = checked(alloc, payloads, routes, 1000)?;
-    assert_eq!(rt; ended.line.as_str(), line);
-    assert_eq!(rt; ended.status, 5, "{line}");
+fn assert_fault(rt: &impl Abort, ended: &Ended, line: &str, status: u8) {
+    let fault = ended.result.expect_err(rt, "a fault");
+    assert_eq!(rt; fault.line().as_str(), line);
+    assert_eq!(rt; fault.status(), status, "{line}");
+}
+
+fn assert_refuses(rt: &impl Abort, alloc: Global, payloads: &[u8], routes: &[u8], line: &str) {
+    let ended = checked(alloc, payloads, routes, 1000);
+    assert_fault(rt, &ended, line, 5);
     assert_eq!(rt; ended.written.len(), 0, "{line}");
-    Ok(())
 }
 
 #[test]
-fn check_as_zero_never_matches(rt: HostRuntime) -> Result<(), Fail> {
+fn check_as_zero_never_matches(rt: HostRuntime) {
     assert_prints(
         &rt,
         rt.alloc(),
         "asn,prefix,maxlength\nAS0,0.0.0.0/0,32\n",
         "prefix,origin\n255.255.255.255/32,AS0\n",
         "255.255.255.255/32,AS0,Invalid\n",
-    )
+    );
 }
 
 #[test]
-fn check_refuses_set_bit_and_shorter_vrp_matches(rt: HostRuntime) -> Result<(), Fail> {
+fn check_refuses_set_bit_and_shorter_vrp_matches(rt: HostRuntime) {
     assert_refuses(
         &rt,
         rt.alloc(),
         b"asn,prefix,maxlength\nAS64496,198.51.100.0/21,24\nAS64497,198.51.100.0/24,24\n",
         ROUTE.as_bytes(),
         "roadesk: payloads row 1: prefix 4",
-    )?;
+    );
     assert_prints(
         &rt,
         rt.alloc(),
         "asn,prefix,maxlength\nAS64496,198.51.100.0/22,24\nAS64497,198.51.100.0/24,24\n",
         ROUTE,
         "198.51.100.0/24,AS64496,Valid\n",
-    )
+    );
 }
 
 #[test]
-fn check_payload_order_and_repeats(rt: HostRuntime) -> Result<(), Fail> {
+fn check_payload_order_and_repeats(rt: HostRuntime) {
     assert_prints(
         &rt,
         rt.alloc(),
@@ -221,100 +197,121 @@ fn check_payload_order_and_repeats(rt: HostRuntime) -> Result<(), Fail> {
             198.51.100.0/25,AS64496,Invalid\n\
             198.51.100.0/24,NONE,Invalid\n\
             198.51.104.0/24,AS64496,NotFound\n",
-    )
+    );
+}
+
+/// A payload file of the ASes from 1 to this one.
+fn payloads_to(alloc: Global, last: u32) -> Result<String, AllocError> {
+    let mut payloads = String::from_str(alloc, "asn,prefix,maxlength\n")?;
+    for asn in 1..=last {
+        payloads.push_str(&format!(in alloc; "AS{asn},192.0.2.0/24,24\n")?)?;
+    }
+    Ok(payloads)
 }
 
 /// More VRPs than a round limit, of which a route is judged on the last.
 #[test]
 fn check_takes_100_001_payloads(rt: HostRuntime) -> Result<(), Fail> {
-    let alloc = rt.alloc();
-    let mut payloads = String::from_str(alloc, "asn,prefix,maxlength\n")?;
-    for asn in 1u32..=100_001 {
-        payloads.push_str(&format!(in alloc; "AS{asn},192.0.2.0/24,24\n")?)?;
-    }
     assert_prints(
         &rt,
-        alloc,
-        &payloads,
+        rt.alloc(),
+        &payloads_to(rt.alloc(), 100_001)?,
         "prefix,origin\n192.0.2.0/24,AS100001\n192.0.2.0/24,AS100002\n",
         "192.0.2.0/24,AS100001,Valid\n192.0.2.0/24,AS100002,Invalid\n",
-    )
+    );
+    Ok(())
 }
 
 #[test]
-fn check_refuses_route_origin(rt: HostRuntime) -> Result<(), Fail> {
+fn check_refuses_route_origin(rt: HostRuntime) {
     assert_refuses(
         &rt,
         rt.alloc(),
         VRPS.as_bytes(),
         b"prefix,origin\n198.51.100.0/24,AS64496\n198.51.100.0/25,64496\n",
         "roadesk: routes row 2: origin",
-    )
+    );
 }
 
 #[test]
-fn check_takes_headers_alone_and_each_form_of_csv(rt: HostRuntime) -> Result<(), Fail> {
+fn check_takes_headers_alone_and_each_form_of_csv(rt: HostRuntime) {
     for (payloads, routes, lines) in FORMS {
-        assert_prints(&rt, rt.alloc(), payloads, routes, lines)?;
+        assert_prints(&rt, rt.alloc(), payloads, routes, lines);
+    }
+}
+
+fn assert_refuses_payloads(
+    rt: &impl Abort,
+    alloc: Global,
+    row: &Row<'_>,
+) -> Result<(), AllocError> {
+    let payloads = row.input.replace(alloc, ';', "\n")?;
+    assert_refuses(rt, alloc, payloads.as_bytes(), ROUTE.as_bytes(), row.output);
+    Ok(())
+}
+
+#[test]
+fn check_refuses_bad_payloads(rt: HostRuntime) -> Result<(), Fail> {
+    for row in &table_rows(rt.alloc(), BAD_PAYLOADS)? {
+        assert_refuses_payloads(&rt, rt.alloc(), row)?;
+    }
+    Ok(())
+}
+
+fn assert_refuses_routes(rt: &impl Abort, alloc: Global, row: &Row<'_>) -> Result<(), AllocError> {
+    let routes = row.input.replace(alloc, ';', "\n")?;
+    assert_refuses(rt, alloc, VRPS.as_bytes(), routes.as_bytes(), row.output);
+    Ok(())
+}
+
+#[test]
+fn check_refuses_bad_routes(rt: HostRuntime) -> Result<(), Fail> {
+    for row in &table_rows(rt.alloc(), BAD_ROUTES)? {
+        assert_refuses_routes(&rt, rt.alloc(), row)?;
     }
     Ok(())
 }
 
 #[test]
-fn check_refuses_bad_files(rt: HostRuntime) -> Result<(), Fail> {
-    let alloc = rt.alloc();
-    for row in &table_rows(alloc, BAD_PAYLOADS)? {
-        let payloads = row.input.replace(alloc, ';', "\n")?;
-        assert_refuses(
-            &rt,
-            alloc,
-            payloads.as_bytes(),
-            ROUTE.as_bytes(),
-            row.output,
-        )?;
-    }
-    for row in &table_rows(alloc, BAD_ROUTES)? {
-        let routes = row.input.replace(alloc, ';', "\n")?;
-        assert_refuses(&rt, alloc, VRPS.as_bytes(), routes.as_bytes(), row.output)?;
-    }
+fn check_refuses_what_is_no_text(rt: HostRuntime) {
     let no_text = b"asn,prefix,maxlength\nAS64496,198.51.100.\xff/22,24\n";
     let prefix_fault = "roadesk: payloads row 1: prefix 1";
-    assert_refuses(&rt, alloc, no_text, ROUTE.as_bytes(), prefix_fault)?;
-    // The payload file is judged before the route file.
+    assert_refuses(&rt, rt.alloc(), no_text, ROUTE.as_bytes(), prefix_fault);
+}
+
+#[test]
+fn check_judges_payloads_before_routes(rt: HostRuntime) {
     let no_length = b"asn,prefix,maxlength\nAS64496,192.0.2.0/24,\n";
-    assert_refuses(
-        &rt,
-        alloc,
-        no_length,
-        b"",
-        "roadesk: payloads row 1: length",
-    )
+    let length_fault = "roadesk: payloads row 1: length";
+    assert_refuses(&rt, rt.alloc(), no_length, b"", length_fault);
+}
+
+const TWO_ROUTES: &str = "prefix,origin\n198.51.100.0/24,AS64496\n198.51.104.0/24,AS64496\n";
+
+const TWO_STATES: &str = "198.51.100.0/24,AS64496,Valid\n198.51.104.0/24,AS64496,NotFound\n";
+
+#[test]
+fn ample_drain(rt: HostRuntime) {
+    assert_prints(&rt, rt.alloc(), VRPS, TWO_ROUTES, TWO_STATES);
+}
+
+/// Of a drain that has room for these bytes alone.
+fn assert_drain_fails(rt: &impl Abort, alloc: Global, bytes: &[u8]) {
+    let room = bytes.len();
+    let ended = checked(alloc, VRPS.as_bytes(), TWO_ROUTES.as_bytes(), room);
+    assert_fault(rt, &ended, "roadesk: stream", 3);
+    assert_eq!(rt; ended.written.as_slice(), bytes, "after {room} bytes");
 }
 
 #[test]
-fn failing_drain(rt: HostRuntime) -> Result<(), Fail> {
-    let routes = "prefix,origin\n198.51.100.0/24,AS64496\n198.51.104.0/24,AS64496\n";
-    let states = "198.51.100.0/24,AS64496,Valid\n198.51.104.0/24,AS64496,NotFound\n";
-    assert_prints(&rt, rt.alloc(), VRPS, routes, states)?;
-    for room in 0..states.len() {
-        let ended = checked(rt.alloc(), VRPS.as_bytes(), routes.as_bytes(), room)?;
-        assert_eq!(rt;
-            ended.line.as_str(),
-            "roadesk: stream",
-            "after {room} bytes"
-        );
-        assert_eq!(rt; ended.status, 3, "after {room} bytes");
-        assert_eq!(rt;
-            ended.written.as_slice(),
-            &states.as_bytes()[..room],
-            "after {room} bytes"
-        );
+fn failing_drain(rt: HostRuntime) {
+    for room in 0..TWO_STATES.len() {
+        assert_drain_fails(&rt, rt.alloc(), &TWO_STATES.as_bytes()[..room]);
     }
-    Ok(())
 }
 
 #[test]
-fn example_files_are_judged_as_the_guide_prints(rt: HostRuntime) -> Result<(), Fail> {
+fn example_files_are_judged_as_the_guide_prints(rt: HostRuntime) {
     let (payloads, routes) = (EXAMPLE_PAYLOADS, EXAMPLE_ROUTES);
-    assert_prints(&rt, rt.alloc(), payloads, routes, EXAMPLE_STATES)
+    assert_prints(&rt, rt.alloc(), payloads, routes, EXAMPLE_STATES);
 }

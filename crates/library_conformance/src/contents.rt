@@ -1,5 +1,5 @@
 //! ROA contents as hex text, both ways, and octets that are none.
-use crate::rows::table_rows;
+use crate::rows::{Row, table_rows};
 use addr::{Asn, Family, Prefix};
 use roa::{Content, ContentFault, DecodeFault, Entry, decode, encode};
 use std::alloc::Global;
@@ -92,21 +92,37 @@ pub(crate) fn host_prefixes(alloc: Global, count: u8) -> Result<Vec<Entry>, Fail
     Ok(entries)
 }
 
+fn assert_decodes(
+    rt: &impl Abort,
+    alloc: Global,
+    octets: &[u8],
+    content: &Content,
+    name: &str,
+) -> Result<(), DecodeFault> {
+    let decoded = decode(alloc, octets)?;
+    assert_eq!(rt; decoded.asn(), content.asn(), "{name}");
+    assert_eq!(rt; decoded.entries(), content.entries(), "{name}");
+    Ok(())
+}
+
 /// The content in hex, which is decoded to the same content.
 fn encoded(rt: &impl Abort, alloc: Global, content: &Content, name: &str) -> Result<String, Fail> {
     let octets = encode(alloc, content)?;
-    let decoded = decode(alloc, octets.as_slice())?;
-    assert_eq!(rt; decoded.asn(), content.asn(), "{name}");
-    assert_eq!(rt; decoded.entries(), content.entries(), "{name}");
+    assert_decodes(rt, alloc, &octets, content, name)?;
     Ok(hex::encode(alloc, octets.as_slice())?)
+}
+
+fn assert_vector(rt: &impl Abort, alloc: Global, row: &Row<'_>) -> Result<(), Fail> {
+    let content = parse_content(alloc, row.input)?;
+    let hex = encoded(rt, alloc, &content, row.name)?;
+    assert_eq!(rt; hex.as_str(), row.output, "{}", row.name);
+    Ok(())
 }
 
 #[test]
 fn vectors_are_encoded_and_decoded(rt: HostRuntime) -> Result<(), Fail> {
     for row in &table_rows(rt.alloc(), VECTORS)? {
-        let content = parse_content(rt.alloc(), row.input)?;
-        let hex = encoded(&rt, rt.alloc(), &content, row.name)?;
-        assert_eq!(rt; hex.as_str(), row.output, "{}", row.name);
+        assert_vector(&rt, rt.alloc(), row)?;
     }
     Ok(())
 }
@@ -147,11 +163,16 @@ fn content_of_sixty_five_prefixes_is_refused(rt: HostRuntime) -> Result<(), Fail
     Ok(())
 }
 
+fn assert_refused(rt: &impl Abort, alloc: Global, row: &Row<'_>) -> Result<(), Fail> {
+    let octets = parse_octets(alloc, row.output)?;
+    assert!(rt; is_refused(alloc, octets.as_slice()), "{}", row.input);
+    Ok(())
+}
+
 #[test]
 fn decode_refuses_other_spellings(rt: HostRuntime) -> Result<(), Fail> {
     for row in &table_rows(rt.alloc(), REFUSED)? {
-        let octets = parse_octets(rt.alloc(), row.output)?;
-        assert!(rt; is_refused(rt.alloc(), octets.as_slice()), "{}", row.input);
+        assert_refused(&rt, rt.alloc(), row)?;
     }
     Ok(())
 }

@@ -133,12 +133,13 @@ fn parse_auth(alloc: Global, number: u32, text: &str) -> Result<Auth, Fail> {
     let (prefix, rest) = rest.split_once(' ').ok_or("no maxLength")?;
     let (max, days) = rest.split_once(' ').ok_or("no first day")?;
     let (from, until) = days.split_once(' ').ok_or("no last day")?;
+    let (from, until) = (parse_day(from)?, parse_day(until)?);
     Ok(Auth {
         number,
         asn: parse_asn(asn)?,
         entries: RoaPrefixes::one(alloc, Prefix::read(prefix.as_bytes())?, max.parse()?)?,
-        from: parse_day(from)?,
-        until: parse_day(until)?,
+        from,
+        until,
     })
 }
 
@@ -151,14 +152,20 @@ fn kept_day(alloc: Global) -> Result<Kept, Fail> {
     Ok(Kept::of(alloc, parse_day(DAY)?, given, filters, asserted)?)
 }
 
+fn follow_event(alloc: Global, kept: &mut Kept, event: &str) -> Result<(), Fail> {
+    let (what, auth) = event.split_once(' ').ok_or("no authorization")?;
+    let auth = parse_auth(alloc, 1, auth)?;
+    match what {
+        "begin" => kept.begin(&auth)?,
+        "end" => kept.end(&auth),
+        _ => return Err("no event".into()),
+    }
+    Ok(())
+}
+
 fn follow(alloc: Global, kept: &mut Kept, events: &str) -> Result<(), Fail> {
     for event in events.split(';') {
-        let (what, auth) = event.split_once(' ').ok_or("no authorization")?;
-        match what {
-            "begin" => kept.begin(&parse_auth(alloc, 1, auth)?)?,
-            "end" => kept.end(&parse_auth(alloc, 1, auth)?),
-            _ => return Err("no event".into()),
-        }
+        follow_event(alloc, kept, event)?;
     }
     Ok(())
 }
@@ -197,31 +204,37 @@ fn parse_edit(alloc: Global, words: &str) -> Result<Edit, Fail> {
         }
         "withdraw" => Ok(Edit::Withdraw(rest.parse()?)),
         "hold" => Ok(Edit::Hold {
+            ended: numbers_of(alloc, rest)?,
             removed: Vec::new(alloc),
             added: Vec::new(alloc),
-            ended: numbers_of(alloc, rest)?,
         }),
         "revoke" => Ok(Edit::Revoke(rest.parse()?)),
         _ => Err("no edit".into()),
     }
 }
 
+/// Puts in or takes out the VRP that these words say.
+fn change_vrp(vrps: &mut ListIndex, change: &str) -> Result<(), Fail> {
+    let (how, vrp) = change.split_once(' ').ok_or("no VRP")?;
+    let vrp = parse_vrp(vrp)?;
+    let has_changed = match how {
+        "with" => vrps.insert(vrp)?,
+        "without" => vrps.remove(&vrp),
+        _ => false,
+    };
+    if has_changed {
+        Ok(())
+    } else {
+        Err("no change".into())
+    }
+}
+
 /// The VRPs that differ as these words say from those before.
 fn changed(alloc: Global, words: &str) -> Result<ListIndex, Fail> {
     let mut vrps = ListIndex::from(vrps_of(alloc, BEFORE)?);
-    if words == "as_before" {
-        return Ok(vrps);
-    }
-    for change in words.split(';') {
-        let (how, vrp) = change.split_once(' ').ok_or("no VRP")?;
-        let vrp = parse_vrp(vrp)?;
-        let has_changed = match how {
-            "with" => vrps.insert(vrp)?,
-            "without" => vrps.remove(&vrp),
-            _ => false,
-        };
-        if !has_changed {
-            return Err("no change".into());
+    if words != "as_before" {
+        for change in words.split(';') {
+            change_vrp(&mut vrps, change)?;
         }
     }
     Ok(vrps)

@@ -78,17 +78,29 @@ fn add_or_take(holdings: &mut Holdings, step: Step, prefix: &Prefix) -> Result<(
     }
 }
 
+/// The step leaves the runs that it names; where it is refused at first, those before it stay.
+fn assert_step(
+    rt: &impl Abort,
+    holdings: &mut Holdings,
+    before: &str,
+    step: &(Step, &str, &str),
+) -> Result<(), Fail> {
+    let (step, text, after) = *step;
+    let prefix = Prefix::read(text.as_bytes())?;
+    if add_or_take(holdings, step, &prefix).is_err() {
+        assert!(rt; has_runs(holdings, before)?, "{text} was refused");
+        add_or_take(holdings, step, &prefix)?;
+    }
+    assert!(rt; has_runs(holdings, after)?, "{text}");
+    Ok(())
+}
+
 fn assert_holdings(rt: &impl Abort, alloc: Global) -> Result<(), Fail> {
     let mut holdings = Holdings::new(alloc);
     let mut before = "";
-    for (step, text, after) in STEPS {
-        let prefix = Prefix::read(text.as_bytes())?;
-        if add_or_take(&mut holdings, step, &prefix).is_err() {
-            assert!(rt; has_runs(&holdings, before)?, "{text} was refused");
-            add_or_take(&mut holdings, step, &prefix)?;
-        }
-        assert!(rt; has_runs(&holdings, after)?, "{text}");
-        before = after;
+    for step in &STEPS {
+        assert_step(rt, &mut holdings, before, step)?;
+        before = step.2;
     }
     Ok(())
 }
@@ -126,6 +138,23 @@ fn assert_first<I: PayloadIndex>(
     Ok(())
 }
 
+/// Inserts a VRP into the set of so many before it, which stays where it is refused at first.
+fn insert_next<I: PayloadIndex>(
+    rt: &impl Abort,
+    alloc: Global,
+    index: &mut I,
+    count: usize,
+    vrp: Vrp,
+) -> Result<bool, Fail> {
+    match index.insert(vrp) {
+        Ok(is_new) => Ok(is_new),
+        Err(_) => {
+            assert_first(rt, alloc, index, count)?;
+            Ok(index.insert(vrp)?)
+        }
+    }
+}
+
 fn assert_inserts<I: PayloadIndex>(
     rt: &impl Abort,
     alloc: Global,
@@ -133,14 +162,7 @@ fn assert_inserts<I: PayloadIndex>(
 ) -> Result<(), Fail> {
     let mut count: usize = 0;
     for text in INSERTED {
-        let vrp = parse_vrp(text)?;
-        let is_new = match index.insert(vrp) {
-            Ok(is_new) => is_new,
-            Err(_) => {
-                assert_first(rt, alloc, index, count)?;
-                index.insert(vrp)?
-            }
-        };
+        let is_new = insert_next(rt, alloc, index, count, parse_vrp(text)?)?;
         assert!(rt; is_new, "{text}");
         count = count.saturating_add(1);
         assert_first(rt, alloc, index, count)?;
@@ -166,28 +188,53 @@ fn entries_of(alloc: Global) -> Result<Vec<Entry>, Fail> {
     Ok(try_entries(alloc).ok_or("no entries")?)
 }
 
+fn assert_is(rt: &impl Abort, content: &Content, entries: &[Entry]) {
+    assert_eq!(rt; content.asn(), Asn(64496));
+    assert_eq!(rt; content.entries(), entries);
+}
+
+/// The octets of the content, which stays as it was where they are refused at first.
+fn octets_of(
+    rt: &impl Abort,
+    alloc: Global,
+    content: &Content,
+    entries: &[Entry],
+) -> Result<Vec<u8>, AllocError> {
+    match encode(alloc, content) {
+        Ok(octets) => Ok(octets),
+        Err(_) => {
+            assert_is(rt, content, entries);
+            encode(alloc, content)
+        }
+    }
+}
+
+fn decoded(rt: &impl Abort, alloc: Global, octets: &[u8]) -> Result<Content, DecodeFault> {
+    match decode(alloc, octets) {
+        Ok(content) => Ok(content),
+        Err(fault) => {
+            assert_eq!(rt; fault, DecodeFault::Memory);
+            decode(alloc, octets)
+        }
+    }
+}
+
+fn assert_encodes(
+    rt: &impl Abort,
+    alloc: Global,
+    content: &Content,
+    entries: &[Entry],
+) -> Result<(), Fail> {
+    let octets = octets_of(rt, alloc, content, entries)?;
+    assert_eq!(rt; octets.len(), 601);
+    assert_is(rt, &decoded(rt, alloc, &octets)?, entries);
+    Ok(())
+}
+
 fn assert_content(rt: &impl Abort, alloc: Global) -> Result<(), Fail> {
     let entries = entries_of(alloc)?;
     let content = Content::make(Asn(64496), entries_of(alloc)?)?;
-    let octets = match encode(alloc, &content) {
-        Ok(octets) => octets,
-        Err(_) => {
-            assert_eq!(rt; content.asn(), Asn(64496));
-            assert_eq!(rt; content.entries(), entries.as_slice());
-            encode(alloc, &content)?
-        }
-    };
-    let decoded = match decode(alloc, octets.as_slice()) {
-        Ok(decoded) => decoded,
-        Err(fault) => {
-            assert_eq!(rt; fault, DecodeFault::Memory);
-            decode(alloc, octets.as_slice())?
-        }
-    };
-    assert_eq!(rt; octets.len(), 601);
-    assert_eq!(rt; decoded.asn(), Asn(64496));
-    assert_eq!(rt; decoded.entries(), entries.as_slice());
-    Ok(())
+    assert_encodes(rt, alloc, &content, &entries)
 }
 
 fn assert_slurm(rt: &impl Abort, alloc: Global) -> Result<(), Fail> {

@@ -1,8 +1,9 @@
 //! Entries of an authorization, in any order: how they are kept, and lists that are none.
-use crate::rows::table_rows;
+use crate::rows::{Row, table_rows};
 use addr::{Family, Prefix};
 use registry::{RoaPrefix, RoaPrefixes, RoaPrefixesFault};
-use std::alloc::Global;
+use std::alloc::{AllocError, Global};
+use std::process::Abort;
 use std::test::Fail;
 
 /// Entries by prefix and maxLength as they are given, and as they are kept, or why they are not.
@@ -52,20 +53,74 @@ fn host_entry(place: u8) -> Result<RoaPrefix, Fail> {
     Ok(RoaPrefix { prefix, max: 32 })
 }
 
+fn assert_kept(
+    rt: &impl Abort,
+    alloc: Global,
+    made: &RoaPrefixes,
+    row: &Row<'_>,
+) -> Result<(), Fail> {
+    let expected = parse_entries(alloc, row.output)?;
+    assert_eq!(rt; made.as_slice(), expected.as_slice(), "{}", row.name);
+    Ok(())
+}
+
+fn assert_refused(
+    rt: &impl Abort,
+    alloc: Global,
+    fault: RoaPrefixesFault,
+    row: &Row<'_>,
+) -> Result<(), AllocError> {
+    let text = fault.to_string(alloc)?;
+    assert_eq!(rt; text.as_str(), row.output, "{}", row.name);
+    Ok(())
+}
+
+fn assert_list(rt: &impl Abort, alloc: Global, row: &Row<'_>) -> Result<(), Fail> {
+    match RoaPrefixes::make(parse_entries(alloc, row.input)?) {
+        Ok(made) => assert_kept(rt, alloc, &made, row),
+        Err(fault) => Ok(assert_refused(rt, alloc, fault, row)?),
+    }
+}
+
 #[test]
 fn entries_are_kept_rising(rt: HostRuntime) -> Result<(), Fail> {
-    let alloc = rt.alloc();
-    for row in &table_rows(alloc, LISTS)? {
-        match RoaPrefixes::make(parse_entries(alloc, row.input)?) {
-            Ok(made) => {
-                let expected = parse_entries(alloc, row.output)?;
-                assert_eq!(rt; made.as_slice(), expected.as_slice(), "{}", row.name);
-            }
-            Err(fault) => {
-                let text = format!(in alloc; "{fault}")?;
-                assert_eq!(rt; text.as_str(), row.output, "{}", row.name);
-            }
+    for row in &table_rows(rt.alloc(), LISTS)? {
+        assert_list(&rt, rt.alloc(), row)?;
+    }
+    Ok(())
+}
+
+/// So many host prefixes, rising.
+fn host_entries(alloc: Global, count: u8) -> Result<Vec<RoaPrefix>, Fail> {
+    let mut entries = Vec::new(alloc);
+    for place in 0..count {
+        entries.push(host_entry(place)?)?;
+    }
+    Ok(entries)
+}
+
+fn made_of_falling(
+    alloc: Global,
+    rising: &[RoaPrefix],
+) -> Result<Result<RoaPrefixes, RoaPrefixesFault>, AllocError> {
+    let mut falling = Vec::from_slice(alloc, rising)?;
+    falling.reverse();
+    Ok(RoaPrefixes::make(falling))
+}
+
+fn assert_count(
+    rt: &impl Abort,
+    alloc: Global,
+    count: &(&str, u8, Option<RoaPrefixesFault>),
+) -> Result<(), Fail> {
+    let (name, count, fault) = *count;
+    let rising = host_entries(alloc, count)?;
+    match made_of_falling(alloc, &rising)? {
+        Ok(made) => {
+            assert!(rt; fault.is_none(), "{name}");
+            assert_eq!(rt; made.as_slice(), rising.as_slice(), "{name}");
         }
+        Err(found) => assert_eq!(rt; Some(found), fault, "{name}"),
     }
     Ok(())
 }
@@ -73,21 +128,8 @@ fn entries_are_kept_rising(rt: HostRuntime) -> Result<(), Fail> {
 /// The host prefixes fall, and are kept rising.
 #[test]
 fn one_to_sixty_four_entries(rt: HostRuntime) -> Result<(), Fail> {
-    let alloc = rt.alloc();
-    for (name, count, fault) in COUNTS {
-        let mut falling = Vec::new(alloc);
-        let mut rising = Vec::new(alloc);
-        for place in 0..count {
-            rising.push(host_entry(place)?)?;
-            falling.push(host_entry(count - 1 - place)?)?;
-        }
-        match RoaPrefixes::make(falling) {
-            Ok(made) => {
-                assert!(rt; fault.is_none(), "{name}");
-                assert_eq!(rt; made.as_slice(), rising.as_slice(), "{name}");
-            }
-            Err(found) => assert_eq!(rt; Some(found), fault, "{name}"),
-        }
+    for count in &COUNTS {
+        assert_count(&rt, rt.alloc(), count)?;
     }
     Ok(())
 }

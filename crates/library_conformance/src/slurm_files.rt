@@ -1,11 +1,12 @@
 //! SLURM files: the lowest fault of each text, and what a file filters and asserts.
-use crate::rows::{nested, table_rows};
+use crate::rows::{Row, nested, table_rows};
 use crate::slurm_sample::SAMPLE;
 use crate::vrps::parse_vrp;
-use addr::{Asn, Prefix};
+use addr::{Asn, Prefix, digits};
 use serde_json::Value;
 use slurm::{Filter, Slurm, SlurmFault};
 use std::alloc::{AllocError, Global};
+use std::process::Abort;
 use std::test::Fail;
 
 /// The parts of a file, of which the last ones may be missing, and the number of its fault, 0 where
@@ -158,67 +159,99 @@ fn file_from_parts(alloc: Global, parts: &str) -> Result<String, AllocError> {
     file(alloc, version, filters, assertions, more)
 }
 
+fn assert_fault(rt: &impl Abort, alloc: Global, text: &str, row: &Row<'_>) {
+    let number = digits(u64::from(fault(alloc, text)));
+    assert_eq!(rt; number.as_str(), row.output, "{}: {}", row.name, row.input);
+}
+
+fn assert_fault_of_parts(rt: &impl Abort, alloc: Global, row: &Row<'_>) -> Result<(), AllocError> {
+    let text = file_from_parts(alloc, row.input)?;
+    assert_fault(rt, alloc, &text, row);
+    Ok(())
+}
+
 #[test]
-fn lowest_slurm_fault_is_reported(rt: HostRuntime) -> Result<(), Fail> {
-    let alloc = rt.alloc();
-    for row in &table_rows(alloc, PARTS)? {
-        let text = file_from_parts(alloc, row.input)?;
-        let found = fault(alloc, &text).to_string(alloc)?;
-        assert_eq!(rt; found.as_str(), row.output, "{}: {}", row.name, row.input);
+fn lowest_fault_of_parts_is_reported(rt: HostRuntime) -> Result<(), Fail> {
+    for row in &table_rows(rt.alloc(), PARTS)? {
+        assert_fault_of_parts(&rt, rt.alloc(), row)?;
     }
-    for row in &table_rows(alloc, TEXTS)? {
-        let found = fault(alloc, row.input).to_string(alloc)?;
-        assert_eq!(rt; found.as_str(), row.output, "{}: {}", row.name, row.input);
+    Ok(())
+}
+
+#[test]
+fn lowest_fault_of_texts_is_reported(rt: HostRuntime) -> Result<(), Fail> {
+    for row in &table_rows(rt.alloc(), TEXTS)? {
+        assert_fault(&rt, rt.alloc(), row.input, row);
     }
-    let marked = format!(in alloc; "\u{feff}{SAMPLE}")?;
-    assert_eq!(rt; fault(alloc, &marked), 1, "a byte order mark");
-    assert!(rt; matches!(Slurm::read(alloc, b"\"\xff\""), Err(SlurmFault::NotJson)));
+    Ok(())
+}
+
+#[test]
+fn text_that_is_marked_or_not_utf_8_is_not_json(rt: HostRuntime) -> Result<(), Fail> {
+    let marked = format!(in rt.alloc(); "\u{feff}{SAMPLE}")?;
+    assert_eq!(rt; fault(rt.alloc(), &marked), 1, "a byte order mark");
+    assert!(rt;
+        matches!(
+            Slurm::read(rt.alloc(), b"\"\xff\""),
+            Err(SlurmFault::NotJson)
+        )
+    );
+    Ok(())
+}
+
+/// Whether each VRP that the file asserts is filtered by it, with a space before each answer.
+fn filterings(alloc: Global, slurm: &Slurm) -> Result<String, AllocError> {
+    let mut answers = String::new(alloc);
+    for vrp in slurm.assertions() {
+        answers.push_str(if slurm.filtered(vrp) { " yes" } else { " no" })?;
+    }
+    Ok(answers)
+}
+
+fn assert_filterings(rt: &impl Abort, alloc: Global, row: &Row<'_>) -> Result<(), Fail> {
+    let text = file_from_parts(alloc, row.input)?;
+    let answers = filterings(alloc, &Slurm::read(alloc, text.as_bytes())?)?;
+    assert_eq!(rt; answers.trim(), row.output, "{}: {}", row.name, row.input);
     Ok(())
 }
 
 #[test]
 fn filters_match_vrps(rt: HostRuntime) -> Result<(), Fail> {
-    let alloc = rt.alloc();
-    for row in &table_rows(alloc, FILTERINGS)? {
-        let text = file_from_parts(alloc, row.input)?;
-        let slurm = Slurm::read(alloc, text.as_bytes())?;
-        let mut answers = String::new(alloc);
-        for vrp in slurm.assertions() {
-            answers.push_str(if slurm.filtered(vrp) { " yes" } else { " no" })?;
-        }
-        assert_eq!(rt;
-            answers.as_str().trim(),
-            row.output,
-            "{}: {}",
-            row.name,
-            row.input
-        );
+    for row in &table_rows(rt.alloc(), FILTERINGS)? {
+        assert_filterings(&rt, rt.alloc(), row)?;
     }
     Ok(())
 }
 
-/// Reads the example as a text and as a value.
-#[test]
-fn sample_has_its_filters_and_assertions(rt: HostRuntime) -> Result<(), Fail> {
-    let alloc = rt.alloc();
+fn assert_sample_filters(rt: &impl Abort, slurm: &Slurm) -> Result<(), Fail> {
     let filters = [
         Filter::Under(Prefix::read(b"192.0.2.0/24")?),
         Filter::By(Asn(64496)),
         Filter::Both(Prefix::read(b"198.51.100.0/24")?, Asn(64497)),
     ];
+    assert_eq!(rt; slurm.filters(), filters.as_slice());
+    Ok(())
+}
+
+fn assert_sample(rt: &impl Abort, slurm: &Slurm) -> Result<(), Fail> {
+    assert_sample_filters(rt, slurm)?;
     let assertions = [
         parse_vrp("AS64496 198.51.100.0/24 24")?,
         parse_vrp("AS64496 2001:db8::/32 48")?,
     ];
-    let value = Value::from_str(alloc, SAMPLE)?;
-    for slurm in [
-        Slurm::read(alloc, SAMPLE.as_bytes())?,
-        Slurm::of(alloc, &value)?,
-    ] {
-        assert_eq!(rt; slurm.filters(), filters.as_slice());
-        assert_eq!(rt; slurm.assertions(), assertions.as_slice());
-    }
+    assert_eq!(rt; slurm.assertions(), assertions.as_slice());
     Ok(())
+}
+
+#[test]
+fn sample_has_its_filters_and_assertions(rt: HostRuntime) -> Result<(), Fail> {
+    assert_sample(&rt, &Slurm::read(rt.alloc(), SAMPLE.as_bytes())?)
+}
+
+#[test]
+fn sample_as_a_value_has_its_filters_and_assertions(rt: HostRuntime) -> Result<(), Fail> {
+    let value = Value::from_str(rt.alloc(), SAMPLE)?;
+    assert_sample(&rt, &Slurm::of(rt.alloc(), &value)?)
 }
 
 // 127 levels are JSON, which is then no file, and 128 are none.
@@ -250,29 +283,43 @@ fn entries_read(alloc: Global, text: &str) -> Result<usize, Fail> {
     }
 }
 
+/// How many filters are before this last one, the fault of the file, and its entries as a value.
+const LIMITS: [(u32, &str, u8, usize); 3] = [
+    (4094, "{\"asn\":1}", 0, 4096),
+    (4095, "{\"asn\":1}", 11, 0),
+    (4096, "{\"asn\":1,\"comment\":0}", 10, 0),
+];
+
+fn assert_limit(
+    rt: &impl Abort,
+    alloc: Global,
+    limit: &(u32, &str, u8, usize),
+) -> Result<(), Fail> {
+    let (before, last, number, entries) = *limit;
+    let text = file_of_filters(alloc, before, last)?;
+    assert_eq!(rt; fault(alloc, &text), number, "{before} and {last}");
+    assert_eq!(rt; entries_read(alloc, &text)?, entries, "{before} and {last}");
+    Ok(())
+}
+
 /// A fault in the last of too many entries is the lower one.
 #[test]
 fn limit_of_entries(rt: HostRuntime) -> Result<(), Fail> {
-    let alloc = rt.alloc();
-    for (before, last, number, entries) in [
-        (4094, "{\"asn\":1}", 0, 4096),
-        (4095, "{\"asn\":1}", 11, 0),
-        (4096, "{\"asn\":1,\"comment\":0}", 10, 0),
-    ] {
-        let text = file_of_filters(alloc, before, last)?;
-        assert_eq!(rt; fault(alloc, &text), number, "{before} and {last}");
-        assert_eq!(rt; entries_read(alloc, &text)?, entries, "{before} and {last}");
+    for limit in &LIMITS {
+        assert_limit(&rt, rt.alloc(), limit)?;
     }
     Ok(())
 }
 
+fn fault_of_made(alloc: Global, count: usize) -> Result<Option<SlurmFault>, AllocError> {
+    let filters = vec![in alloc; Filter::By(Asn(1)); count]?;
+    Ok(Slurm::make(filters, Vec::new(alloc)).err())
+}
+
 #[test]
 fn limit_of_made_files(rt: HostRuntime) -> Result<(), Fail> {
-    let alloc = rt.alloc();
     for (count, fault) in [(4096, None), (4097, Some(SlurmFault::TooMany))] {
-        let filters = vec![in alloc; Filter::By(Asn(1)); count]?;
-        let made = Slurm::make(filters, Vec::new(alloc));
-        assert_eq!(rt; made.err(), fault, "{count} filters");
+        assert_eq!(rt; fault_of_made(rt.alloc(), count)?, fault, "{count} filters");
     }
     Ok(())
 }

@@ -1,10 +1,11 @@
 //! Sets of SLURM files: which files overlap (RFC 8416 section 4.2), and how many files a set has and
 //! under which names.
-use crate::rows::table_rows;
+use crate::rows::{Row, table_rows};
 use crate::slurm_files::file;
-use addr::Name;
-use slurm::{NamedSlurm, Slurm, SlurmSet};
+use addr::{Name, digits};
+use slurm::{NamedSlurm, Slurm, SlurmFault, SlurmSet};
 use std::alloc::{AllocError, Global};
+use std::process::Abort;
 use std::test::Fail;
 
 /// Two files, ` | ` between them and `;` between the filters and the assertions of each, and whether
@@ -93,18 +94,21 @@ fn slurm_of(alloc: Global, entries: &str) -> Result<Slurm, Fail> {
 fn files_of(alloc: Global, row: &str) -> Result<Vec<NamedSlurm>, Fail> {
     let mut files = Vec::new(alloc);
     for entries in row.split(" | ") {
-        let name = files.len().to_string(alloc)?;
+        let name = digits(files.len() as u64);
         files.push(named(&name, slurm_of(alloc, entries)?)?)?;
     }
     Ok(files)
+}
+
+fn empty_file(alloc: Global) -> Result<Slurm, SlurmFault> {
+    Slurm::make(Vec::new(alloc), Vec::new(alloc))
 }
 
 /// Empty files of these names.
 fn files_of_names(alloc: Global, names: &str) -> Result<Vec<NamedSlurm>, Fail> {
     let mut files = Vec::new(alloc);
     for name in names.split_whitespace() {
-        let file = Slurm::make(Vec::new(alloc), Vec::new(alloc))?;
-        files.push(named(name, file)?)?;
+        files.push(named(name, empty_file(alloc)?)?)?;
     }
     Ok(files)
 }
@@ -119,59 +123,86 @@ fn shown(alloc: Global, set: &SlurmSet) -> Result<String, AllocError> {
     Ok(text)
 }
 
+fn assert_overlaps(rt: &impl Abort, one: &Slurm, other: &Slurm, row: &Row<'_>) {
+    let expected = row.output == "yes";
+    assert!(rt;
+        one.overlaps(other) == expected,
+        "{}: {}",
+        row.name,
+        row.input
+    );
+    assert!(rt;
+        other.overlaps(one) == expected,
+        "{}: {}",
+        row.name,
+        row.input
+    );
+}
+
+fn assert_pair(rt: &impl Abort, alloc: Global, row: &Row<'_>) -> Result<(), Fail> {
+    let files = files_of(alloc, row.input)?;
+    let [one, other] = files.as_slice() else {
+        return Err("not two files".into());
+    };
+    assert_overlaps(rt, &one.file, &other.file, row);
+    Ok(())
+}
+
 #[test]
 fn slurm_files_overlap_either_way(rt: HostRuntime) -> Result<(), Fail> {
-    let alloc = rt.alloc();
-    for row in &table_rows(alloc, PAIRS)? {
-        let files = files_of(alloc, row.input)?;
-        let [one, other] = files.as_slice() else {
-            return Err("not two files".into());
-        };
-        let expected = row.output == "yes";
-        assert!(rt;
-            one.file.overlaps(&other.file) == expected,
-            "{}: {}",
-            row.name,
-            row.input
-        );
-        assert!(rt;
-            other.file.overlaps(&one.file) == expected,
-            "{}: {}",
-            row.name,
-            row.input
-        );
+    for row in &table_rows(rt.alloc(), PAIRS)? {
+        assert_pair(&rt, rt.alloc(), row)?;
     }
+    Ok(())
+}
+
+fn assert_set(rt: &impl Abort, alloc: Global, row: &Row<'_>) -> Result<(), Fail> {
+    let set = SlurmSet::make(files_of(alloc, row.input)?)?;
+    let expected = row.output == "yes";
+    assert!(rt;
+        set.has_overlap(alloc) == expected,
+        "{}: {}",
+        row.name,
+        row.input
+    );
     Ok(())
 }
 
 #[test]
 fn slurm_sets_have_an_overlap(rt: HostRuntime) -> Result<(), Fail> {
-    let alloc = rt.alloc();
-    assert!(rt; !SlurmSet::make(Vec::new(alloc))?.has_overlap(alloc));
     for table in [PAIRS, SETS] {
-        for row in &table_rows(alloc, table)? {
-            let set = SlurmSet::make(files_of(alloc, row.input)?)?;
-            let expected = row.output == "yes";
-            assert!(rt;
-                set.has_overlap(alloc) == expected,
-                "{}: {}",
-                row.name,
-                row.input
-            );
+        for row in &table_rows(rt.alloc(), table)? {
+            assert_set(&rt, rt.alloc(), row)?;
         }
     }
     Ok(())
 }
 
 #[test]
+fn set_of_no_file_has_no_overlap(rt: HostRuntime) -> Result<(), Fail> {
+    let set = SlurmSet::make(Vec::new(rt.alloc()))?;
+    assert!(rt; !set.has_overlap(rt.alloc()));
+    Ok(())
+}
+
+/// The set of empty files of these names, or why they are none.
+fn set_of_names(alloc: Global, names: &str) -> Result<String, Fail> {
+    match SlurmSet::make(files_of_names(alloc, names)?) {
+        Ok(set) => Ok(shown(alloc, &set)?),
+        Err(fault) => Ok(fault.to_string(alloc)?),
+    }
+}
+
+fn assert_names(rt: &impl Abort, alloc: Global, row: &Row<'_>) -> Result<(), Fail> {
+    let found = set_of_names(alloc, row.input)?;
+    assert_eq!(rt; found.as_str(), row.output, "{}: {}", row.name, row.input);
+    Ok(())
+}
+
+#[test]
 fn slurm_sets_have_few_files_and_each_name_once(rt: HostRuntime) -> Result<(), Fail> {
-    let alloc = rt.alloc();
-    for row in &table_rows(alloc, NAMES)? {
-        let found = match SlurmSet::make(files_of_names(alloc, row.input)?) {
-            Ok(set) => shown(alloc, &set)?,
-            Err(fault) => fault.to_string(alloc)?,
-        };
-        assert_eq!(rt; found.as_str(), row.output, "{}: {}", row.name, row.input);
+    for row in &table_rows(rt.alloc(), NAMES)? {
+        assert_names(&rt, rt.alloc(), row)?;
     }
     Ok(())
 }

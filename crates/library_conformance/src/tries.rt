@@ -3,7 +3,7 @@
 ghost use Rattle.std.specs.Prelude.{not, ◌==◌};
 
 use crate::listing::listed;
-use crate::rows::table_rows;
+use crate::rows::{Row, table_rows};
 use crate::vrps::{fill, parse_asn, parse_route, vrps_of};
 use addr::{Asn, Family, Prefix, Vrp};
 use payload::{ListIndex, PayloadIndex, Trie, Validity, VrpTest};
@@ -162,6 +162,17 @@ AS64511 198.51.103.0/24 AS64496 => Valid
 /// What is said when nothing is left.
 const EMPTY_ROUTES: &str = "\n198.51.100.0/24 AS64496 => NotFound 1";
 
+fn assert_row(rt: &impl Abort, list: &ListIndex, trie: &Trie, row: &Row<'_>) -> Result<(), Fail> {
+    let (state, count) = row.output.split_once(' ').ok_or("no count")?;
+    let route = parse_route(row.input)?;
+    let (counted, lengths) = trie.validity_counted(&route);
+    assert_eq!(rt; list.validity(&route).as_str(), state, "{}", row.input);
+    assert_eq!(rt; trie.validity(&route).as_str(), state, "{}", row.input);
+    assert_eq!(rt; counted.as_str(), state, "{}", row.input);
+    assert_eq!(rt; lengths, count.parse::<u32>()?, "{}", row.input);
+    Ok(())
+}
+
 fn assert_rows(
     rt: &impl Abort,
     alloc: Global,
@@ -170,13 +181,7 @@ fn assert_rows(
     routes: &str,
 ) -> Result<(), Fail> {
     for row in &table_rows(alloc, routes)? {
-        let (state, count) = row.output.split_once(' ').ok_or("no count")?;
-        let route = parse_route(row.input)?;
-        let (counted, lengths) = trie.validity_counted(&route);
-        assert_eq!(rt; list.validity(&route).as_str(), state, "{}", row.input);
-        assert_eq!(rt; trie.validity(&route).as_str(), state, "{}", row.input);
-        assert_eq!(rt; counted.as_str(), state, "{}", row.input);
-        assert_eq!(rt; lengths, count.parse::<u32>()?, "{}", row.input);
+        assert_row(rt, list, trie, row)?;
     }
     Ok(())
 }
@@ -191,9 +196,7 @@ fn assert_set(rt: &impl Abort, alloc: Global, vrps: &[Vrp], routes: &str) -> Res
 }
 
 fn assert_same(rt: &impl Abort, alloc: Global, list: &ListIndex, trie: &Trie) -> Result<(), Fail> {
-    let vrps = listed(alloc, list)?;
-    assert!(rt; listed(alloc, trie)? == vrps);
-    Ok(())
+    assert_lists(rt, alloc, trie, &listed(alloc, list)?)
 }
 
 #[test]
@@ -243,15 +246,19 @@ fn assert_removes(rt: &impl Abort, trie: &mut Trie, vrps: &[Vrp]) {
     }
 }
 
+/// The trie hands out nothing, and has an answer for no route.
+fn assert_is_empty(rt: &impl Abort, alloc: Global, trie: &Trie) -> Result<(), Fail> {
+    assert!(rt; listed(alloc, trie)?.is_empty());
+    assert_rows(rt, alloc, &ListIndex::new(alloc), trie, EMPTY_ROUTES)
+}
+
 #[test]
 fn pruned_trie_is_empty(rt: HostRuntime) -> Result<(), Fail> {
-    let alloc = rt.alloc();
-    let vrps = vrps_of(alloc, NESTED)?;
-    let mut trie = Trie::new(alloc);
+    let vrps = vrps_of(rt.alloc(), NESTED)?;
+    let mut trie = Trie::new(rt.alloc());
     fill(&mut trie, &vrps)?;
     assert_removes(&rt, &mut trie, &vrps);
-    assert!(rt; listed(alloc, &trie)?.is_empty());
-    assert_rows(&rt, alloc, &ListIndex::new(alloc), &trie, EMPTY_ROUTES)
+    assert_is_empty(&rt, rt.alloc(), &trie)
 }
 
 /// The VRPs of the first prefix of each length of IPv6.
@@ -285,16 +292,30 @@ fn assert_each_is_found(rt: &impl Abort, trie: &mut Trie, vrps: &[Vrp]) -> Resul
     Ok(())
 }
 
-#[test]
-fn chain_of_nested_prefixes(rt: HostRuntime) -> Result<(), Fail> {
-    let alloc = rt.alloc();
-    let vrps = chain(alloc)?;
-    let mut trie = Trie::new(alloc);
-    assert_inserts(&rt, &mut trie, &vrps)?;
-    assert!(rt; listed(alloc, &trie)? == vrps);
+/// Another AS is looked for at each node.
+fn assert_is_deep(rt: &impl Abort, trie: &Trie) -> Result<(), Fail> {
     let other = parse_route("::/128 AS64497")?;
     assert_eq!(rt; trie.validity_counted(&other), (Validity::Invalid, 129));
-    assert_each_is_found(&rt, &mut trie, &vrps)
+    Ok(())
+}
+
+fn assert_lists(rt: &impl Abort, alloc: Global, trie: &Trie, vrps: &[Vrp]) -> Result<(), Fail> {
+    let found = listed(alloc, trie)?;
+    assert!(rt; found.as_slice() == vrps);
+    Ok(())
+}
+
+fn assert_chain(rt: &impl Abort, alloc: Global, trie: &mut Trie, vrps: &[Vrp]) -> Result<(), Fail> {
+    assert_inserts(rt, trie, vrps)?;
+    assert_lists(rt, alloc, trie, vrps)?;
+    assert_is_deep(rt, trie)?;
+    assert_each_is_found(rt, trie, vrps)
+}
+
+#[test]
+fn chain_of_nested_prefixes(rt: HostRuntime) -> Result<(), Fail> {
+    let vrps = chain(rt.alloc())?;
+    assert_chain(&rt, rt.alloc(), &mut Trie::new(rt.alloc()), &vrps)
 }
 
 /// The VRP of a prefix that has a thousand.
@@ -329,14 +350,15 @@ fn assert_judges(rt: &impl Abort, trie: &Trie, route: &str, state: Validity) -> 
     Ok(())
 }
 
+fn assert_thousand(rt: &impl Abort, alloc: Global, trie: &mut Trie) -> Result<(), Fail> {
+    insert_a_thousand(rt, trie)?;
+    assert_judges(rt, trie, "192.0.2.0/24 AS1000", Validity::Valid)?;
+    assert_judges(rt, trie, "192.0.2.0/24 AS1001", Validity::Invalid)?;
+    remove_all_but_the_last(rt, trie)?;
+    assert_lists(rt, alloc, trie, &[vrp_of(1000)?])
+}
+
 #[test]
 fn thousand_vrps_of_one_prefix(rt: HostRuntime) -> Result<(), Fail> {
-    let mut trie = Trie::new(rt.alloc());
-    insert_a_thousand(&rt, &mut trie)?;
-    assert_judges(&rt, &trie, "192.0.2.0/24 AS1000", Validity::Valid)?;
-    assert_judges(&rt, &trie, "192.0.2.0/24 AS1001", Validity::Invalid)?;
-    remove_all_but_the_last(&rt, &mut trie)?;
-    let left = listed(rt.alloc(), &trie)?;
-    assert!(rt; left.as_slice() == &[vrp_of(1000)?][..]);
-    Ok(())
+    assert_thousand(&rt, rt.alloc(), &mut Trie::new(rt.alloc()))
 }

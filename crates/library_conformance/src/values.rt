@@ -73,7 +73,7 @@ const NUMBERS: &str = r#"0 => 0
  => none"#;
 
 /// How many operators and pool prefixes, all equal, and the fault of that charter.
-const CHARTERS: [(u32, u32, CharterFault); 6] = [
+const CHARTERS: [(usize, usize, CharterFault); 6] = [
     (0, 1, CharterFault::Count),
     (1, 0, CharterFault::Count),
     (17, 1, CharterFault::Count),
@@ -146,7 +146,7 @@ fn reads_plain_numbers_alone(rt: HostRuntime) -> Result<(), Fail> {
 }
 
 #[test]
-fn prints_values_and_faults(rt: HostRuntime) -> Result<(), Fail> {
+fn prints_values(rt: HostRuntime) -> Result<(), Fail> {
     let alloc = rt.alloc();
     let name = Name::read(b"acme-2").ok_or("a name")?;
     assert_eq!(rt;
@@ -160,19 +160,26 @@ fn prints_values_and_faults(rt: HostRuntime) -> Result<(), Fail> {
         format!(in alloc; "{day:?}")?.as_str(),
         "Day { number: 11016 }"
     );
-    for (fault, text) in [
-        (PrefixFault::Shape, "not an address, a slash and a length"),
-        (
-            PrefixFault::Spelling,
-            "the address or the length is not in its one spelling",
-        ),
-        (
-            PrefixFault::Length,
-            "the length is greater than the addresses have bits",
-        ),
-        (PrefixFault::HostBits, "a bit past the length is set"),
-    ] {
-        assert_eq!(rt; format!(in alloc; "{fault}")?.as_str(), text);
+    Ok(())
+}
+
+const PREFIX_FAULTS: [(PrefixFault, &str); 4] = [
+    (PrefixFault::Shape, "not an address, a slash and a length"),
+    (
+        PrefixFault::Spelling,
+        "the address or the length is not in its one spelling",
+    ),
+    (
+        PrefixFault::Length,
+        "the length is greater than the addresses have bits",
+    ),
+    (PrefixFault::HostBits, "a bit past the length is set"),
+];
+
+#[test]
+fn prints_prefix_faults(rt: HostRuntime) -> Result<(), Fail> {
+    for (fault, text) in PREFIX_FAULTS {
+        assert_eq!(rt; format!(in rt.alloc(); "{fault}")?.as_str(), text);
     }
     Ok(())
 }
@@ -196,20 +203,38 @@ const STEPS: [(Step, u128); 4] = [
     (Step::Take(u128::MAX, 128), u128::MAX - 1),
 ];
 
+fn do_step(holdings: &mut Holdings, step: Step) -> Result<(), Fail> {
+    match step {
+        Step::Add(first, length) => holdings.add(&v6(first, length)?)?,
+        Step::Take(first, length) => holdings.take(&v6(first, length)?)?,
+    }
+    Ok(())
+}
+
+fn assert_held_to(rt: &impl Abort, holdings: &Holdings, last: u128) -> Result<(), Fail> {
+    let span = Span::from_parts(Family::V6, 0, last).ok_or("a span of IPv6")?;
+    assert!(rt; holdings.spans() == [span].as_slice(), "to {last}");
+    assert_eq!(rt; holdings.holds(&v6(0, 0)?), last == u128::MAX);
+    let whole_v4 = Prefix::from_parts(Family::V4, 0, 0).ok_or("0.0.0.0/0")?;
+    assert!(rt; !holdings.touches(&whole_v4));
+    Ok(())
+}
+
+fn assert_step(
+    rt: &impl Abort,
+    holdings: &mut Holdings,
+    step: Step,
+    last: u128,
+) -> Result<(), Fail> {
+    do_step(holdings, step)?;
+    assert_held_to(rt, holdings, last)
+}
+
 #[test]
 fn holdings_reach_the_last_ipv6_address(rt: HostRuntime) -> Result<(), Fail> {
-    let whole = v6(0, 0)?;
-    let whole_v4 = Prefix::from_parts(Family::V4, 0, 0).ok_or("0.0.0.0/0")?;
     let mut holdings = Holdings::new(rt.alloc());
     for (step, last) in STEPS {
-        match step {
-            Step::Add(first, length) => holdings.add(&v6(first, length)?)?,
-            Step::Take(first, length) => holdings.take(&v6(first, length)?)?,
-        }
-        let span = Span::from_parts(Family::V6, 0, last).ok_or("a span of IPv6")?;
-        assert!(rt; holdings.spans() == [span].as_slice(), "to {last}");
-        assert_eq!(rt; holdings.holds(&whole), last == u128::MAX);
-        assert!(rt; !holdings.touches(&whole_v4));
+        assert_step(&rt, &mut holdings, step, last)?;
     }
     Ok(())
 }
@@ -217,18 +242,13 @@ fn holdings_reach_the_last_ipv6_address(rt: HostRuntime) -> Result<(), Fail> {
 /// A charter of that many equal operators and pool prefixes.
 fn charter_of_equals(
     alloc: Global,
-    operators: u32,
-    pool: u32,
+    operators: usize,
+    pool: usize,
 ) -> Result<Result<Charter, CharterFault>, Fail> {
-    let mut names = Vec::new(alloc);
-    for _ in 0..operators {
-        names.push(Name::read(b"reg").ok_or("a name")?)?;
-    }
-    let mut prefixes = Vec::new(alloc);
-    for _ in 0..pool {
-        prefixes.push(v6(0, 0)?)?;
-    }
-    Ok(Charter::make(names, prefixes))
+    let name = Name::read(b"reg").ok_or("a name")?;
+    let whole = v6(0, 0)?;
+    let names = vec![in alloc; name; operators]?;
+    Ok(Charter::make(names, vec![in alloc; whole; pool]?))
 }
 
 #[test]

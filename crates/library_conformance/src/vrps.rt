@@ -1,9 +1,9 @@
 //! Sets of VRPs, and the validation states of routes on them.
 use crate::listing::FirstVrps;
-use crate::rows::table_rows;
+use crate::rows::{Row, table_rows};
 use addr::{Asn, Origin, Prefix, Route, Vrp};
 use payload::{ListIndex, PayloadIndex, Stop};
-use std::alloc::Global;
+use std::alloc::{AllocError, Global};
 use std::process::Abort;
 use std::test::Fail;
 
@@ -71,19 +71,29 @@ pub(crate) fn vrps_of(alloc: Global, lines: &str) -> Result<Vec<Vrp>, Fail> {
     Ok(vrps)
 }
 
-/// A set by one call for each VRP, of which the last is taken out and put in again, and how many
-/// calls put one in.
-pub(crate) fn fill<I: PayloadIndex>(index: &mut I, vrps: &[Vrp]) -> Result<usize, Fail> {
+/// Takes out a VRP and puts it in again.
+fn replace<I: PayloadIndex>(index: &mut I, vrp: &Vrp) -> Result<(), AllocError> {
+    if index.remove(vrp) && !index.contains(vrp) {
+        index.insert(*vrp)?;
+    }
+    Ok(())
+}
+
+/// How many of the calls for each VRP put one in.
+fn insert_each<I: PayloadIndex>(index: &mut I, vrps: &[Vrp]) -> Result<usize, AllocError> {
     let mut count: usize = 0;
     for vrp in vrps {
-        if index.insert(*vrp)? {
-            count = count.saturating_add(1);
-        }
+        count = count.saturating_add(usize::from(index.insert(*vrp)?));
     }
+    Ok(count)
+}
+
+/// A set by one call for each VRP, of which the last is taken out and put in again, and how many
+/// calls put one in.
+pub(crate) fn fill<I: PayloadIndex>(index: &mut I, vrps: &[Vrp]) -> Result<usize, AllocError> {
+    let count = insert_each(index, vrps)?;
     if let Some(last) = vrps.last() {
-        if index.remove(last) && !index.contains(last) {
-            index.insert(*last)?;
-        }
+        replace(index, last)?;
     }
     Ok(count)
 }
@@ -100,11 +110,16 @@ pub(crate) fn parse_route(text: &str) -> Result<Route, Fail> {
     })
 }
 
+fn assert_state(rt: &impl Abort, index: &ListIndex, row: &Row<'_>) -> Result<(), Fail> {
+    let state = index.validity(&parse_route(row.input)?);
+    assert_eq!(rt; state.as_str(), row.output, "{}", row.input);
+    Ok(())
+}
+
 fn assert_states(rt: &impl Abort, alloc: Global, vrps: &str, states: &str) -> Result<(), Fail> {
     let index = ListIndex::from(vrps_of(alloc, vrps)?);
     for row in &table_rows(alloc, states)? {
-        let state = index.validity(&parse_route(row.input)?);
-        assert_eq!(rt; state.as_str(), row.output, "{}", row.input);
+        assert_state(rt, &index, row)?;
     }
     Ok(())
 }
@@ -119,18 +134,31 @@ fn states_of_routes(rt: HostRuntime) -> Result<(), Fail> {
     assert_states(&rt, alloc, "", "\n0.0.0.0/0 AS64496 => NotFound")
 }
 
+/// The sink has the first of these VRPs when the visit ends.
+fn assert_visit(
+    rt: &impl Abort,
+    alloc: Global,
+    index: &ListIndex,
+    rising: &[Vrp],
+    visit: &(usize, usize, Result<(), Stop>),
+) {
+    let (most, kept, answer) = *visit;
+    let mut first = FirstVrps {
+        vrps: Vec::new(alloc),
+        most,
+        refused: None,
+    };
+    assert_eq!(rt; index.visit(&mut first), answer);
+    assert_eq!(rt; first.vrps.len(), kept);
+    assert!(rt; rising.starts_with(&first.vrps), "{kept} kept");
+}
+
 #[test]
 fn visits_rise_and_stop(rt: HostRuntime) -> Result<(), Fail> {
     let index = ListIndex::from(vrps_of(rt.alloc(), NESTED)?);
     let rising = [parse_vrp(WIDE)?, parse_vrp(NARROW)?];
-    for (most, kept, answer) in VISITS {
-        let mut first = FirstVrps {
-            vrps: Vec::new(rt.alloc()),
-            most,
-            refused: None,
-        };
-        assert_eq!(rt; index.visit(&mut first), answer);
-        assert!(rt; first.vrps.as_slice() == &rising[..kept], "{kept} kept");
+    for visit in &VISITS {
+        assert_visit(&rt, rt.alloc(), &index, &rising, visit);
     }
     Ok(())
 }

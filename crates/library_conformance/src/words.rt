@@ -1,7 +1,8 @@
 //! The words after the program's name, and the tasks that they name.
-use crate::rows::table_rows;
+use crate::rows::{Row, table_rows};
 use command_line::{Task, WordsFault, read_words};
 use std::alloc::{AllocError, Global};
+use std::process::Abort;
 use std::test::Fail;
 
 /// The words of a line, which a space parts, and the task that they name.
@@ -64,14 +65,27 @@ fn shown(alloc: Global, task: &Task<'_>) -> Result<String, AllocError> {
     }
 }
 
+fn assert_task(rt: &impl Abort, alloc: Global, row: &Row<'_>) -> Result<(), AllocError> {
+    let task = named(alloc, row.input)?;
+    assert_eq!(rt; task.as_str(), row.output, "{}: {:?}", row.name, row.input);
+    Ok(())
+}
+
 #[test]
 fn words_of_each_task(rt: HostRuntime) -> Result<(), Fail> {
     for row in &table_rows(rt.alloc(), LINES)? {
-        let task = named(rt.alloc(), row.input)?;
-        assert_eq!(rt; task.as_str(), row.output, "{}: {:?}", row.name, row.input);
+        assert_task(&rt, rt.alloc(), row)?;
     }
+    Ok(())
+}
+
+#[test]
+fn no_word(rt: HostRuntime) {
     assert_eq!(rt; read_words(&[]), Err(WordsFault::Words));
+}
+
+#[test]
+fn numbers_of_faults(rt: HostRuntime) {
     assert_eq!(rt; WordsFault::Words.number(), 1);
     assert_eq!(rt; WordsFault::Day.number(), 2);
-    Ok(())
 }

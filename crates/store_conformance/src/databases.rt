@@ -1,8 +1,8 @@
 //! Databases that were made by SQL, and what opening them as a store answers: `ok`, or the fault.
 //! The statements and the answers follow from the formats of the tables.
 use crate::example_database::{TABLES, made, made_old};
-use library_conformance::rows::table_rows;
-use sqlite::{Alter, Connection};
+use library_conformance::rows::{Row, table_rows};
+use sqlite::{Alter, Connection, MemStore};
 use sqlite_disk::{Disk, Files, Memory};
 use sqlite_pager::Options;
 use std::alloc::Global;
@@ -77,6 +77,10 @@ UPDATE granted SET role = 2, family = 4, lo = x'000000000000000000000000c0000201
 UPDATE granted SET until = 2932896 => ok
 UPDATE granted SET until = 2932897 => schema
 UPDATE granted SET until = -1 => schema
+"#;
+
+/// Statements over the claims and entries of the example.
+const CHANGED_CLAIMS: &str = r#"
 # claims
 INSERT INTO claim VALUES ('alpha', 999999, 64496, 20454, 20818); UPDATE entry SET number = 999999; DELETE FROM claim WHERE number = 1 => ok
 INSERT INTO claim VALUES ('alpha', 0, 64496, 20454, 20818); UPDATE entry SET number = 0; DELETE FROM claim WHERE number = 1 => schema
@@ -131,6 +135,10 @@ UPDATE granted SET family = 4, lo = x'000000000000000000000000c0000200', len = 2
 DELETE FROM holding => ok
 INSERT INTO holding VALUES (4, x'000000000000000000000000c0000300', x'000000000000000000000000c00003ff', 'alpha') => ok
 INSERT INTO holder VALUES ('beta', 0, 0); INSERT INTO holding VALUES (4, x'000000000000000000000000c0000280', x'000000000000000000000000c00002ff', 'beta') => ok
+"#;
+
+/// Statements over the tables of the example, and the indexes and views beside them.
+const CHANGED_TABLES: &str = r#"
 # indexes_and_views_beside_the_tables
 DROP INDEX holding_of => ok
 CREATE INDEX claim_by_as ON claim (asn, opens) => ok
@@ -275,12 +283,24 @@ fn answer_of<S: Alter + Drop>(alloc: Global, conn: Connection<S>) -> &'static st
     }
 }
 
+/// What the opening answers once these statements ran.
+fn answer_after(
+    alloc: Global,
+    mut conn: Connection<MemStore>,
+    statements: &str,
+) -> Result<&'static str, Fail> {
+    conn.execute_batch(statements)?;
+    Ok(answer_of(alloc, conn))
+}
+
+fn assert_answer(rt: &impl Abort, answer: &str, row: &Row<'_>) {
+    assert_eq!(rt; answer, row.output, "{}: {}", row.name, row.input);
+}
+
 fn assert_answers(rt: &impl Abort, alloc: Global, rows: &str) -> Result<(), Fail> {
-    for row in table_rows(alloc, rows)? {
-        let mut conn = made(alloc, TABLES)?;
-        conn.execute_batch(row.input)?;
-        let answer = answer_of(alloc, conn);
-        assert_eq!(rt; answer, row.output, "{}: {}", row.name, row.input);
+    for row in &table_rows(alloc, rows)? {
+        let answer = answer_after(alloc, made(alloc, TABLES)?, row.input)?;
+        assert_answer(rt, answer, row);
     }
     Ok(())
 }
@@ -291,68 +311,100 @@ fn opening_asks_each_row(rt: HostRuntime) -> Result<(), Fail> {
 }
 
 #[test]
+fn opening_asks_each_claim(rt: HostRuntime) -> Result<(), Fail> {
+    assert_answers(&rt, rt.alloc(), CHANGED_CLAIMS)
+}
+
+#[test]
+fn opening_asks_for_each_table(rt: HostRuntime) -> Result<(), Fail> {
+    assert_answers(&rt, rt.alloc(), CHANGED_TABLES)
+}
+
+#[test]
 fn opening_asks_each_exception(rt: HostRuntime) -> Result<(), Fail> {
     assert_answers(&rt, rt.alloc(), EXCEPTIONS)
 }
 
 #[test]
 fn opening_moves_the_tables_of_schema_1(rt: HostRuntime) -> Result<(), Fail> {
-    for row in table_rows(rt.alloc(), OLD_ROWS)? {
-        let mut conn = made_old(rt.alloc())?;
-        conn.execute_batch(row.input)?;
-        let answer = answer_of(rt.alloc(), conn);
-        assert_eq!(rt; answer, row.output, "{}: {}", row.name, row.input);
+    for row in &table_rows(rt.alloc(), OLD_ROWS)? {
+        let answer = answer_after(rt.alloc(), made_old(rt.alloc())?, row.input)?;
+        assert_answer(&rt, answer, row);
     }
     Ok(())
+}
+
+pub(crate) fn opened(alloc: Global, conn: Connection<MemStore>) -> Result<Store<MemStore>, Fail> {
+    match Store::open_from(alloc, conn) {
+        Ok(store) => Ok(store),
+        Err(_) => Err("not opened".into()),
+    }
+}
+
+/// A database of schema 1 after it was opened.
+fn moved(alloc: Global) -> Result<Connection<MemStore>, Fail> {
+    Ok(opened(alloc, made_old(alloc)?)?.close())
+}
+
+/// How many rows are in `meta`, `claim`, `entry` and `auth`.
+fn count_rows(conn: &mut Connection<MemStore>) -> Result<usize, Fail> {
+    let rows = conn.query_all(
+        "SELECT value FROM meta UNION ALL SELECT number FROM claim UNION ALL SELECT max FROM entry UNION ALL SELECT number FROM auth",
+        &[],
+    )?;
+    Ok(rows.len())
 }
 
 /// What was moved is a desk of this schema, with its index.
 #[test]
 fn moved_database_is_opened_again(rt: HostRuntime) -> Result<(), Fail> {
-    let Ok(store) = Store::open_from(rt.alloc(), made_old(rt.alloc())?) else {
-        return Err("not opened".into());
-    };
-    let mut conn = store.close();
-    let moved = conn.query_all(
-        "SELECT value FROM meta UNION ALL SELECT number FROM claim UNION ALL SELECT max FROM entry UNION ALL SELECT number FROM auth",
-        &[],
-    )?;
-    assert_eq!(rt; moved.len(), 3);
-    conn.execute_batch("DROP INDEX holding_of")?;
-    assert_eq!(rt; answer_of(rt.alloc(), conn), "ok");
+    let mut conn = moved(rt.alloc())?;
+    assert_eq!(rt; count_rows(&mut conn)?, 3);
+    let answer = answer_after(rt.alloc(), conn, "DROP INDEX holding_of")?;
+    assert_eq!(rt; answer, "ok");
     Ok(())
+}
+
+/// The statements of the tables with a part of them replaced.
+fn other_tables(alloc: Global, parts: &str) -> Result<String, Fail> {
+    let (old, new) = parts.split_once(" | ").ok_or("two parts")?;
+    let (before, after) = TABLES.split_once(old).ok_or("a part of the statements")?;
+    Ok(format!(in alloc; "{before}{new}{after}")?)
+}
+
+fn answer_of_tables(alloc: Global, parts: &str) -> Result<&'static str, Fail> {
+    let tables = other_tables(alloc, parts)?;
+    Ok(answer_of(alloc, made(alloc, &tables)?))
 }
 
 #[test]
 fn opening_asks_the_tables(rt: HostRuntime) -> Result<(), Fail> {
-    for row in table_rows(rt.alloc(), OTHER_TABLES)? {
-        let (old, new) = row.input.split_once(" | ").ok_or("two parts")?;
-        let (before, after) = TABLES.split_once(old).ok_or("a part of the statements")?;
-        let tables = format!(in rt.alloc(); "{before}{new}{after}")?;
-        let answer = answer_of(rt.alloc(), made(rt.alloc(), &tables)?);
-        assert_eq!(rt; answer, row.output, "{}: {}", row.name, row.input);
+    for row in &table_rows(rt.alloc(), OTHER_TABLES)? {
+        let answer = answer_of_tables(rt.alloc(), row.input)?;
+        assert_answer(&rt, answer, row);
     }
     Ok(())
+}
+
+/// The example without its index after it was opened.
+fn opened_without_index(alloc: Global) -> Result<Connection<MemStore>, Fail> {
+    let mut conn = made(alloc, TABLES)?;
+    conn.execute_batch("DROP INDEX holding_of")?;
+    Ok(opened(alloc, conn)?.close())
 }
 
 /// A desk without its index stays so: what has no index of this name makes one.
 #[test]
 fn opening_makes_no_index(rt: HostRuntime) -> Result<(), Fail> {
-    let mut conn = made(rt.alloc(), TABLES)?;
-    conn.execute_batch("DROP INDEX holding_of")?;
-    let Ok(store) = Store::open_from(rt.alloc(), conn) else {
-        return Err("not opened".into());
-    };
-    let mut conn = store.close();
+    let mut conn = opened_without_index(rt.alloc())?;
     conn.execute_batch("CREATE INDEX holding_of ON holding (holder)")?;
     Ok(())
 }
 
 #[test]
 fn connection_in_a_transaction_is_refused(rt: HostRuntime) -> Result<(), Fail> {
-    let mut conn = made(rt.alloc(), TABLES)?;
-    conn.execute_batch("BEGIN")?;
-    assert_eq!(rt; answer_of(rt.alloc(), conn), "database");
+    let answer = answer_after(rt.alloc(), made(rt.alloc(), TABLES)?, "BEGIN")?;
+    assert_eq!(rt; answer, "database");
     Ok(())
 }
 
