@@ -28,18 +28,18 @@ VERDICT = re.compile(r"^test (\S+) \.\.\. (ok|FAILED)\n((?:[ \t].*\n)*)", re.M)
 
 # About how long the tests of a crate take one after the other, and those of a crate that is not named here.
 SECONDS = {
-    "cli": 207,
     "conformance": 263,
-    "failures": 1800,
+    "failures": 750,
     "http_conformance": 128,
     "library_conformance": 50,
+    "program_conformance": 207,
     "store_conformance": 150,
 }
 OTHER_SECONDS = 60
 
 # How long the tests of one process should take, how long a test may, and the megabytes that a process takes.
 PART_SECONDS = 300
-TEST_SECONDS = 1800
+TEST_SECONDS = 600
 MEMORY = 3500
 
 
