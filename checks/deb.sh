@@ -1,11 +1,12 @@
 #!/usr/bin/env bash
-# Whether the Debian package is what it should be: the same octets twice, with what packaging/install.sh installs and the
-# program as it is loaded, and without an error of lintian. Nothing is installed on this machine.
+# Whether the Debian package is what it should be: the same octets twice, with what packaging/install.sh installs and
+# the program as it is loaded, and without an error of lintian. Nothing is installed on this machine.
 #
 #     deb.sh
 #
-# Needs dpkg-deb, lintian, readelf, strip, man, nginx and openssl; skipped without them. PROGRAM names the program, else it is that of the repository; skipped where it is not built. Ends with 1
-# where something is otherwise, with 2 where something could not be run.
+# Needs dpkg-deb, lintian, readelf, strip, man, nginx and openssl; skipped without them. PROGRAM names the program, else
+# it is that of the repository; skipped where it is not built. Ends with 1 where something is otherwise, with 2 where
+# something could not be run.
 set -u
 . "$(dirname "${BASH_SOURCE[0]}")/common.sh"
 need dpkg-deb lintian readelf strip man nginx openssl

@@ -157,7 +157,8 @@ expect 'firewall: nothing else is refused' "$(with_desk 200 "
     serve nobody 127.0.0.1 200 8081; who http://127.0.0.1:8081
     serve nobody 127.0.0.2 200 8080 && who http://127.0.0.2:8080
     unshare -n sleep 60 & other=\$!
-    until ip link add near type veth peer name far netns \$other 2>/dev/null; do sleep 0.1; done
+    until [ \$(readlink /proc/\$other/ns/net) != \$(readlink /proc/\$\$/ns/net) ]; do sleep 0.1; done
+    ip link add near type veth peer name far netns \$other
     ip address add 192.0.2.1/24 dev near; ip link set near up
     nsenter -t \$other -n sh -c 'ip address add 192.0.2.2/24 dev far; ip link set far up
         exec python3 server.py nobody 192.0.2.2 200 8080' &
