@@ -354,11 +354,7 @@ schema 2 left, found 1'
 
 # condition: that of the unit which restarts the service, asked of the desk that is served.
 condition() {
-    local words
-    words=$(sed -n 's/^ExecCondition=//p' "$top/examples/systemd/roadesk-probe.service")
-    words=${words//%%/%}
-    words=${words//'$$'/'$'}
-    run bash -c "${words//127.0.0.1:8080/127.0.0.1:$port}"
+    run env LISTEN="127.0.0.1:$port" "$top/packaging/lib/answers-503"
 }
 
 probe_restarts() {

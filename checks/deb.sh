@@ -1,0 +1,63 @@
+#!/usr/bin/env bash
+# Whether the Debian package is what it should be: the same octets twice, with what packaging/install.sh installs and
+# the program as it is loaded, and without an error of lintian. Nothing is installed on this machine.
+#
+#     deb.sh
+#
+# Needs dpkg-deb, lintian, readelf, strip, man, nginx and openssl; skipped without them. PROGRAM names the program, else
+# it is that of the repository; skipped where it is not built. Ends with 1 where something is otherwise, with 2 where
+# something could not be run.
+set -u
+. "$(dirname "${BASH_SOURCE[0]}")/common.sh"
+need dpkg-deb lintian readelf strip man nginx openssl
+find_program
+work=$(mktemp -d) || exit 2
+trap 'rm -rf "$work"' EXIT
+cd "$work" || exit 2
+
+# The time of a second run is another, and the mask of its files.
+export SOURCE_DATE_EPOCH=1767225600
+package=$("$top/packaging/package.sh" "$program" first) || exit 2
+sleep 1.1
+(umask 077 && "$top/packaging/package.sh" "$program" second >/dev/null) || exit 2
+expect 'its name' "$package" "first/roadesk_$(cat "$top/VERSION")_$(dpkg --print-architecture).deb"
+expect 'twice the same octets' "$(cmp "$package" "second/${package##*/}" 2>&1)" ''
+expect 'errors of lintian' "$(lintian --fail-on none "$package" 2>&1 | grep '^E:')" ''
+
+dpkg-deb -R "$package" held || exit 2
+"$top/packaging/install.sh" "$program" by-hand || exit 2
+# What the package adds and leaves out: its own files, and the form of Debian for the changes.
+expect 'the same as by hand' "$(diff -rq by-hand held | sort)" "Files by-hand/usr/bin/roadesk and held/usr/bin/roadesk differ
+Only in held/usr/share/doc/roadesk: changelog.gz
+Only in held/usr/share/doc/roadesk: copyright
+Only in held: DEBIAN"
+expect 'each setting is kept by dpkg' "$(cat held/DEBIAN/conffiles)" "$(cd held && find etc -type f | sort | sed 's#^#/#')"
+
+# A program of other octets, in what is loaded, is refused.
+cat >"$work/strip" <<'SH'
+#!/bin/sh
+cp "$3" "$2" && printf x | dd of="$2" bs=1 seek="$at" conv=notrunc 2>/dev/null
+SH
+chmod +x strip
+at=$(readelf -lW "$program" | awk '$1 == "LOAD" && $0 ~ / E / { print $2; exit }')
+expect 'a program that strip has changed' "$(at=$((at + 16)) PATH=$work:$PATH "$top/packaging/package.sh" "$program" third \
+    2>&1)" 'package.sh: the stripped program is not loaded as the program is'
+
+# The man page has all lines on standard error that FORMATS.md has.
+man --warnings -l held/usr/share/man/man8/roadesk.8.gz >page 2>warnings
+expect 'warnings of man' "$(cat warnings)" ''
+# shellcheck disable=SC2016 # these are of Markdown
+sed -n '/^## Faults of the program/,/^## Tables/p' "$top/docs/FORMATS.md" | grep -o '`roadesk: [^`]*`' | tr -d '`' |
+    sort -u >lines
+[ -s lines ] || exit 2
+expect 'lines on standard error that the man page leaves out' "$(grep -v -x -F -f <(sed 's/^ *//' page) lines)" ''
+
+# nginx reads the site as a part of Debian's configuration, which is replaced by a shorter one of its kind.
+mkdir -p etc/roadesk log
+openssl req -x509 -newkey ec -pkeyopt ec_paramgen_curve:prime256v1 -nodes -days 1 -subj /CN=localhost \
+    -keyout etc/roadesk/key.pem -out etc/roadesk/cert.pem 2>/dev/null || exit 2
+sed "s#/etc/roadesk/#$work&#; s#/var/log/roadesk/#$work/log/#" held/usr/share/roadesk/nginx-site >site
+printf 'user www-data;\npid %s/pid;\nerror_log %s/log/error.log;\nevents {}\nhttp { include %s/site; }\n' \
+    "$work" "$work" "$work" >nginx.conf
+expect 'nginx and the site' "$(nginx -t -c "$work/nginx.conf" 2>&1 | grep -v -e 'is ok$' -e 'is successful$')" ''
+exit "$failed"
