@@ -5,7 +5,7 @@
 //! which are written as the reply is, and `kept`, for the day that is kept, if one is.
 use crate::desks::example_desk;
 use crate::scripts::{
-    FIRST_DAY, assert_reply, assert_script, push_line, reply_to, setups_of, text_of,
+    ScriptDay, assert_reply, assert_script, push_line, reply_to, setups_of, text_of,
 };
 use addr::Day;
 use desk::{Desk, Reply, Vrps};
@@ -261,12 +261,10 @@ fn assert_answers(
     name: &str,
     lines: &str,
 ) -> Result<(), Fail> {
-    let mut day = FIRST_DAY;
+    let mut day = ScriptDay::first(alloc)?;
     for line in lines.lines() {
-        if let Some(next) = line.strip_prefix("day ") {
-            day = next;
-        } else if !line.is_empty() {
-            assert_answer(rt, alloc, desk, day, line, name)?;
+        if !day.is_set_by(line)? && !line.is_empty() {
+            assert_answer(rt, alloc, desk, day.text(), line, name)?;
         }
     }
     Ok(())

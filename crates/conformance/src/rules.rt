@@ -154,6 +154,9 @@ fn number_999999_is_the_last(rt: HostRuntime) -> Result<(), Fail> {
 
 /// What these changes by `ann` would leave where 999,998 authorizations were made.
 fn supposed(alloc: Global, changes: &[Proposed]) -> Result<Result<HolderRows, Refusal>, Fail> {
+    if changes.is_empty() {
+        return Err("no change".into());
+    }
     let (day, caller) = (first_of_march()?, name("ann")?);
     let charter = example_charter(alloc)?;
     let view = view_after(alloc, 999_998)?;

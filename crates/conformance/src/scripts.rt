@@ -68,7 +68,7 @@ reg {"do":"grant","holder":"beta","name":"bea","role":"manager","scope":"all","u
 "#;
 
 /// The day of the lines of a script before its first `day`.
-pub(crate) const FIRST_DAY: &str = "2026-03-01";
+const FIRST_DAY: &str = "2026-03-01";
 
 const HALVES: &[&str] = &["192.0.2.0/25", "192.0.2.128/25"];
 
@@ -185,6 +185,30 @@ pub(crate) fn assert_lines(
     dialogue.assert_replies_of_lines(rt, name, desk)
 }
 
+/// The day of the rows of a script that follow.
+#[derive(Drop)]
+pub(crate) struct ScriptDay(String);
+
+impl ScriptDay {
+    pub(crate) fn first(alloc: Global) -> Result<ScriptDay, AllocError> {
+        Ok(ScriptDay(String::from_str(alloc, FIRST_DAY)?))
+    }
+
+    /// Whether the line is `day` and a day, which it then sets for the rows after it.
+    pub(crate) fn is_set_by(&mut self, line: &str) -> Result<bool, AllocError> {
+        let Some(day) = line.strip_prefix("day ") else {
+            return Ok(false);
+        };
+        self.0.clear();
+        self.0.push_str(day)?;
+        Ok(true)
+    }
+
+    pub(crate) fn text(&self) -> &str {
+        &self.0
+    }
+}
+
 /// The lines of a script, and the replies that are expected.
 #[derive(Drop)]
 pub(crate) struct Dialogue {
@@ -212,12 +236,10 @@ impl Dialogue {
     }
 
     fn add(&mut self, text: &str) -> Result<(), Fail> {
-        let mut day = FIRST_DAY;
+        let mut day = ScriptDay::first(self.alloc)?;
         for line in text.lines() {
-            if let Some(next) = line.strip_prefix("day ") {
-                day = next;
-            } else if !line.is_empty() {
-                self.add_row(day, line)?;
+            if !day.is_set_by(line)? && !line.is_empty() {
+                self.add_row(day.text(), line)?;
             }
         }
         Ok(())
