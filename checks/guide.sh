@@ -3,15 +3,19 @@
 #
 #     guide.sh [GUIDE]
 #
-# The blocks marked sh run in one shell, in their order, in a temporary folder that has what the top of the
-# repository has, so that the files they make do not stay. What a block prints, on standard error too, has to be
-# the block after a line that ends with `prints` or `print`. Where there is none, it has to end with status 0.
+# The blocks marked sh run in one shell, in their order, in a temporary folder with a copy of the files that git tracks.
+# So what they make does not stay, and they cannot reach what the reader made at the top of the repository, such as
+# desk.db and front/. The copy is taken from a repository in use, which has to be the same before and after.
+#
+# What a block prints, on standard error too, has to be the block after a line that ends with `prints` or `print`. Where
+# there is none, it has to end with status 0.
 # A block marked `sh needs COMMAND..` is skipped where one of these commands is missing; `netfilter` stands for the right
 # to make a network namespace with rules of nftables, which root has.
 # PROGRAM names the program to run as ./roadesk, else it is that of the repository; skipped where it is not built.
 # Ends with 1 where a block does otherwise, with 2 where something could not be run.
 set -u
 . "$(dirname "${BASH_SOURCE[0]}")/common.sh"
+need git
 find_program
 guide=${1:-$top/docs/GUIDE.md}
 work=$(mktemp -d) || exit 2
@@ -39,8 +43,29 @@ awk -v work="$work" '
     NF { is_said = /(^| )prints?:?$/ }' "$guide" || exit 2
 blocks=$(find "$work" -name '*.sh' | wc -l)
 
-mkdir "$work/top"
-ln -s "$top"/* "$work/top" && rm "$work/top/roadesk" || exit 2
+# A hook of git names its own repository in these.
+# shellcheck disable=SC2046
+unset $(git rev-parse --local-env-vars)
+
+# copy_tracked FROM TO: copies the files that git tracks, as they are now.
+copy_tracked() (
+    set -o pipefail
+    git -C "$1" ls-files -z | tar -C "$1" --ignore-failed-read -cf - --null -T - | tar -C "$2" --no-same-owner -xf -
+)
+
+# sum_used: the checksums of all files of the repository in use.
+sum_used() {
+    (cd "$work/used" && find . -type f -exec sha256sum {} + | sort)
+}
+
+# A repository whose reader followed the guide by hand. The folder for the blocks is made from it.
+mkdir -p "$work/used/front" "$work/top"
+copy_tracked "$top" "$work/used" && git -C "$work/used" init -q && git -C "$work/used" add -f . || exit 2
+for file in desk.db front/key.pem front/cert.pem front/callers; do
+    echo "the reader's" >"$work/used/$file"
+done
+sum_used >"$work/used.before"
+copy_tracked "$work/used" "$work/top" && rm "$work/top/roadesk" || exit 2
 # The program is built.
 printf '#!/bin/sh\n[ "$*" = build ] || exec "%s" "$@"\n' "$program" >"$work/top/roadesk"
 chmod +x "$work/top/roadesk"
@@ -115,9 +140,9 @@ export work blocks CURL_HOME=$work
 export -f run_blocks wait_for
 timeout 600 bash -c run_blocks
 
-failed=0
 for block in $(seq "$blocks"); do
     verdict=$(judge "$block") || failed=1
     echo "line $(cat "$work/$block.line"): $verdict"
 done
+expect 'a repository in use, before and after' "$(sum_used | diff "$work/used.before" -)" ''
 exit "$failed"

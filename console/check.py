@@ -290,7 +290,7 @@ def check_sentences(page):
     expect("a sentence for each rule", keys("denied"), words)
     expect("a sentence for each malformed number", keys("malformed"), numbers("Malformed requests"))
     expect("a sentence for each fault of a SLURM file", keys("slurm"), numbers("SLURM files"))
-    others = {"401", "502", "504", "lost", "question"}
+    others = {"401", "429", "502", "504", "lost", "question"}
     expect("a sentence for each status", keys("status") - others, numbers("HTTP") - {"200"})
     expect("a sentence for what only a front answers", others - keys("status"), set())
 

@@ -25,8 +25,9 @@ cp -r "$top/console" "$work/front/"
 desk=$(free_port)
 front=$(free_port)
 # A late reply is 504 after two seconds, so that the check need not wait for a minute.
-sed "s/127.0.0.1:8443/127.0.0.1:$front/; s/127.0.0.1:8080/127.0.0.1:$desk/
-    s/proxy_read_timeout 60s/proxy_read_timeout 2s/" "$top/examples/nginx.conf" >"$work/front/nginx.conf"
+sed "s#/[a-z/]*/roadesk/##; s/127.0.0.1:8443/127.0.0.1:$front/; s/127.0.0.1:8080/127.0.0.1:$desk/
+    s/proxy_read_timeout 60s/proxy_read_timeout 2s/" "$top/examples/nginx.conf" >"$work/front/site.conf"
+cp "$top/examples/nginx-trial.conf" "$work/front/nginx.conf"
 openssl req -x509 -newkey ec -pkeyopt ec_paramgen_curve:prime256v1 -nodes -days 2 -subj /CN=localhost \
     -addext subjectAltName=DNS:localhost -keyout "$work/front/key.pem" -out "$work/front/cert.pem" 2>/dev/null || exit 2
 for user in reg ann; do

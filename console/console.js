@@ -1,6 +1,7 @@
 // The page of a desk. What comes from the desk, from a file or from the user is put in as text, never as markup.
 "use strict";
 
+const KEPT = "Nothing was changed";
 const AGAIN = "Look whether it was, and send it again if not.";
 
 // What a denial, a malformed request, a fault of a SLURM file or a status says: the words of ../docs/FORMATS.md.
@@ -52,21 +53,22 @@ const SENTENCES = {
     9: "A filter has neither prefix nor asn: it would take every VRP away.",
     10: "A comment is not text.",
     11: "The file has more than 4096 filters and assertions.",
-    12: "The desk was out of memory. Nothing was changed: send the file again.",
+    12: `The desk was out of memory. ${KEPT}: send the file again.`,
   },
   status: {
-    400: "The desk could not read the request. Nothing was changed.",
-    401: "Your password was not accepted. Nothing was changed: load this page again.",
-    403: "The front refused the request. Nothing was changed.",
-    404: "The desk has no such page: a name or a number is empty or misspelt. Nothing was changed.",
-    405: "The desk does not do this there. Nothing was changed.",
-    411: "The request came without its length. Nothing was changed.",
-    413: "The file is larger than the desk takes, 1,048,576 bytes. Nothing was changed.",
+    400: `The desk could not read the request. ${KEPT}.`,
+    401: `Your password was not accepted. ${KEPT}: load this page again.`,
+    403: `The front refused the request. ${KEPT}.`,
+    404: `The desk has no such page: a name or a number is empty or misspelt. ${KEPT}.`,
+    405: `The desk does not do this there. ${KEPT}.`,
+    411: `The request came without its length. ${KEPT}.`,
+    413: `The file is larger than the desk takes, 1,048,576 bytes. ${KEPT}.`,
+    429: `Too many requests came at once. ${KEPT}: wait, and send it again.`,
     502: `The front did not get the desk's reply. The change may have been made. ${AGAIN}`,
-    503: `The desk's memory or database failed. Nothing was changed, unless the desk stops now. ${AGAIN}`,
+    503: `The desk's memory or database failed. ${KEPT}, unless the desk stops now. ${AGAIN}`,
     504: `The desk did not reply in time. The change may have been made, or may still be. ${AGAIN}`,
     lost: `The connection was lost. The change may have been made. ${AGAIN}`,
-    question: "There was no answer from the desk. Nothing was changed: ask again.",
+    question: `There was no answer from the desk. ${KEPT}: ask again.`,
   },
 };
 

@@ -34,18 +34,6 @@ as_template() {
         -e 's#^Description=.*#& (%i)#' "$here/systemd/$1"
 }
 
-# The site of the front for the nginx of Debian, whose own file has what is outside of `http`.
-site() {
-    sed -e '1,/^http {/d' -e '/^}/,$d' "$top/examples/nginx.conf" | sed -e 's/^    //' \
-        -e '/^client_body_temp_path /d; /^proxy_temp_path /d' \
-        -e 's/^\(log_format\) \([a-z]*\) /\1 roadesk_\2 /' \
-        -e 's#^\(access_log\) \([a-z.]*\) #\1 /var/log/roadesk/\2 roadesk_#' \
-        -e 's#^\( *ssl_certificate\(_key\)\{0,1\}\) #\1 /etc/roadesk/#' \
-        -e 's#^\( *auth_basic_user_file\) #\1 /etc/roadesk/#' \
-        -e 's#^\( *alias\) #\1 /usr/share/roadesk/#' \
-        -e 's#^\( *\)listen .*#&\n\1ssl_protocols TLSv1.2 TLSv1.3;\n\1error_log /var/log/roadesk/error.log;#'
-}
-
 install -D -m 755 "$program" "$root/usr/bin/roadesk"
 for script in "$here"/lib/*; do
     put 755 "lib/${script##*/}" "usr/lib/roadesk/${script##*/}"
@@ -67,8 +55,7 @@ for file in index.html style.css console.js; do
     install -D -m 644 "$top/console/$file" "$root/usr/share/roadesk/console/$file"
 done
 install -D -m 644 "$top/examples/wait.conf" "$root/usr/share/roadesk/wait.conf"
-site >"$root/usr/share/roadesk/nginx-site"
-chmod 644 "$root/usr/share/roadesk/nginx-site"
+install -D -m 644 "$top/examples/nginx.conf" "$root/usr/share/roadesk/nginx-site"
 install -d "$root/usr/share/man/man8" "$root/usr/share/doc/roadesk"
 sed "s/@VERSION@/$(cat "$top/VERSION")/" "$here/roadesk.8" | gzip -9n >"$root/usr/share/man/man8/roadesk.8.gz"
 chmod 644 "$root/usr/share/man/man8/roadesk.8.gz"
