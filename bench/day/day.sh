@@ -64,8 +64,10 @@ start_front() {
         >"$folder/wait.conf"
     printf 'noc:%s\n' "$(openssl passwd -apr1 secret)" >"$folder/callers"
     free_port
-    sed -e '/ssl_certificate/d' -e "s/listen .*/listen 127.0.0.1:$free;/" -e "s/127.0.0.1:8080/127.0.0.1:$port/" \
-        -e "s/auth_basic_user_file callers;/& $2/" "$top/examples/nginx.conf" >"$folder/nginx.conf"
+    cp "$top/examples/nginx-trial.conf" "$folder/nginx.conf"
+    sed -e 's#/[a-z/]*/roadesk/##' -e '/ssl_/d' -e "s/listen .*/listen 127.0.0.1:$free;/" \
+        -e "s/127.0.0.1:8080/127.0.0.1:$port/" -e "s/auth_basic_user_file callers;/& $2/" \
+        "$top/examples/nginx.conf" >"$folder/site.conf"
     nginx -p "$folder" -c nginx.conf -g 'daemon off;' 2>>"$work/front.err" &
     started=$!
     wait_for "$free" "$started"

@@ -4,9 +4,10 @@
 #     desks.sh [--only-c] [RUNS [COUNT]]      (3 and 400 where left out)
 #
 # Each desk is a process with a file and a charter of its own; the pools have no address in common. The front is that of
-# examples/three-desks with the desks of the run and without TLS. Eight clients send COUNT creates each, one after the
-# other, each client at a holder of its own, and the holders are spread over the desks. So all runs send the same
-# creates. Afterwards the files have to have all of them. With --only-c each desk is the C server of bench/serve.
+# examples/three-desks with the desks of the run, without TLS and without the limit on requests, which one address would
+# reach. Eight clients send COUNT creates each, one after the other, each client at a holder of its own, and the holders
+# are spread over the desks. So all runs send the same creates. Afterwards the files have to have all of them. With
+# --only-c each desk is the C server of bench/serve.
 #
 # Needs gcc, nginx, sqlite3, openssl and shuf, and the C server libsqlite3 with its header. The program has to be built
 # first, by ./roadesk build at the top; PROGRAM may name another. Files go to a temporary folder, or stay in BENCH_WORK;
@@ -93,9 +94,10 @@ start_front() {
     front=$free
     mkdir -p "$work/front"
     printf 'ann:%s\n' "$(openssl passwd -apr1 secret)" >"$work/front/callers"
-    sed -e '/upstream \(west\|isles\)/d' -e '/holders\/\(west\|isles\)-/d' -e '/ssl_certificate/d' \
-        -e "s#upstream east .*#$upstreams#" -e "s#~^/holders/east- east;#$names#" \
-        -e "s/listen .*/listen 127.0.0.1:$front;/" "$top/examples/three-desks/nginx.conf" >"$work/front/nginx.conf"
+    cp "$top/examples/nginx-trial.conf" "$work/front/nginx.conf"
+    sed -e '/upstream \(west\|isles\)/d' -e '/holders\/\(west\|isles\)-/d' -e '/ssl_/d' -e '/^ *limit_req /d' \
+        -e "s#upstream east .*#$upstreams#" -e "s#~^/holders/east- east;#$names#" -e 's#/[a-z/]*/roadesk/##' \
+        -e "s/listen .*/listen 127.0.0.1:$front;/" "$top/examples/three-desks/nginx.conf" >"$work/front/site.conf"
     nginx -p "$work/front" -c nginx.conf -g 'daemon off;' 2>"$work/front.err" &
     started+=($!)
     wait_for "$front" "${started[-1]}"
