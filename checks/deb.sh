@@ -52,12 +52,26 @@ sed -n '/^## Faults of the program/,/^## Tables/p' "$top/docs/FORMATS.md" | grep
 [ -s lines ] || exit 2
 expect 'lines on standard error that the man page leaves out' "$(grep -v -x -F -f <(sed 's/^ *//' page) lines)" ''
 
+# The site names what the package installs, and nginx finds its logs made.
+site=held/usr/share/roadesk/nginx-site
+expect 'console: the files that the site serves' "$(ls "held$(sed -n 's/^ *alias \(.*\);/\1/p' $site)")" 'console.js
+index.html
+style.css'
+expect 'logs: made before nginx starts' "$(sed -n 's/^f \([^ ]*\) 0640 www-data adm -$/\1/p' \
+    held/usr/lib/tmpfiles.d/roadesk.conf | sort)" "$(grep -o '/var/log/[a-z./]*' $site | sort)"
+# In every text, the folder of these three is the same.
+names='cert\.pem|key\.pem|callers'
+grep -ohE "/[a-z/]*/($names)" $site held/usr/share/doc/roadesk/GUIDE.md "$top/packaging/roadesk.8" | sort -u >named
+expect 'certificate, key and callers: where they are' "$(cat named)" '/etc/roadesk/callers
+/etc/roadesk/cert.pem
+/etc/roadesk/key.pem'
+
 # nginx reads the site as a part of Debian's configuration, which is replaced by a shorter one of its kind.
 mkdir -p etc/roadesk log
 openssl req -x509 -newkey ec -pkeyopt ec_paramgen_curve:prime256v1 -nodes -days 1 -subj /CN=localhost \
     -keyout etc/roadesk/key.pem -out etc/roadesk/cert.pem 2>/dev/null || exit 2
-sed "s#/etc/roadesk/#$work&#; s#/var/log/roadesk/#$work/log/#" held/usr/share/roadesk/nginx-site >site
-printf 'user www-data;\npid %s/pid;\nerror_log %s/log/error.log;\nevents {}\nhttp { include %s/site; }\n' \
+sed "s#/etc/roadesk/#$work&#; s#/var/log/roadesk/#$work/log/#" $site >site.conf
+printf 'user www-data;\npid %s/pid;\nerror_log %s/log/error.log;\nevents {}\nhttp { include %s/site.conf; }\n' \
     "$work" "$work" "$work" >nginx.conf
 expect 'nginx and the site' "$(nginx -t -c "$work/nginx.conf" 2>&1 | grep -v -e 'is ok$' -e 'is successful$')" ''
 exit "$failed"
