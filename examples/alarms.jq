@@ -7,6 +7,7 @@ def reason:
     elif .status == "504" then "the desk does not answer"
     elif .status >= "500" then "the front failed, or the desk stayed away"
     elif .status == "401" and .caller != "" then "a wrong password"
+    elif .status == "429" then "too many requests"
     elif .status == "403" and .desk == "" then "a page of another site"
     elif (.desk | tonumber? // 0) > 5 then "the desk was held"
     else empty end;
