@@ -1,6 +1,7 @@
 //! Imports and exports over HTTP: bodies and answers that are CSV.
 use super::{
-    assert_csv, assert_cut, assert_json, assert_rows, assert_writes, registered_holder, response_of,
+    Exchange, assert_csv, assert_cut, assert_holder, assert_json, assert_rows, assert_writes,
+    response_of,
 };
 use desk::Desk;
 use library_conformance::rows::{Row, table_rows};
@@ -368,24 +369,48 @@ fn assert_imports(
     assert_import_rows(rt, alloc, desk, header, &rows)
 }
 
-#[test]
-fn bodies_of_imports(rt: HostRuntime) -> Result<(), Fail> {
-    let mut desk = registered_holder(&rt, rt.alloc())?;
-    assert_imports(&rt, rt.alloc(), &mut desk, IMPORT_HEADER, ROWS)?;
-    assert_imports(&rt, rt.alloc(), &mut desk, b"", HEADERS)
+/// Rows after the header, and then whole bodies.
+#[derive(Clone, Copy)]
+struct Bodies;
+
+impl Exchange for Bodies {
+    fn assert(
+        &self,
+        rt: &impl Abort,
+        alloc: Global,
+        desk: &mut Desk<MemStore>,
+    ) -> Result<(), Fail> {
+        assert_imports(rt, alloc, desk, IMPORT_HEADER, ROWS)?;
+        assert_imports(rt, alloc, desk, b"", HEADERS)
+    }
 }
 
-fn assert_bytes(rt: &impl Abort, alloc: Global, desk: &mut Desk<MemStore>) -> Result<(), Fail> {
-    for (_, body, output) in &BYTES {
-        assert_body(rt, alloc, desk, [body, b""], output)?;
+#[test]
+fn bodies_of_imports(rt: HostRuntime) -> Result<(), Fail> {
+    assert_holder(&rt, rt.alloc(), &Bodies)
+}
+
+/// Bodies of other bytes.
+#[derive(Clone, Copy)]
+struct OtherBytes;
+
+impl Exchange for OtherBytes {
+    fn assert(
+        &self,
+        rt: &impl Abort,
+        alloc: Global,
+        desk: &mut Desk<MemStore>,
+    ) -> Result<(), Fail> {
+        for (_, body, output) in &BYTES {
+            assert_body(rt, alloc, desk, [body, b""], output)?;
+        }
+        Ok(())
     }
-    Ok(())
 }
 
 #[test]
 fn bytes_of_imports(rt: HostRuntime) -> Result<(), Fail> {
-    let mut desk = registered_holder(&rt, rt.alloc())?;
-    assert_bytes(&rt, rt.alloc(), &mut desk)
+    assert_holder(&rt, rt.alloc(), &OtherBytes)
 }
 
 fn assert_lowest(
@@ -399,21 +424,27 @@ fn assert_lowest(
     assert_json(rt, alloc, desk, &request, output, output)
 }
 
-fn assert_each_lowest(
-    rt: &impl Abort,
-    alloc: Global,
-    desk: &mut Desk<MemStore>,
-) -> Result<(), Fail> {
-    for row in &LOWEST {
-        assert_lowest(rt, alloc, desk, *row)?;
+/// The lowest fault of each import.
+#[derive(Clone, Copy)]
+struct LowestFaults;
+
+impl Exchange for LowestFaults {
+    fn assert(
+        &self,
+        rt: &impl Abort,
+        alloc: Global,
+        desk: &mut Desk<MemStore>,
+    ) -> Result<(), Fail> {
+        for row in &LOWEST {
+            assert_lowest(rt, alloc, desk, *row)?;
+        }
+        Ok(())
     }
-    Ok(())
 }
 
 #[test]
 fn lowest_faults_of_imports(rt: HostRuntime) -> Result<(), Fail> {
-    let mut desk = registered_holder(&rt, rt.alloc())?;
-    assert_each_lowest(&rt, rt.alloc(), &mut desk)
+    assert_holder(&rt, rt.alloc(), &LowestFaults)
 }
 
 /// So many rows like the one above, and then another.
@@ -433,17 +464,27 @@ fn assert_many(
     assert_import(rt, alloc, desk, &rows, output)
 }
 
-fn assert_each_many(rt: &impl Abort, alloc: Global, desk: &mut Desk<MemStore>) -> Result<(), Fail> {
-    for row in &MANY {
-        assert_many(rt, alloc, desk, *row)?;
+/// Imports of many rows.
+#[derive(Clone, Copy)]
+struct ManyRows;
+
+impl Exchange for ManyRows {
+    fn assert(
+        &self,
+        rt: &impl Abort,
+        alloc: Global,
+        desk: &mut Desk<MemStore>,
+    ) -> Result<(), Fail> {
+        for row in &MANY {
+            assert_many(rt, alloc, desk, *row)?;
+        }
+        Ok(())
     }
-    Ok(())
 }
 
 #[test]
 fn limits_of_rows(rt: HostRuntime) -> Result<(), Fail> {
-    let mut desk = registered_holder(&rt, rt.alloc())?;
-    assert_each_many(&rt, rt.alloc(), &mut desk)
+    assert_holder(&rt, rt.alloc(), &ManyRows)
 }
 
 fn assert_exports(rt: &impl Abort, alloc: Global, desk: &mut Desk<MemStore>) -> Result<(), Fail> {
@@ -477,25 +518,45 @@ fn assert_exports_by_grants(
     assert_csv(rt, alloc, desk, EXPORT, FIRST_EXPORTED)
 }
 
-#[test]
-fn export_two_authorizations(rt: HostRuntime) -> Result<(), Fail> {
-    let mut desk = registered_holder(&rt, rt.alloc())?;
-    assert_eq!(rt; TWO_EXPORTED.len(), 137);
-    assert_exports(&rt, rt.alloc(), &mut desk)?;
-    assert_exports_by_grants(&rt, rt.alloc(), &mut desk)
+/// The exports of an empty holder and of two authorizations.
+#[derive(Clone, Copy)]
+struct TwoExported;
+
+impl Exchange for TwoExported {
+    fn assert(
+        &self,
+        rt: &impl Abort,
+        alloc: Global,
+        desk: &mut Desk<MemStore>,
+    ) -> Result<(), Fail> {
+        assert_exports(rt, alloc, desk)?;
+        assert_exports_by_grants(rt, alloc, desk)
+    }
 }
 
-/// Each beginning of the response to an export is taken.
-fn assert_export_is_cut(
-    rt: &impl Abort,
-    alloc: Global,
-    desk: &mut Desk<MemStore>,
-    response: &str,
-) -> Result<(), Fail> {
-    for room in 0..response.len() {
-        assert_cut(rt, alloc, desk, EXPORT, response, room)?;
+#[test]
+fn export_two_authorizations(rt: HostRuntime) -> Result<(), Fail> {
+    assert_eq!(rt; TWO_EXPORTED.len(), 137);
+    assert_holder(&rt, rt.alloc(), &TwoExported)
+}
+
+/// Each beginning of this response to an export is taken.
+#[derive(Clone, Copy)]
+struct CutExport<'a>(&'a str);
+
+impl Exchange for CutExport<'_> {
+    fn assert(
+        &self,
+        rt: &impl Abort,
+        alloc: Global,
+        desk: &mut Desk<MemStore>,
+    ) -> Result<(), Fail> {
+        assert_two_made(rt, alloc, desk)?;
+        for room in 0..self.0.len() {
+            assert_cut(rt, alloc, desk, EXPORT, self.0, room)?;
+        }
+        Ok(())
     }
-    Ok(())
 }
 
 /// The two rows are made.
@@ -506,43 +567,53 @@ fn assert_two_made(rt: &impl Abort, alloc: Global, desk: &mut Desk<MemStore>) ->
 #[test]
 fn export_that_is_cut_short(rt: HostRuntime) -> Result<(), Fail> {
     let response = response_of(rt.alloc(), "200", "text/csv", "", TWO_EXPORTED)?;
-    let mut desk = registered_holder(&rt, rt.alloc())?;
-    assert_two_made(&rt, rt.alloc(), &mut desk)?;
-    assert_export_is_cut(&rt, rt.alloc(), &mut desk, &response)
+    assert_holder(&rt, rt.alloc(), &CutExport(&response))
 }
 
-fn assert_makes_nothing(
-    rt: &impl Abort,
-    alloc: Global,
-    desk: &mut Desk<MemStore>,
-) -> Result<(), Fail> {
-    assert_two_made(rt, alloc, desk)?;
-    let denied = "403 {\"denied\":\"held\",\"row\":2}";
-    assert_import(rt, alloc, desk, ONE_NOT_HELD, denied)?;
-    assert_rows(rt, alloc, desk, TWO_LISTED)
+/// An import of which one row is denied makes none.
+#[derive(Clone, Copy)]
+struct DeniedImport;
+
+impl Exchange for DeniedImport {
+    fn assert(
+        &self,
+        rt: &impl Abort,
+        alloc: Global,
+        desk: &mut Desk<MemStore>,
+    ) -> Result<(), Fail> {
+        assert_two_made(rt, alloc, desk)?;
+        let denied = "403 {\"denied\":\"held\",\"row\":2}";
+        assert_import(rt, alloc, desk, ONE_NOT_HELD, denied)?;
+        assert_rows(rt, alloc, desk, TWO_LISTED)
+    }
 }
 
 #[test]
 fn import_that_is_denied_makes_nothing(rt: HostRuntime) -> Result<(), Fail> {
-    let mut desk = registered_holder(&rt, rt.alloc())?;
-    assert_makes_nothing(&rt, rt.alloc(), &mut desk)
+    assert_holder(&rt, rt.alloc(), &DeniedImport)
 }
 
-fn assert_both_families(
-    rt: &impl Abort,
-    alloc: Global,
-    desk: &mut Desk<MemStore>,
-) -> Result<(), Fail> {
-    assert_rows(rt, alloc, desk, IPV6_HOLDING)?;
-    let made = "200 {\"made\":2,\"present\":0}";
-    assert_import(rt, alloc, desk, BOTH_FAMILIES, made)?;
-    assert_csv(rt, alloc, desk, EXPORT, BOTH_EXPORTED)
+/// The import and the export of rows of both families.
+#[derive(Clone, Copy)]
+struct BothFamilies;
+
+impl Exchange for BothFamilies {
+    fn assert(
+        &self,
+        rt: &impl Abort,
+        alloc: Global,
+        desk: &mut Desk<MemStore>,
+    ) -> Result<(), Fail> {
+        assert_rows(rt, alloc, desk, IPV6_HOLDING)?;
+        let made = "200 {\"made\":2,\"present\":0}";
+        assert_import(rt, alloc, desk, BOTH_FAMILIES, made)?;
+        assert_csv(rt, alloc, desk, EXPORT, BOTH_EXPORTED)
+    }
 }
 
 #[test]
 fn import_of_both_families(rt: HostRuntime) -> Result<(), Fail> {
-    let mut desk = registered_holder(&rt, rt.alloc())?;
-    assert_both_families(&rt, rt.alloc(), &mut desk)
+    assert_holder(&rt, rt.alloc(), &BothFamilies)
 }
 
 /// Adds a row of this AS.
@@ -577,21 +648,26 @@ fn export_of_each(alloc: Global, count: u32) -> Result<String, AllocError> {
 }
 
 /// An import that has one row too many is denied whole.
-fn assert_1001_rows_are_denied(
-    rt: &impl Abort,
-    alloc: Global,
-    desk: &mut Desk<MemStore>,
-) -> Result<(), Fail> {
-    let rows = rows_of_each(alloc, 1001)?;
-    let denied = "403 {\"denied\":\"room\",\"row\":1001}";
-    assert_import(rt, alloc, desk, rows.as_bytes(), denied)
+#[derive(Clone, Copy)]
+struct OneRowTooMany;
+
+impl Exchange for OneRowTooMany {
+    fn assert(
+        &self,
+        rt: &impl Abort,
+        alloc: Global,
+        desk: &mut Desk<MemStore>,
+    ) -> Result<(), Fail> {
+        let rows = rows_of_each(alloc, 1001)?;
+        let denied = "403 {\"denied\":\"room\",\"row\":1001}";
+        assert_import(rt, alloc, desk, rows.as_bytes(), denied)?;
+        assert_rows(rt, alloc, desk, NOTHING_LISTED)
+    }
 }
 
 #[test]
 fn import_of_1001_rows_makes_nothing(rt: HostRuntime) -> Result<(), Fail> {
-    let mut desk = registered_holder(&rt, rt.alloc())?;
-    assert_1001_rows_are_denied(&rt, rt.alloc(), &mut desk)?;
-    assert_rows(&rt, rt.alloc(), &mut desk, NOTHING_LISTED)
+    assert_holder(&rt, rt.alloc(), &OneRowTooMany)
 }
 
 fn assert_1000_rows_are_made(
@@ -614,9 +690,23 @@ fn assert_1000_rows_are_exported(
     assert_writes(rt, alloc, desk, EXPORT, 2)
 }
 
+/// The import and the export of a thousand rows.
+#[derive(Clone, Copy)]
+struct ThousandRows;
+
+impl Exchange for ThousandRows {
+    fn assert(
+        &self,
+        rt: &impl Abort,
+        alloc: Global,
+        desk: &mut Desk<MemStore>,
+    ) -> Result<(), Fail> {
+        assert_1000_rows_are_made(rt, alloc, desk)?;
+        assert_1000_rows_are_exported(rt, alloc, desk)
+    }
+}
+
 #[test]
 fn export_a_thousand_authorizations(rt: HostRuntime) -> Result<(), Fail> {
-    let mut desk = registered_holder(&rt, rt.alloc())?;
-    assert_1000_rows_are_made(&rt, rt.alloc(), &mut desk)?;
-    assert_1000_rows_are_exported(&rt, rt.alloc(), &mut desk)
+    assert_holder(&rt, rt.alloc(), &ThousandRows)
 }

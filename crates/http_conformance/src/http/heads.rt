@@ -1,9 +1,8 @@
 //! Heads: their fields, and the lengths of bodies.
 use super::{
-    AT_ONCE, assert_json, assert_response, assert_rows, json_response, registered_holder,
-    response_of, serve,
+    AT_ONCE, Exchange, assert_holder, assert_json, assert_new_desk, assert_response, assert_rows,
+    json_response, response_of, serve,
 };
-use conformance::desks::example_desk;
 use desk::Desk;
 use sqlite::MemStore;
 use std::alloc::Global;
@@ -217,21 +216,27 @@ fn assert_fields(
     assert_response(rt, alloc, desk, request.as_bytes(), &response, name)
 }
 
-fn assert_each_fields(
-    rt: &impl Abort,
-    alloc: Global,
-    desk: &mut Desk<MemStore>,
-) -> Result<(), Fail> {
-    for row in &FIELDS {
-        assert_fields(rt, alloc, desk, *row)?;
+/// Each head with its fields.
+#[derive(Clone, Copy)]
+struct Fields;
+
+impl Exchange for Fields {
+    fn assert(
+        &self,
+        rt: &impl Abort,
+        alloc: Global,
+        desk: &mut Desk<MemStore>,
+    ) -> Result<(), Fail> {
+        for row in &FIELDS {
+            assert_fields(rt, alloc, desk, *row)?;
+        }
+        Ok(())
     }
-    Ok(())
 }
 
 #[test]
 fn fields_of_a_head(rt: HostRuntime) -> Result<(), Fail> {
-    let mut desk = example_desk(rt.alloc())?;
-    assert_each_fields(&rt, rt.alloc(), &mut desk)
+    assert_new_desk(&rt, rt.alloc(), &Fields)
 }
 
 fn assert_length(
@@ -247,21 +252,27 @@ fn assert_length(
     assert_json(rt, alloc, desk, request.as_bytes(), output, name)
 }
 
-fn assert_each_length(
-    rt: &impl Abort,
-    alloc: Global,
-    desk: &mut Desk<MemStore>,
-) -> Result<(), Fail> {
-    for row in &LENGTHS {
-        assert_length(rt, alloc, desk, *row)?;
+/// Each field for the length of a body.
+#[derive(Clone, Copy)]
+struct Lengths;
+
+impl Exchange for Lengths {
+    fn assert(
+        &self,
+        rt: &impl Abort,
+        alloc: Global,
+        desk: &mut Desk<MemStore>,
+    ) -> Result<(), Fail> {
+        for row in &LENGTHS {
+            assert_length(rt, alloc, desk, *row)?;
+        }
+        Ok(())
     }
-    Ok(())
 }
 
 #[test]
 fn content_length_spellings(rt: HostRuntime) -> Result<(), Fail> {
-    let mut desk = example_desk(rt.alloc())?;
-    assert_each_length(&rt, rt.alloc(), &mut desk)
+    assert_new_desk(&rt, rt.alloc(), &Lengths)
 }
 
 fn assert_length_of_a_create(
@@ -277,42 +288,72 @@ fn assert_length_of_a_create(
     assert_json(rt, alloc, desk, request.as_bytes(), output, name)
 }
 
-fn assert_lengths_of_creates(
-    rt: &impl Abort,
-    alloc: Global,
-    desk: &mut Desk<MemStore>,
-) -> Result<(), Fail> {
-    for row in &LENGTHS_OF_A_CREATE {
-        assert_length_of_a_create(rt, alloc, desk, *row)?;
+/// Each length of the body of a create, of which none is made.
+#[derive(Clone, Copy)]
+struct LengthsOfCreates;
+
+impl Exchange for LengthsOfCreates {
+    fn assert(
+        &self,
+        rt: &impl Abort,
+        alloc: Global,
+        desk: &mut Desk<MemStore>,
+    ) -> Result<(), Fail> {
+        for row in &LENGTHS_OF_A_CREATE {
+            assert_length_of_a_create(rt, alloc, desk, *row)?;
+        }
+        assert_rows(rt, alloc, desk, NOTHING_MADE)
     }
-    assert_rows(rt, alloc, desk, NOTHING_MADE)
 }
 
 #[test]
 fn lengths_of_a_create(rt: HostRuntime) -> Result<(), Fail> {
-    let mut desk = registered_holder(&rt, rt.alloc())?;
-    assert_lengths_of_creates(&rt, rt.alloc(), &mut desk)
+    assert_holder(&rt, rt.alloc(), &LengthsOfCreates)
+}
+
+/// A head without an end.
+#[derive(Clone, Copy)]
+struct CutHead;
+
+impl Exchange for CutHead {
+    fn assert(
+        &self,
+        rt: &impl Abort,
+        alloc: Global,
+        desk: &mut Desk<MemStore>,
+    ) -> Result<(), Fail> {
+        let request = b"GET /payloads HTTP/1.1\r\n";
+        let outcome = serve(alloc, desk, request, AT_ONCE)?;
+        assert!(rt; outcome.result == Err(WebFault::Read));
+        assert!(rt; outcome.written.is_empty());
+        Ok(())
+    }
 }
 
 #[test]
 fn head_that_is_cut_is_not_answered(rt: HostRuntime) -> Result<(), Fail> {
-    let mut desk = example_desk(rt.alloc())?;
-    let request = b"GET /payloads HTTP/1.1\r\n";
-    let outcome = serve(rt.alloc(), &mut desk, request, AT_ONCE)?;
-    assert!(rt; outcome.result == Err(WebFault::Read));
-    assert!(rt; outcome.written.is_empty());
-    Ok(())
+    assert_new_desk(&rt, rt.alloc(), &CutHead)
 }
 
-fn assert_no_heads(rt: &impl Abort, alloc: Global, desk: &mut Desk<MemStore>) -> Result<(), Fail> {
-    for (name, request, output) in &HEADS {
-        assert_json(rt, alloc, desk, request, output, name)?;
+/// Bytes that are no head, and those that are.
+#[derive(Clone, Copy)]
+struct Heads;
+
+impl Exchange for Heads {
+    fn assert(
+        &self,
+        rt: &impl Abort,
+        alloc: Global,
+        desk: &mut Desk<MemStore>,
+    ) -> Result<(), Fail> {
+        for (name, request, output) in &HEADS {
+            assert_json(rt, alloc, desk, request, output, name)?;
+        }
+        Ok(())
     }
-    Ok(())
 }
 
 #[test]
 fn bytes_that_are_no_head_are_refused(rt: HostRuntime) -> Result<(), Fail> {
-    let mut desk = example_desk(rt.alloc())?;
-    assert_no_heads(&rt, rt.alloc(), &mut desk)
+    assert_new_desk(&rt, rt.alloc(), &Heads)
 }

@@ -1,8 +1,8 @@
 //! Requests of every path, and what they are refused for.
 use super::{
-    assert_csv, assert_response, assert_rows, json_response, registered_holder, response_of,
+    Exchange, Table, assert_csv, assert_holder, assert_new_desk, assert_response, assert_rows,
+    json_response, response_of,
 };
-use conformance::desks::example_desk;
 use desk::Desk;
 use sqlite::MemStore;
 use std::alloc::Global;
@@ -190,32 +190,39 @@ fn bare_request(alloc: Global, method: &str, target: &str, fields: &str) -> Resu
 
 #[test]
 fn every_path_is_answered(rt: HostRuntime) -> Result<(), Fail> {
-    let mut desk = registered_holder(&rt, rt.alloc())?;
-    assert_rows(&rt, rt.alloc(), &mut desk, EVERY_PATH)
+    assert_holder(&rt, rt.alloc(), &Table(EVERY_PATH))
 }
 
 #[test]
 fn slurm_files_are_put(rt: HostRuntime) -> Result<(), Fail> {
-    let mut desk = example_desk(rt.alloc())?;
-    assert_rows(&rt, rt.alloc(), &mut desk, SLURM_FILES)
+    assert_new_desk(&rt, rt.alloc(), &Table(SLURM_FILES))
 }
 
 #[test]
 fn malformed_requests_have_their_lowest_number(rt: HostRuntime) -> Result<(), Fail> {
-    let mut desk = registered_holder(&rt, rt.alloc())?;
-    assert_rows(&rt, rt.alloc(), &mut desk, MALFORMED)
+    assert_holder(&rt, rt.alloc(), &Table(MALFORMED))
 }
 
-fn assert_payloads(rt: &impl Abort, alloc: Global, desk: &mut Desk<MemStore>) -> Result<(), Fail> {
-    assert_csv(rt, alloc, desk, PAYLOADS, "asn,prefix,maxlength\n")?;
-    assert_rows(rt, alloc, desk, CREATED)?;
-    assert_csv(rt, alloc, desk, PAYLOADS, ONE_PAYLOAD)
+/// The payloads before a create and after it.
+#[derive(Clone, Copy)]
+struct Payloads;
+
+impl Exchange for Payloads {
+    fn assert(
+        &self,
+        rt: &impl Abort,
+        alloc: Global,
+        desk: &mut Desk<MemStore>,
+    ) -> Result<(), Fail> {
+        assert_csv(rt, alloc, desk, PAYLOADS, "asn,prefix,maxlength\n")?;
+        assert_rows(rt, alloc, desk, CREATED)?;
+        assert_csv(rt, alloc, desk, PAYLOADS, ONE_PAYLOAD)
+    }
 }
 
 #[test]
 fn payloads_are_answered_as_csv(rt: HostRuntime) -> Result<(), Fail> {
-    let mut desk = registered_holder(&rt, rt.alloc())?;
-    assert_payloads(&rt, rt.alloc(), &mut desk)
+    assert_holder(&rt, rt.alloc(), &Payloads)
 }
 
 /// A request with the fields of a head, whose response has this body and these further fields.
@@ -244,23 +251,28 @@ fn assert_not_found(
     Ok(())
 }
 
-fn assert_none_found(
-    rt: &impl Abort,
-    alloc: Global,
-    desk: &mut Desk<MemStore>,
-    response: &str,
-) -> Result<(), Fail> {
-    for target in &NOT_FOUND {
-        assert_not_found(rt, alloc, desk, target, response)?;
+/// Targets that no path has are answered so.
+#[derive(Clone, Copy)]
+struct NoPaths<'a>(&'a str);
+
+impl Exchange for NoPaths<'_> {
+    fn assert(
+        &self,
+        rt: &impl Abort,
+        alloc: Global,
+        desk: &mut Desk<MemStore>,
+    ) -> Result<(), Fail> {
+        for target in &NOT_FOUND {
+            assert_not_found(rt, alloc, desk, target, self.0)?;
+        }
+        Ok(())
     }
-    Ok(())
 }
 
 #[test]
 fn target_without_a_path_is_not_found(rt: HostRuntime) -> Result<(), Fail> {
     let response = json_response(rt.alloc(), "404 {\"error\":404}")?;
-    let mut desk = example_desk(rt.alloc())?;
-    assert_none_found(&rt, rt.alloc(), &mut desk, &response)
+    assert_new_desk(&rt, rt.alloc(), &NoPaths(&response))
 }
 
 /// Every method but those allowed has this response.
@@ -293,19 +305,25 @@ fn assert_allowed(
     assert_others_refused(rt, alloc, desk, row, &response)
 }
 
-fn assert_each_allowed(
-    rt: &impl Abort,
-    alloc: Global,
-    desk: &mut Desk<MemStore>,
-) -> Result<(), Fail> {
-    for row in &ALLOWED {
-        assert_allowed(rt, alloc, desk, *row)?;
+/// Every method of each path but those allowed is answered with them.
+#[derive(Clone, Copy)]
+struct AllowedMethods;
+
+impl Exchange for AllowedMethods {
+    fn assert(
+        &self,
+        rt: &impl Abort,
+        alloc: Global,
+        desk: &mut Desk<MemStore>,
+    ) -> Result<(), Fail> {
+        for row in &ALLOWED {
+            assert_allowed(rt, alloc, desk, *row)?;
+        }
+        Ok(())
     }
-    Ok(())
 }
 
 #[test]
 fn other_methods_are_answered_with_those_allowed(rt: HostRuntime) -> Result<(), Fail> {
-    let mut desk = example_desk(rt.alloc())?;
-    assert_each_allowed(&rt, rt.alloc(), &mut desk)
+    assert_new_desk(&rt, rt.alloc(), &AllowedMethods)
 }
