@@ -282,6 +282,24 @@ pub(crate) fn assert_cut(
     Ok(())
 }
 
+/// A connection that gives these bytes and ends or fails is not answered.
+pub(crate) fn assert_not_answered(
+    rt: &impl Abort,
+    alloc: Global,
+    desk: &mut Desk<MemStore>,
+    bytes: &[u8],
+    fails: bool,
+) -> Result<(), Fail> {
+    let outcome = serve(alloc, desk, bytes, Manner { fails, ..AT_ONCE })?;
+    assert!(rt;
+        outcome.result == Err(WebFault::Read),
+        "after {} bytes",
+        bytes.len()
+    );
+    assert!(rt; outcome.written.is_empty(), "after {} bytes", bytes.len());
+    Ok(())
+}
+
 /// Requests to a desk, and their responses.
 pub(crate) trait Exchange {
     /// The desk answers so.
@@ -300,6 +318,24 @@ impl Exchange for Table {
         desk: &mut Desk<MemStore>,
     ) -> Result<(), Fail> {
         assert_rows(rt, alloc, desk, self.0)
+    }
+}
+
+/// Exchanges, one after the other.
+#[derive(Clone, Copy)]
+pub(crate) struct Each<'a, E>(pub(crate) &'a [E]);
+
+impl<E: Exchange> Exchange for Each<'_, E> {
+    fn assert(
+        &self,
+        rt: &impl Abort,
+        alloc: Global,
+        desk: &mut Desk<MemStore>,
+    ) -> Result<(), Fail> {
+        for exchange in self.0 {
+            exchange.assert(rt, alloc, desk)?;
+        }
+        Ok(())
     }
 }
 

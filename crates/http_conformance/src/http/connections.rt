@@ -1,14 +1,13 @@
 //! Connections in pieces, cut short, failing, and with bytes to come.
 use super::{
-    AT_ONCE, Exchange, Manner, assert_cut, assert_holder, assert_json, assert_rows, assert_writes,
-    json_response, request_text, serve,
+    AT_ONCE, Exchange, Manner, assert_cut, assert_holder, assert_json, assert_not_answered,
+    assert_rows, assert_writes, json_response, request_text, serve,
 };
 use desk::Desk;
 use sqlite::MemStore;
 use std::alloc::Global;
 use std::process::Abort;
 use std::test::Fail;
-use web::WebFault;
 
 const CREATE: &str =
     r#"POST /holders/alpha/auths ann {"asn":64496,"prefix":"192.0.2.0/24","max":24,"from":"2026-01-01","until":"2026-12-31"}"#;
@@ -87,24 +86,6 @@ fn no_byte_after_the_request_is_read(rt: HostRuntime) -> Result<(), Fail> {
     for piece in &[1, 7, usize::MAX] {
         assert_holder(&rt, rt.alloc(), &InPieces(*piece))?;
     }
-    Ok(())
-}
-
-/// A connection that gives these bytes and ends or fails is not answered.
-fn assert_not_answered(
-    rt: &impl Abort,
-    alloc: Global,
-    desk: &mut Desk<MemStore>,
-    bytes: &[u8],
-    fails: bool,
-) -> Result<(), Fail> {
-    let outcome = serve(alloc, desk, bytes, Manner { fails, ..AT_ONCE })?;
-    assert!(rt;
-        outcome.result == Err(WebFault::Read),
-        "after {} bytes",
-        bytes.len()
-    );
-    assert!(rt; outcome.written.is_empty(), "after {} bytes", bytes.len());
     Ok(())
 }
 

@@ -1,6 +1,6 @@
 //! Imports and exports over HTTP: bodies and answers that are CSV.
 use super::{
-    Exchange, assert_csv, assert_cut, assert_holder, assert_json, assert_rows, assert_writes,
+    Each, Exchange, assert_csv, assert_cut, assert_holder, assert_json, assert_rows, assert_writes,
     response_of,
 };
 use desk::Desk;
@@ -140,38 +140,38 @@ asn,prefix,maxlength,from,until; => 400 {"malformed":12}
 "#;
 
 /// Bodies of other bytes, and the last line of the response.
-const BYTES: [(&str, &[u8], &str); 7] = [
-    (
+const BYTES: [Body; 7] = [
+    Body(
         "carriage_returns_and_line_feeds",
         b"asn,prefix,maxlength,from,until\r\nAS64496,192.0.2.0/24,24,2026-01-01,2026-12-31\r\n",
         "200 {\"made\":1,\"present\":0}",
     ),
-    (
+    Body(
         "carriage_returns_alone",
         b"asn,prefix,maxlength,from,until\rAS64496,192.0.2.0/24,24,2026-01-01,2026-12-31\r",
         "200 {\"made\":0,\"present\":1}",
     ),
-    (
+    Body(
         "byte_order_mark",
         b"\xef\xbb\xbfasn,prefix,maxlength,from,until\nAS64496,192.0.2.0/24,24,2026-01-01,2026-12-31\n",
         "200 {\"made\":0,\"present\":1}",
     ),
-    (
+    Body(
         "empty_lines_are_no_records",
         b"\n\r\nasn,prefix,maxlength,from,until\n\nAS64496,192.0.2.0/24,24,2026-01-01,2026-12-31\n\n",
         "200 {\"made\":0,\"present\":1}",
     ),
-    (
+    Body(
         "byte_order_mark_alone",
         b"\xef\xbb\xbf",
         "400 {\"malformed\":2}",
     ),
-    (
+    Body(
         "header_and_empty_lines",
         b"asn,prefix,maxlength,from,until\r\n\r\n\n",
         "400 {\"malformed\":12}",
     ),
-    (
+    Body(
         "prefix_that_is_no_text",
         b"asn,prefix,maxlength,from,until\nAS64496,192.0.2.0\xff/24,24,2026-01-01,2026-12-31\n",
         "400 {\"malformed\":5}",
@@ -179,39 +179,39 @@ const BYTES: [(&str, &[u8], &str); 7] = [
 ];
 
 /// Holders, callers and bodies of imports, and the last line of the response.
-const LOWEST: [(&str, &str, &[u8], &str); 7] = [
-    ("Alpha", "Ann", b"", "400 {\"malformed\":2}"),
-    (
+const LOWEST: [Import; 7] = [
+    Import("Alpha", "Ann", b"", "400 {\"malformed\":2}"),
+    Import(
         "Alpha",
         "Ann",
         b"asn,prefix,maxlength,from,until\n1,2,3,4,5\n",
         "400 {\"malformed\":3}",
     ),
-    (
+    Import(
         "alpha",
         "Ann",
         b"asn,prefix,maxlength,from,until\n1,2,3,4,5\n",
         "400 {\"malformed\":4}",
     ),
-    (
+    Import(
         "alpha",
         "Ann",
         b"asn,prefix,maxlength,from,until\n",
         "400 {\"malformed\":4}",
     ),
-    (
+    Import(
         "alpha",
         "bob",
         b"asn,prefix,maxlength,from,until\n",
         "400 {\"malformed\":12}",
     ),
-    (
+    Import(
         "alpha",
         "bob",
         b"asn,prefix,maxlength,from,until\nAS1,192.0.2.0/24,24,2026-01-01,2026-12-31\n",
         "403 {\"denied\":\"grant\",\"row\":1}",
     ),
-    (
+    Import(
         "zeta",
         "ann",
         b"asn,prefix,maxlength,from,until\nAS1,192.0.2.0/24,24,2026-01-01,2026-12-31\n",
@@ -223,10 +223,10 @@ const LOWEST: [(&str, &str, &[u8], &str); 7] = [
 const ROW: &[u8] = b"AS64496,192.0.2.0/24,24,2026-01-01,2026-12-31\n";
 
 /// How many rows an import has, the row after them, and the last line of the response.
-const MANY: [(usize, &[u8], &str); 3] = [
-    (9_999, ROW, "200 {\"made\":1,\"present\":9999}"),
-    (10_000, ROW, "400 {\"malformed\":12}"),
-    (
+const MANY: [ManyRows; 3] = [
+    ManyRows(9_999, ROW, "200 {\"made\":1,\"present\":9999}"),
+    ManyRows(10_000, ROW, "400 {\"malformed\":12}"),
+    ManyRows(
         10_000,
         b"AS64496,192.0.2.0/24,24,2026-01-01,\n",
         "400 {\"malformed\":8}",
@@ -309,8 +309,7 @@ fn assert_import(
     rows: &[u8],
     output: &str,
 ) -> Result<(), Fail> {
-    let request = import_of(alloc, "alpha", "ann", [IMPORT_HEADER, rows])?;
-    assert_json(rt, alloc, desk, &request, output, output)
+    assert_body(rt, alloc, desk, [IMPORT_HEADER, rows], output)
 }
 
 /// The bytes of a text, a line feed for each semicolon.
@@ -322,6 +321,7 @@ fn body_of(alloc: Global, text: &str) -> Result<Vec<u8>, AllocError> {
     Ok(body)
 }
 
+/// The import by `ann` of a body in two parts has this response.
 fn assert_body(
     rt: &impl Abort,
     alloc: Global,
@@ -390,61 +390,48 @@ fn bodies_of_imports(rt: HostRuntime) -> Result<(), Fail> {
     assert_holder(&rt, rt.alloc(), &Bodies)
 }
 
-/// Bodies of other bytes.
+/// A name, the body of an import, and the last line of the response.
 #[derive(Clone, Copy)]
-struct OtherBytes;
+struct Body(&'static str, &'static [u8], &'static str);
 
-impl Exchange for OtherBytes {
+impl Exchange for Body {
     fn assert(
         &self,
         rt: &impl Abort,
         alloc: Global,
         desk: &mut Desk<MemStore>,
     ) -> Result<(), Fail> {
-        for (_, body, output) in &BYTES {
-            assert_body(rt, alloc, desk, [body, b""], output)?;
-        }
-        Ok(())
+        let Body(name, body, output) = *self;
+        let request = import_of(alloc, "alpha", "ann", [body, b""])?;
+        assert_json(rt, alloc, desk, &request, output, name)
     }
 }
 
 #[test]
 fn bytes_of_imports(rt: HostRuntime) -> Result<(), Fail> {
-    assert_holder(&rt, rt.alloc(), &OtherBytes)
+    assert_holder(&rt, rt.alloc(), &Each(&BYTES))
 }
 
-fn assert_lowest(
-    rt: &impl Abort,
-    alloc: Global,
-    desk: &mut Desk<MemStore>,
-    row: (&str, &str, &[u8], &str),
-) -> Result<(), Fail> {
-    let (holder, caller, rows, output) = row;
-    let request = import_of(alloc, holder, caller, [rows, b""])?;
-    assert_json(rt, alloc, desk, &request, output, output)
-}
-
-/// The lowest fault of each import.
+/// A holder, a caller, the body of an import, and the last line of the response.
 #[derive(Clone, Copy)]
-struct LowestFaults;
+struct Import(&'static str, &'static str, &'static [u8], &'static str);
 
-impl Exchange for LowestFaults {
+impl Exchange for Import {
     fn assert(
         &self,
         rt: &impl Abort,
         alloc: Global,
         desk: &mut Desk<MemStore>,
     ) -> Result<(), Fail> {
-        for row in &LOWEST {
-            assert_lowest(rt, alloc, desk, *row)?;
-        }
-        Ok(())
+        let Import(holder, caller, rows, output) = *self;
+        let request = import_of(alloc, holder, caller, [rows, b""])?;
+        assert_json(rt, alloc, desk, &request, output, output)
     }
 }
 
 #[test]
 fn lowest_faults_of_imports(rt: HostRuntime) -> Result<(), Fail> {
-    assert_holder(&rt, rt.alloc(), &LowestFaults)
+    assert_holder(&rt, rt.alloc(), &Each(&LOWEST))
 }
 
 /// So many rows like the one above, and then another.
@@ -453,20 +440,9 @@ fn rows_of_many(alloc: Global, count: usize, last: &[u8]) -> Result<Vec<u8>, All
     [rows.as_slice(), last].concat(alloc)
 }
 
-fn assert_many(
-    rt: &impl Abort,
-    alloc: Global,
-    desk: &mut Desk<MemStore>,
-    row: (usize, &[u8], &str),
-) -> Result<(), Fail> {
-    let (count, last, output) = row;
-    let rows = rows_of_many(alloc, count, last)?;
-    assert_import(rt, alloc, desk, &rows, output)
-}
-
-/// Imports of many rows.
+/// How many rows an import has, the row after them, and the last line of the response.
 #[derive(Clone, Copy)]
-struct ManyRows;
+struct ManyRows(usize, &'static [u8], &'static str);
 
 impl Exchange for ManyRows {
     fn assert(
@@ -475,16 +451,15 @@ impl Exchange for ManyRows {
         alloc: Global,
         desk: &mut Desk<MemStore>,
     ) -> Result<(), Fail> {
-        for row in &MANY {
-            assert_many(rt, alloc, desk, *row)?;
-        }
-        Ok(())
+        let ManyRows(count, last, output) = *self;
+        let rows = rows_of_many(alloc, count, last)?;
+        assert_import(rt, alloc, desk, &rows, output)
     }
 }
 
 #[test]
 fn limits_of_rows(rt: HostRuntime) -> Result<(), Fail> {
-    assert_holder(&rt, rt.alloc(), &ManyRows)
+    assert_holder(&rt, rt.alloc(), &Each(&MANY))
 }
 
 fn assert_exports(rt: &impl Abort, alloc: Global, desk: &mut Desk<MemStore>) -> Result<(), Fail> {

@@ -1,6 +1,6 @@
 //! The limits of heads, of fields and of bodies.
 use super::{
-    AT_ONCE, Exchange, Manner, assert_json, assert_new_desk, assert_response, json_response,
+    AT_ONCE, Each, Exchange, Manner, assert_json, assert_new_desk, assert_response, json_response,
     request_text, response_of, serve,
 };
 use desk::Desk;
@@ -197,26 +197,26 @@ fn body_limit(rt: HostRuntime) -> Result<(), Fail> {
 }
 
 /// Requests, how deep the array that is their body nests, and their responses.
-const NESTED_BODIES: [(&str, u32, &str); 6] = [
-    (
+const NESTED_BODIES: [NestedBody; 6] = [
+    NestedBody(
         "POST /holders/alpha/auths ann",
         127,
         "400 {\"malformed\":2}",
     ),
-    (
+    NestedBody(
         "POST /holders/alpha/auths ann",
         128,
         "400 {\"malformed\":1}",
     ),
-    ("PUT /slurm reg", 127, "400 {\"malformed\":11,\"slurm\":2}"),
-    ("PUT /slurm reg", 128, "400 {\"malformed\":11,\"slurm\":1}"),
-    ("PUT /slurms reg", 127, "400 {\"malformed\":2}"),
-    ("PUT /slurms reg", 128, "400 {\"malformed\":1}"),
+    NestedBody("PUT /slurm reg", 127, "400 {\"malformed\":11,\"slurm\":2}"),
+    NestedBody("PUT /slurm reg", 128, "400 {\"malformed\":11,\"slurm\":1}"),
+    NestedBody("PUT /slurms reg", 127, "400 {\"malformed\":2}"),
+    NestedBody("PUT /slurms reg", 128, "400 {\"malformed\":1}"),
 ];
 
 /// The request of a row, whose body is an array that nests so deep, has the response.
 #[derive(Clone, Copy)]
-struct NestedBody((&'static str, u32, &'static str));
+struct NestedBody(&'static str, u32, &'static str);
 
 impl Exchange for NestedBody {
     fn assert(
@@ -225,7 +225,7 @@ impl Exchange for NestedBody {
         alloc: Global,
         desk: &mut Desk<MemStore>,
     ) -> Result<(), Fail> {
-        let (path, depth, output) = self.0;
+        let NestedBody(path, depth, output) = *self;
         let body = nested(alloc, depth)?;
         let line = format!(in alloc; "{path} {body}")?;
         let request = request_text(alloc, &line)?;
@@ -236,49 +236,36 @@ impl Exchange for NestedBody {
 #[test]
 fn nesting_limits(rt: HostRuntime) -> Result<(), Fail> {
     for row in &NESTED_BODIES {
-        assert_new_desk(&rt, rt.alloc(), &NestedBody(*row))?;
+        assert_new_desk(&rt, rt.alloc(), row)?;
     }
     Ok(())
 }
 
 /// How deep routes nest within their body, and the response.
-const DEPTHS: [(u32, &str); 2] = [
-    (126, "400 {\"malformed\":2}"),
-    (127, "400 {\"malformed\":1}"),
+const DEPTHS: [Depth; 2] = [
+    Depth(126, "400 {\"malformed\":2}"),
+    Depth(127, "400 {\"malformed\":1}"),
 ];
 
-/// Routes that nest so deep have this response.
-fn assert_depth(
-    rt: &impl Abort,
-    alloc: Global,
-    desk: &mut Desk<MemStore>,
-    depth: u32,
-    output: &str,
-) -> Result<(), Fail> {
-    let routes = nested(alloc, depth)?;
-    let body = format!(in alloc; "{{\"routes\":{routes}}}")?;
-    assert_padded(rt, alloc, desk, &body, body.len(), output)
-}
-
-/// Routes that nest within a body.
+/// How deep routes nest within their body, and the response.
 #[derive(Clone, Copy)]
-struct Depths;
+struct Depth(u32, &'static str);
 
-impl Exchange for Depths {
+impl Exchange for Depth {
     fn assert(
         &self,
         rt: &impl Abort,
         alloc: Global,
         desk: &mut Desk<MemStore>,
     ) -> Result<(), Fail> {
-        for (depth, output) in &DEPTHS {
-            assert_depth(rt, alloc, desk, *depth, output)?;
-        }
-        Ok(())
+        let Depth(depth, output) = *self;
+        let routes = nested(alloc, depth)?;
+        let body = format!(in alloc; "{{\"routes\":{routes}}}")?;
+        assert_padded(rt, alloc, desk, &body, body.len(), output)
     }
 }
 
 #[test]
 fn body_nests_at_most_127_levels(rt: HostRuntime) -> Result<(), Fail> {
-    assert_new_desk(&rt, rt.alloc(), &Depths)
+    assert_new_desk(&rt, rt.alloc(), &Each(&DEPTHS))
 }

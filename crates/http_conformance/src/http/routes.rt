@@ -1,7 +1,7 @@
 //! Requests of every path, and what they are refused for.
 use super::{
-    Exchange, Table, assert_csv, assert_holder, assert_new_desk, assert_response, assert_rows,
-    json_response, response_of,
+    Each, Exchange, Table, assert_csv, assert_holder, assert_new_desk, assert_response,
+    assert_rows, json_response, response_of,
 };
 use desk::Desk;
 use sqlite::MemStore;
@@ -160,23 +160,23 @@ const NOT_FOUND: [&str; 16] = [
 ];
 
 /// Paths, and the methods that each has in the order of the table of routes.
-const ALLOWED: [(&str, &str); 16] = [
-    ("/holders/alpha", "PUT"),
-    ("/holders/alpha/delegations", "POST"),
-    ("/holders/alpha/reclaims", "POST"),
-    ("/transfers", "POST"),
-    ("/holders/alpha/grants", "POST"),
-    ("/holders/alpha/grants/1", "DELETE"),
-    ("/holders/alpha/auths", "GET, POST"),
-    ("/holders/alpha/auths/1", "GET, PATCH, DELETE"),
-    ("/holders/alpha/auths/1/content", "GET"),
-    ("/holders/alpha/export", "GET"),
-    ("/holders/alpha/imports", "POST"),
-    ("/holders/alpha/whatif", "POST"),
-    ("/slurm", "PUT"),
-    ("/slurms", "PUT"),
-    ("/payloads", "GET"),
-    ("/validity", "POST"),
+const ALLOWED: [Allowed; 16] = [
+    Allowed("/holders/alpha", "PUT"),
+    Allowed("/holders/alpha/delegations", "POST"),
+    Allowed("/holders/alpha/reclaims", "POST"),
+    Allowed("/transfers", "POST"),
+    Allowed("/holders/alpha/grants", "POST"),
+    Allowed("/holders/alpha/grants/1", "DELETE"),
+    Allowed("/holders/alpha/auths", "GET, POST"),
+    Allowed("/holders/alpha/auths/1", "GET, PATCH, DELETE"),
+    Allowed("/holders/alpha/auths/1/content", "GET"),
+    Allowed("/holders/alpha/export", "GET"),
+    Allowed("/holders/alpha/imports", "POST"),
+    Allowed("/holders/alpha/whatif", "POST"),
+    Allowed("/slurm", "PUT"),
+    Allowed("/slurms", "PUT"),
+    Allowed("/payloads", "GET"),
+    Allowed("/validity", "POST"),
 ];
 
 const METHODS: [&str; 9] = [
@@ -292,38 +292,25 @@ fn assert_others_refused(
     Ok(())
 }
 
-/// Every method but those allowed is answered with them.
-fn assert_allowed(
-    rt: &impl Abort,
-    alloc: Global,
-    desk: &mut Desk<MemStore>,
-    row: (&str, &str),
-) -> Result<(), Fail> {
-    let fields = format!(in alloc; "Allow: {}\r\n", row.1)?;
-    let body = "{\"error\":405}\n";
-    let response = response_of(alloc, "405", "application/json", &fields, body)?;
-    assert_others_refused(rt, alloc, desk, row, &response)
-}
-
-/// Every method of each path but those allowed is answered with them.
+/// A path and its methods: every other method is answered with them.
 #[derive(Clone, Copy)]
-struct AllowedMethods;
+struct Allowed(&'static str, &'static str);
 
-impl Exchange for AllowedMethods {
+impl Exchange for Allowed {
     fn assert(
         &self,
         rt: &impl Abort,
         alloc: Global,
         desk: &mut Desk<MemStore>,
     ) -> Result<(), Fail> {
-        for row in &ALLOWED {
-            assert_allowed(rt, alloc, desk, *row)?;
-        }
-        Ok(())
+        let fields = format!(in alloc; "Allow: {}\r\n", self.1)?;
+        let body = "{\"error\":405}\n";
+        let response = response_of(alloc, "405", "application/json", &fields, body)?;
+        assert_others_refused(rt, alloc, desk, (self.0, self.1), &response)
     }
 }
 
 #[test]
 fn other_methods_are_answered_with_those_allowed(rt: HostRuntime) -> Result<(), Fail> {
-    assert_new_desk(&rt, rt.alloc(), &AllowedMethods)
+    assert_new_desk(&rt, rt.alloc(), &Each(&ALLOWED))
 }
