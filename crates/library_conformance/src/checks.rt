@@ -250,10 +250,9 @@ fn assert_refuses_payloads(
     Ok(())
 }
 
-#[test]
-fn check_refuses_bad_payloads(rt: HostRuntime) -> Result<(), Fail> {
-    for row in &table_rows(rt.alloc(), BAD_PAYLOADS)? {
-        assert_refuses_payloads(&rt, rt.alloc(), row)?;
+fn assert_bad_payloads(rt: &impl Abort, alloc: Global) -> Result<(), Fail> {
+    for row in &table_rows(alloc, BAD_PAYLOADS)? {
+        assert_refuses_payloads(rt, alloc, row)?;
     }
     Ok(())
 }
@@ -264,19 +263,25 @@ fn assert_refuses_routes(rt: &impl Abort, alloc: Global, row: &Row<'_>) -> Resul
     Ok(())
 }
 
-#[test]
-fn check_refuses_bad_routes(rt: HostRuntime) -> Result<(), Fail> {
-    for row in &table_rows(rt.alloc(), BAD_ROUTES)? {
-        assert_refuses_routes(&rt, rt.alloc(), row)?;
+fn assert_bad_routes(rt: &impl Abort, alloc: Global) -> Result<(), Fail> {
+    for row in &table_rows(alloc, BAD_ROUTES)? {
+        assert_refuses_routes(rt, alloc, row)?;
     }
     Ok(())
 }
 
-#[test]
-fn check_refuses_what_is_no_text(rt: HostRuntime) {
+fn assert_refuses_what_is_no_text(rt: &impl Abort, alloc: Global) {
     let no_text = b"asn,prefix,maxlength\nAS64496,198.51.100.\xff/22,24\n";
     let prefix_fault = "roadesk: payloads row 1: prefix 1";
-    assert_refuses(&rt, rt.alloc(), no_text, ROUTE.as_bytes(), prefix_fault);
+    assert_refuses(rt, alloc, no_text, ROUTE.as_bytes(), prefix_fault);
+}
+
+#[test]
+fn check_refuses_bad_files(rt: HostRuntime) -> Result<(), Fail> {
+    assert_bad_payloads(&rt, rt.alloc())?;
+    assert_bad_routes(&rt, rt.alloc())?;
+    assert_refuses_what_is_no_text(&rt, rt.alloc());
+    Ok(())
 }
 
 #[test]
