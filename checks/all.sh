@@ -11,7 +11,7 @@ checks=$(cd "$(dirname "${BASH_SOURCE[0]}")" && pwd)
 failed=0
 verdicts=()
 
-for check in guide units deb formats model responses sqlite3 stops failover refused first-look ../console/check; do
+for check in guide units deb package formats model responses sqlite3 stops failover refused first-look ../console/check; do
     echo "== $check"
     "$checks/$check.sh"
     case $? in
