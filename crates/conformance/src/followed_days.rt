@@ -268,14 +268,18 @@ fn count_accepted(rt: &impl Abort, alloc: Global, pair: &mut Pair) -> Result<u64
     Ok(accepted)
 }
 
-#[test]
-fn kept_day_is_as_one_that_is_built_anew(rt: HostRuntime) -> Result<(), Fail> {
-    let alloc = rt.alloc();
-    let mut pair = Pair::new(alloc)?;
-    set_up(&rt, alloc, &mut pair)?;
-    let accepted = count_accepted(&rt, alloc, &mut pair)?;
+/// Many of the commands are accepted.
+fn assert_accepted(rt: &impl Abort, alloc: Global, pair: &mut Pair) -> Result<(), Fail> {
+    set_up(rt, alloc, pair)?;
+    let accepted = count_accepted(rt, alloc, pair)?;
     assert!(rt; accepted > COMMANDS / 5, "{accepted} accepted");
     Ok(())
+}
+
+#[test]
+fn kept_day_is_as_one_that_is_built_anew(rt: HostRuntime) -> Result<(), Fail> {
+    let mut pair = Pair::new(rt.alloc())?;
+    assert_accepted(&rt, rt.alloc(), &mut pair)
 }
 
 /// Commands at `alpha`, of which AS 64496 is authorized for 192.0.2.0/24 by number 1.
@@ -315,18 +319,29 @@ fn assert_rows(rt: &impl Abort, alloc: Global, pair: &mut Pair) -> Result<(), Fa
     Ok(())
 }
 
+/// The desks of two databases that have the same rows keep the day.
+fn assert_opened(
+    rt: &impl Abort,
+    alloc: Global,
+    first: Connection<MemStore>,
+    second: Connection<MemStore>,
+) -> Result<(), Fail> {
+    let mut pair = Pair::opened(alloc, first, second)?;
+    assert_rows(rt, alloc, &mut pair)
+}
+
 #[test]
 fn rows_of_another_program_keep_the_day(rt: HostRuntime) -> Result<(), Fail> {
-    let alloc = rt.alloc();
-    let mut pair = Pair::opened(alloc, made(alloc, TABLES)?, made(alloc, TABLES)?)?;
-    assert_rows(&rt, alloc, &mut pair)
+    let first = made(rt.alloc(), TABLES)?;
+    let second = made(rt.alloc(), TABLES)?;
+    assert_opened(&rt, rt.alloc(), first, second)
 }
 
 #[test]
 fn moved_tables_keep_the_day(rt: HostRuntime) -> Result<(), Fail> {
-    let alloc = rt.alloc();
-    let mut pair = Pair::opened(alloc, made_old(alloc)?, made_old(alloc)?)?;
-    assert_rows(&rt, alloc, &mut pair)
+    let first = made_old(rt.alloc())?;
+    let second = made_old(rt.alloc())?;
+    assert_opened(&rt, rt.alloc(), first, second)
 }
 
 /// The database of a desk that was closed.
@@ -337,7 +352,7 @@ fn closed(rt: &impl Abort, alloc: Global) -> Result<Connection<MemStore>, Fail> 
 
 #[test]
 fn closed_desks_keep_the_day(rt: HostRuntime) -> Result<(), Fail> {
-    let alloc = rt.alloc();
-    let mut pair = Pair::opened(alloc, closed(&rt, alloc)?, closed(&rt, alloc)?)?;
-    assert_rows(&rt, alloc, &mut pair)
+    let first = closed(&rt, rt.alloc())?;
+    let second = closed(&rt, rt.alloc())?;
+    assert_opened(&rt, rt.alloc(), first, second)
 }

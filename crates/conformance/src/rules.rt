@@ -20,6 +20,28 @@ fn first_of_march() -> Result<Day, Fail> {
     Ok(Day::read(b"2026-03-01").ok_or("a day")?)
 }
 
+/// Whether an import without rows makes nothing.
+fn makes_nothing(
+    alloc: Global,
+    desk: &mut Desk<MemStore>,
+    caller: &str,
+    holder: &str,
+) -> Result<bool, Fail> {
+    let (day, asking, asked) = (first_of_march()?, name(caller)?, name(holder)?);
+    let request = Request::Command(Command::Import {
+        holder: asked,
+        rows: Vec::new(alloc),
+    });
+    let reply = desk.handle(day, &asking, &request);
+    Ok(matches!(
+        reply,
+        Reply::Imported {
+            made: 0,
+            present: 0
+        }
+    ))
+}
+
 /// An import without rows makes nothing, whoever asks for it.
 fn assert_makes_nothing(
     rt: &impl Abort,
@@ -28,21 +50,19 @@ fn assert_makes_nothing(
     caller: &str,
     holder: &str,
 ) -> Result<(), Fail> {
-    let (day, asking, asked) = (first_of_march()?, name(caller)?, name(holder)?);
-    let request = Request::Command(Command::Import {
-        holder: asked,
-        rows: Vec::new(alloc),
-    });
-    let reply = desk.handle(day, &asking, &request);
-    let makes_nothing = matches!(
-        reply,
-        Reply::Imported {
-            made: 0,
-            present: 0
-        }
-    );
+    let makes_nothing = makes_nothing(alloc, desk, caller, holder)?;
     assert!(rt; makes_nothing, "{caller} at {holder}");
     Ok(())
+}
+
+fn assert_none_makes_anything(
+    rt: &impl Abort,
+    alloc: Global,
+    desk: &mut Desk<MemStore>,
+) -> Result<(), Fail> {
+    assert_makes_nothing(rt, alloc, desk, "ann", "alpha")?;
+    assert_makes_nothing(rt, alloc, desk, "bob", "alpha")?;
+    assert_makes_nothing(rt, alloc, desk, "bob", "zeta")
 }
 
 /// The limits on the number of rows are those of texts alone.
@@ -50,9 +70,7 @@ fn assert_makes_nothing(
 fn import_without_rows_asks_no_rule(rt: HostRuntime) -> Result<(), Fail> {
     let name = "import_without_rows_asks_no_rule";
     let mut desk = desk_after(&rt, rt.alloc(), name, &[ALPHA])?;
-    assert_makes_nothing(&rt, rt.alloc(), &mut desk, "ann", "alpha")?;
-    assert_makes_nothing(&rt, rt.alloc(), &mut desk, "bob", "alpha")?;
-    assert_makes_nothing(&rt, rt.alloc(), &mut desk, "bob", "zeta")
+    assert_none_makes_anything(&rt, rt.alloc(), &mut desk)
 }
 
 fn holdings(alloc: Global) -> Result<Holdings, Fail> {
@@ -136,12 +154,10 @@ fn import_past_number_999999_is_denied(rt: HostRuntime) -> Result<(), Fail> {
     Ok(())
 }
 
-#[test]
-fn number_999999_is_the_last(rt: HostRuntime) -> Result<(), Fail> {
-    let rows = [row(1)?];
-    let change = import_after(rt.alloc(), 999_998, &rows)??;
+/// The change makes one authorization, whose number is the last.
+fn assert_makes_last(rt: &impl Abort, change: &Change) -> Result<(), Fail> {
     assert_eq!(rt; change.imported(), 1);
-    let Change::Holders { first, .. } = &change else {
+    let Change::Holders { first, .. } = change else {
         return Err("another change".into());
     };
     let Edit::Import { auths, created } = &first.edit else {
@@ -150,6 +166,12 @@ fn number_999999_is_the_last(rt: HostRuntime) -> Result<(), Fail> {
     assert_eq!(rt; *created, 999_999);
     assert!(rt; auths.iter().all(|auth| auth.number == 999_999));
     Ok(())
+}
+
+#[test]
+fn number_999999_is_the_last(rt: HostRuntime) -> Result<(), Fail> {
+    let change = import_after(rt.alloc(), 999_998, &[row(1)?])??;
+    assert_makes_last(&rt, &change)
 }
 
 /// What these changes by `ann` would leave where 999,998 authorizations were made.
