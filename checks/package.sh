@@ -42,14 +42,10 @@ work=$(mktemp -d) || exit 2
 outer=
 first=
 
-# stop_system: powers off, and removes the cgroups from the leaves up. Those of processes that just ended take a moment.
+# stop_system: ends all at once. To power off would first stop what `inside` runs, and nsenter stops with it and no
+# longer waits for its end. The cgroups are removed from the leaves up; those of processes that ended take a moment.
 stop_system() {
-    [ -z "$first" ] || kill -s RTMIN+4 "$first" 2>/dev/null
-    for _ in $(seq 50); do
-        if [ -z "$outer" ] || ! kill -0 "$outer" 2>/dev/null; then break; fi
-        sleep 0.1
-    done
-    [ -z "$outer" ] || kill -9 "$outer" 2>/dev/null
+    [ -z "$outer" ] || kill -9 "${first:-$outer}" 2>/dev/null
     wait "$outer" 2>/dev/null
     outer=
     first=
@@ -187,19 +183,17 @@ block() {
 }
 
 boot() {
+    local child
     setpriv --pdeathsig KILL unshare --mount --propagation private bash -c 'make_root "$@"' - "$work" "$group" \
         >"$work/boot" 2>&1 &
     outer=$!
     for _ in $(seq 300); do
-        first=$(tr -d ' ' <"/proc/$outer/task/$outer/children")
-        [ -z "$first" ] || [ "$(cat "/proc/$first/comm")" != systemd ] || break
+        child=$(tr -d ' ' <"/proc/$outer/task/$outer/children")
+        [ "$(cat "/proc/$child/comm")" != systemd ] || { first=$child && break; }
         kill -0 "$outer" || break
         sleep 0.1
     done 2>/dev/null
-    if [ -z "$first" ] || [ "$(cat "/proc/$first/comm")" != systemd ]; then
-        cat "$work/boot" >&2
-        exit 2
-    fi
+    [ -n "$first" ] || { cat "$work/boot" >&2; exit 2; }
     shell 'for _ in {1..100}; do
         case $(systemctl is-system-running) in running | degraded) break ;; esac
         sleep 0.2
