@@ -9,14 +9,19 @@ use std::test::Fail;
 /// The pool of the scripts that name no other.
 pub const EXAMPLE_POOL: &[&str] = &["192.0.2.0/24", "198.51.100.0/24", "2001:db8::/32"];
 
-/// The charter of the operator `reg` and this pool.
-fn charter_with_pool(alloc: Global, pool: &[&str]) -> Result<Charter, Fail> {
-    let mut operators = Vec::new(alloc);
-    operators.push(Name::read(b"reg").ok_or("a name")?)?;
+fn prefixes(alloc: Global, texts: &[&str]) -> Result<Vec<Prefix>, Fail> {
     let mut prefixes = Vec::new(alloc);
-    for text in pool {
+    for text in texts {
         prefixes.push(Prefix::read(text.as_bytes())?)?;
     }
+    Ok(prefixes)
+}
+
+/// The charter of the operator `reg` and this pool.
+fn charter_with_pool(alloc: Global, pool: &[&str]) -> Result<Charter, Fail> {
+    let operator = Name::read(b"reg").ok_or("a name")?;
+    let prefixes = prefixes(alloc, pool)?;
+    let operators = vec![in alloc; operator]?;
     Ok(Charter::make(operators, prefixes)?)
 }
 

@@ -17,30 +17,39 @@ struct ScriptOutcome {
     written: Vec<u8>,
 }
 
-/// Runs a script that comes in pieces, and then ends or fails, into a device that takes `room` bytes.
-fn run(
+/// A script that comes in pieces, and then ends or fails, and how many bytes the device for its
+/// replies takes.
+#[derive(Clone, Copy)]
+struct Script<'a> {
+    bytes: &'a [u8],
+    piece: usize,
+    fails: bool,
+    room: usize,
+}
+
+fn run_into(
     alloc: Global,
     desk: &mut Desk<MemStore>,
-    bytes: &[u8],
-    fails: bool,
-    piece: usize,
-    room: usize,
-) -> ScriptOutcome {
+    script: &Script,
+    sheet: &mut Sheet,
+) -> Result<(), ScriptFault> {
     let mut source = Device::new(Tape {
-        bytes,
-        piece,
-        fails,
+        bytes: script.bytes,
+        piece: script.piece,
+        fails: script.fails,
         is_interrupted: false,
     });
+    let mut drain = Device::new(sheet);
+    run_script(alloc, &mut source, &mut drain, desk)
+}
+
+fn run(alloc: Global, desk: &mut Desk<MemStore>, script: &Script) -> ScriptOutcome {
     let mut sheet = Sheet {
         bytes: Vec::new(alloc),
-        room,
+        room: script.room,
         is_interrupted: false,
     };
-    let result = {
-        let mut drain = Device::new(&mut sheet);
-        run_script(alloc, &mut source, &mut drain, desk)
-    };
+    let result = run_into(alloc, desk, script, &mut sheet);
     ScriptOutcome {
         result,
         written: sheet.bytes,
@@ -59,6 +68,42 @@ fn assert_outcome(
     assert_eq!(rt; outcome.written.as_slice(), replies, "{about:?}");
 }
 
+/// The answer of a desk to a script, and the replies.
+fn assert_answer(
+    rt: &impl Abort,
+    alloc: Global,
+    desk: &mut Desk<MemStore>,
+    script: &Script,
+    expected: Result<(), ScriptFault>,
+    replies: &[u8],
+    about: &str,
+) {
+    let outcome = run(alloc, desk, script);
+    assert_outcome(rt, &outcome, expected, replies, about);
+}
+
+/// The answer of a new desk to a script, and the replies.
+fn assert_new_answer(
+    rt: &impl Abort,
+    alloc: Global,
+    script: &Script,
+    expected: Result<(), ScriptFault>,
+    replies: &str,
+    about: &str,
+) -> Result<(), Fail> {
+    let mut desk = example_desk(alloc)?;
+    assert_answer(
+        rt,
+        alloc,
+        &mut desk,
+        script,
+        expected,
+        replies.as_bytes(),
+        about,
+    );
+    Ok(())
+}
+
 /// The answer to an input and the replies, in whatever pieces it comes.
 fn assert_answers(
     rt: &impl Abort,
@@ -69,9 +114,13 @@ fn assert_answers(
     replies: &str,
 ) -> Result<(), Fail> {
     for piece in [1, 2, 10_000] {
-        let mut desk = example_desk(alloc)?;
-        let outcome = run(alloc, &mut desk, input.as_bytes(), fails, piece, usize::MAX);
-        assert_outcome(rt, &outcome, expected, replies.as_bytes(), input);
+        let script = Script {
+            bytes: input.as_bytes(),
+            piece,
+            fails,
+            room: usize::MAX,
+        };
+        assert_new_answer(rt, alloc, &script, expected, replies, input)?;
     }
     Ok(())
 }
@@ -122,49 +171,65 @@ const REGISTER_THREE: &str = r#"{"day":"2026-03-01","caller":"reg","do":"registe
 
 const DONE_THREE: &str = "{\"done\":null}\n{\"done\":null}\n{\"done\":null}\n";
 
-/// So many of these commands are denied when they are sent again, since they were acted on.
+/// How many of these commands are denied when they are sent again.
+fn denied_again(alloc: Global, desk: &mut Desk<MemStore>) -> Result<usize, Fail> {
+    let script = Script {
+        bytes: REGISTER_THREE.as_bytes(),
+        piece: 10_000,
+        fails: false,
+        room: usize::MAX,
+    };
+    let again = run(alloc, desk, &script);
+    let replies = str::from_utf8(again.written.as_slice())?;
+    Ok(
+        replies
+            .lines()
+            .filter(|line| *line == "{\"denied\":\"fresh\"}")
+            .count(),
+    )
+}
+
+/// The answer to a script, of whose commands so many were acted on: they are denied when they are
+/// sent again.
 fn assert_acted_on(
     rt: &impl Abort,
     alloc: Global,
     desk: &mut Desk<MemStore>,
+    script: &Script,
+    expected: Result<(), ScriptFault>,
+    replies: &[u8],
     commands: usize,
 ) -> Result<(), Fail> {
-    let again = run(
-        alloc,
-        desk,
-        REGISTER_THREE.as_bytes(),
-        false,
-        10_000,
-        usize::MAX,
-    );
-    let replies = str::from_utf8(again.written.as_slice())?;
-    let denied = replies
-        .lines()
-        .filter(|line| *line == "{\"denied\":\"fresh\"}")
-        .count();
+    assert_answer(rt, alloc, desk, script, expected, replies, "cut short");
+    let denied = denied_again(alloc, desk)?;
     assert_eq!(rt; denied, commands);
     Ok(())
 }
 
+/// A new desk acts on so many commands of a script that is cut short.
+fn assert_new_acted_on(
+    rt: &impl Abort,
+    alloc: Global,
+    script: &Script,
+    expected: Result<(), ScriptFault>,
+    replies: &[u8],
+    commands: usize,
+) -> Result<(), Fail> {
+    let mut desk = example_desk(alloc)?;
+    assert_acted_on(rt, alloc, &mut desk, script, expected, replies, commands)
+}
+
 fn assert_replies_cut(rt: &impl Abort, alloc: Global, room: usize) -> Result<(), Fail> {
     let replies = DONE_THREE.as_bytes().get(..room).ok_or("more room")?;
-    let mut desk = example_desk(alloc)?;
-    let outcome = run(
-        alloc,
-        &mut desk,
-        REGISTER_THREE.as_bytes(),
-        false,
-        10_000,
+    let script = Script {
+        bytes: REGISTER_THREE.as_bytes(),
+        piece: 10_000,
+        fails: false,
         room,
-    );
-    assert_outcome(
-        rt,
-        &outcome,
-        Err(ScriptFault::Write),
-        replies,
-        "replies cut short",
-    );
-    assert_acted_on(rt, alloc, &mut desk, (room / 14).saturating_add(1))
+    };
+    let commands = (room / 14).saturating_add(1);
+    let expected = Err(ScriptFault::Write);
+    assert_new_acted_on(rt, alloc, &script, expected, replies, commands)
 }
 
 /// The command whose reply was cut short was acted on, and none after it.
@@ -182,16 +247,14 @@ fn assert_script_ended(rt: &impl Abort, alloc: Global, read: &[u8]) -> Result<()
         .as_bytes()
         .get(..whole.saturating_mul(14))
         .ok_or("more lines")?;
-    let mut desk = example_desk(alloc)?;
-    let outcome = run(alloc, &mut desk, read, true, 10_000, usize::MAX);
-    assert_outcome(
-        rt,
-        &outcome,
-        Err(ScriptFault::Read),
-        replies,
-        "script cut short",
-    );
-    assert_acted_on(rt, alloc, &mut desk, whole)
+    let script = Script {
+        bytes: read,
+        piece: 10_000,
+        fails: true,
+        room: usize::MAX,
+    };
+    let expected = Err(ScriptFault::Read);
+    assert_new_acted_on(rt, alloc, &script, expected, replies, whole)
 }
 
 /// The commands whose lines came whole were acted on and answered, and no others.
@@ -215,17 +278,13 @@ fn assert_long(
 ) -> Result<(), Fail> {
     let mut input = vec![in alloc; b'x'; 1_048_576]?;
     input.extend_from_slice(end.as_bytes())?;
-    let mut desk = example_desk(alloc)?;
-    let outcome = run(
-        alloc,
-        &mut desk,
-        input.as_slice(),
+    let script = Script {
+        bytes: input.as_slice(),
+        piece: 10_000,
         fails,
-        10_000,
-        usize::MAX,
-    );
-    assert_outcome(rt, &outcome, expected, replies.as_bytes(), end);
-    Ok(())
+        room: usize::MAX,
+    };
+    assert_new_answer(rt, alloc, &script, expected, replies, end)
 }
 
 #[test]
@@ -238,20 +297,38 @@ fn line_length_limit(rt: HostRuntime) -> Result<(), Fail> {
     assert_long(&rt, alloc, "x\n[]\n", false, Ok(()), two)
 }
 
-#[test]
-fn reply_reaches_the_peer_before_the_next_line_is_read(rt: HostRuntime) -> Result<(), Fail> {
+/// The answer to the script of a peer.
+fn run_with(
+    alloc: Global,
+    desk: &mut Desk<MemStore>,
+    peer: &Peer,
+) -> Result<Result<(), ScriptFault>, Fail> {
+    let writer = BufWriter::new(alloc, peer)?;
+    let mut source = Device::new(peer);
+    let mut drain = Device::new(writer);
+    Ok(run_script(alloc, &mut source, &mut drain, desk))
+}
+
+fn assert_reaches_the_peer(
+    rt: &impl Abort,
+    alloc: Global,
+    desk: &mut Desk<MemStore>,
+) -> Result<(), Fail> {
     let peer = Peer {
         lines: Cell::new(3),
         sent: Cell::new(0),
         replies: Cell::new(0),
     };
-    let mut source = Device::new(&peer);
-    let mut drain = Device::new(BufWriter::new(rt.alloc(), &peer)?);
-    let mut desk = example_desk(rt.alloc())?;
-    let result = run_script(rt.alloc(), &mut source, &mut drain, &mut desk);
+    let result = run_with(alloc, desk, &peer)?;
     assert_eq!(rt; result, Ok(()));
     assert_eq!(rt; peer.replies.get(), 3);
     Ok(())
+}
+
+#[test]
+fn reply_reaches_the_peer_before_the_next_line_is_read(rt: HostRuntime) -> Result<(), Fail> {
+    let mut desk = example_desk(rt.alloc())?;
+    assert_reaches_the_peer(&rt, rt.alloc(), &mut desk)
 }
 
 /// Every kind of error except `Interrupted`, after which a call is made again.
@@ -385,15 +462,20 @@ fn failed_read_is_not_made_again(rt: HostRuntime) {
     }
 }
 
-/// Two writes of a device whose writer has these calls and flushes make so many writes and so many
-/// flushes.
-fn assert_writes(rt: &impl Abort, counter: &Counter, writes: usize, flushes: usize) {
-    let failure = counter.calls.failure.or(counter.flushes.failure);
+/// Two writes of a device, each of which fails if a failure is given.
+fn assert_two_writes(rt: &impl Abort, counter: &Counter, failure: Option<ErrorKind>) {
     let mut device = Device::new(counter);
     for _ in 0..2 {
         let result = device.write(b"reply");
         assert_eq!(rt; result.is_err(), failure.is_some(), "{failure:?}");
     }
+}
+
+/// Two writes of a device whose writer has these calls and flushes make so many writes and so many
+/// flushes.
+fn assert_writes(rt: &impl Abort, counter: &Counter, writes: usize, flushes: usize) {
+    let failure = counter.calls.failure.or(counter.flushes.failure);
+    assert_two_writes(rt, counter, failure);
     assert_eq!(rt; counter.calls.made.get(), writes, "{failure:?}");
     assert_eq!(rt; counter.flushes.made.get(), flushes, "{failure:?}");
 }
@@ -448,6 +530,12 @@ fn device_reads_on_after_many_calls(rt: HostRuntime) -> Result<(), Fail> {
     Ok(())
 }
 
+/// The writer has these bytes after so many calls.
+fn assert_written(rt: &impl Abort, drip: &Drip, text: &[u8], calls: usize) {
+    assert_eq!(rt; drip.written.as_slice(), text, "pieces of {}", drip.piece);
+    assert_eq!(rt; drip.calls, calls, "pieces of {}", drip.piece);
+}
+
 /// A writer that takes so many bytes a call is written a text through a device by so many calls.
 fn assert_pieces(rt: &impl Abort, alloc: Global, piece: usize, text: &[u8], calls: usize) {
     let mut drip = Drip {
@@ -457,8 +545,7 @@ fn assert_pieces(rt: &impl Abort, alloc: Global, piece: usize, text: &[u8], call
     };
     let result = write_all(&mut Device::new(&mut drip), text);
     assert_eq!(rt; result, Ok(()), "pieces of {piece}");
-    assert_eq!(rt; drip.written.as_slice(), text, "pieces of {piece}");
-    assert_eq!(rt; drip.calls, calls, "pieces of {piece}");
+    assert_written(rt, &drip, text, calls);
 }
 
 #[test]

@@ -298,11 +298,16 @@ fn assert_follows(
     assert_answers(rt, alloc, desk, heading, lines)
 }
 
+/// A new desk answers the rows of a script.
+fn assert_new_follows(rt: &impl Abort, alloc: Global, script: &str) -> Result<(), Fail> {
+    let mut desk = example_desk(alloc)?;
+    assert_follows(rt, alloc, &mut desk, script)
+}
+
 #[test]
 fn kept_day_follows_commands(rt: HostRuntime) -> Result<(), Fail> {
     for script in SCRIPTS.split("\n# ").skip(1) {
-        let mut desk = example_desk(rt.alloc())?;
-        assert_follows(&rt, rt.alloc(), &mut desk, script)?;
+        assert_new_follows(&rt, rt.alloc(), script)?;
     }
     Ok(())
 }

@@ -267,8 +267,28 @@ impl Dialogue {
 
     /// Each way of sending the lines has its own new desk.
     fn assert_on_new_desks(&self, rt: &impl Abort, name: &str, pool: &[&str]) -> Result<(), Fail> {
-        self.assert_replies_of_lines(rt, name, &mut desk_of(self.alloc, pool)?)?;
-        self.assert_replies_of_run(rt, name, &mut desk_of(self.alloc, pool)?)
+        self.assert_lines_on_new_desk(rt, name, pool)?;
+        self.assert_run_on_new_desk(rt, name, pool)
+    }
+
+    fn assert_lines_on_new_desk(
+        &self,
+        rt: &impl Abort,
+        name: &str,
+        pool: &[&str],
+    ) -> Result<(), Fail> {
+        let mut desk = desk_of(self.alloc, pool)?;
+        self.assert_replies_of_lines(rt, name, &mut desk)
+    }
+
+    fn assert_run_on_new_desk(
+        &self,
+        rt: &impl Abort,
+        name: &str,
+        pool: &[&str],
+    ) -> Result<(), Fail> {
+        let mut desk = desk_of(self.alloc, pool)?;
+        self.assert_replies_of_run(rt, name, &mut desk)
     }
 
     /// The lines that are requests, and their replies.

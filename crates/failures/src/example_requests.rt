@@ -1,7 +1,7 @@
 //! The requests that are sent to the desks of these tests, one after the other.
 use addr::{Name, Prefix};
 use desk::{Asked, Desk, Reply};
-use library_conformance::rows::{split_row, table_rows};
+use library_conformance::rows::{Row, split_row, table_rows};
 use library_conformance::sheet::Sheet;
 use policy::Charter;
 use sqlite::Alter;
@@ -159,6 +159,51 @@ pub(crate) fn ask_first<S: Alter>(
     Ok(answers)
 }
 
+/// Sends the first of the requests, so many, and each of them is answered.
+pub(crate) fn assert_answered<S: Alter>(
+    rt: &impl Abort,
+    alloc: Global,
+    desk: &mut Desk<S>,
+    count: usize,
+) -> Result<(), Fail> {
+    let answers = ask_first(rt, alloc, desk, count)?;
+    assert_eq!(rt; answers.count, count);
+    Ok(())
+}
+
+/// Sends a request after so many that the desk had. Returns whether the desk had it too; it had
+/// none where it did not have one before.
+fn is_found<S: Alter>(
+    rt: &impl Abort,
+    alloc: Global,
+    desk: &mut Desk<S>,
+    row: &Row<'_>,
+    found: usize,
+    may_be_found: bool,
+) -> Result<bool, Fail> {
+    let (first, again) = split_row(row.output)?;
+    let reply = ask(alloc, desk, row.input)?;
+    if may_be_found && reply.as_str() == again {
+        return Ok(true);
+    }
+    assert_eq!(rt; reply.as_str(), first, "{} after {found}", row.input);
+    Ok(false)
+}
+
+/// What is there once all were sent, and so many were there before.
+fn assert_afterwards<S: Alter>(
+    rt: &impl Abort,
+    alloc: Global,
+    desk: &mut Desk<S>,
+    found: usize,
+) -> Result<(), Fail> {
+    for row in &table_rows(alloc, AFTERWARDS)? {
+        let reply = ask(alloc, desk, row.input)?;
+        assert_eq!(rt; reply.as_str(), row.output, "{} after {found}", row.input);
+    }
+    Ok(())
+}
+
 /// Sends all again. The desk had the first of them, as many as are returned, and none after these.
 pub(crate) fn count_found<S: Alter>(
     rt: &impl Abort,
@@ -166,20 +211,13 @@ pub(crate) fn count_found<S: Alter>(
     desk: &mut Desk<S>,
 ) -> Result<usize, Fail> {
     let mut found = 0usize;
-    let mut is_found = true;
+    let mut may_be_found = true;
     for row in &table_rows(alloc, REQUESTS)? {
-        let (first, again) = split_row(row.output)?;
-        let reply = ask(alloc, desk, row.input)?;
-        is_found = is_found && reply.as_str() == again;
-        if is_found {
+        may_be_found = is_found(rt, alloc, desk, row, found, may_be_found)?;
+        if may_be_found {
             found = found.saturating_add(1);
-        } else {
-            assert_eq!(rt; reply.as_str(), first, "{} after {found}", row.input);
         }
     }
-    for row in &table_rows(alloc, AFTERWARDS)? {
-        let reply = ask(alloc, desk, row.input)?;
-        assert_eq!(rt; reply.as_str(), row.output, "{} after {found}", row.input);
-    }
+    assert_afterwards(rt, alloc, desk, found)?;
     Ok(found)
 }

@@ -1,6 +1,6 @@
 //! A create over HTTP, on desks over files that stop at each call of the disk.
-use crate::example_requests::{Answers, COUNT_BEFORE_CREATE, ask_first, sheet_of};
-use crate::sweep::{Course, Sweep, begin, copying_options, failing_files, small_options};
+use crate::example_requests::{Answers, COUNT_BEFORE_CREATE, ask_first, assert_answered, sheet_of};
+use crate::sweep::{Course, Sweep, copying_options, small_options, sound_desk};
 use addr::Day;
 use desk::Desk;
 use desk_files::stop;
@@ -83,8 +83,7 @@ fn create_untaken<S: Alter>(
     alloc: Global,
     desk: &mut Desk<S>,
 ) -> Result<(), Fail> {
-    let answers = ask_first(rt, alloc, desk, COUNT_BEFORE_CREATE)?;
-    assert_eq!(rt; answers.count, COUNT_BEFORE_CREATE);
+    assert_answered(rt, alloc, desk, COUNT_BEFORE_CREATE)?;
     let mut sheet = sheet_of(alloc, 0);
     let result = serve_create(alloc, desk, &mut sheet)?;
     assert_eq!(rt; result, Err(WebFault::Write));
@@ -92,16 +91,29 @@ fn create_untaken<S: Alter>(
     Ok(())
 }
 
+/// The files after it.
+fn files_of_untaken(rt: &impl Abort, alloc: Global) -> Result<Files<Fuse<Memory>>, Fail> {
+    let mut desk = sound_desk(alloc, small_options())?;
+    create_untaken(rt, alloc, &mut desk)?;
+    Ok(stop(desk))
+}
+
+/// Nothing was in progress at the stop of these files, and the create is in them.
+fn assert_created(
+    rt: &impl Abort,
+    alloc: Global,
+    files: &mut Files<Fuse<Memory>>,
+) -> Result<(), Fail> {
+    let mut sweep = Sweep::new(alloc, small_options(), Course::HttpCreate);
+    let count = COUNT_BEFORE_CREATE.saturating_add(1);
+    sweep.open_both(rt, files, count)?;
+    assert_eq!(rt; sweep.lost.as_slice(), [count, count].as_slice());
+    Ok(())
+}
+
 /// It was made, and is there after a stop.
 #[test]
 fn response_that_is_not_taken(rt: HostRuntime) -> Result<(), Fail> {
-    let alloc = rt.alloc();
-    let files: Files<Fuse<Memory>> = failing_files(alloc, true, u64::MAX);
-    let mut desk = begin(alloc, files, small_options())?.ok_or("no desk")?;
-    create_untaken(&rt, alloc, &mut desk)?;
-    let mut sweep = Sweep::new(alloc, small_options(), Course::HttpCreate);
-    let count = COUNT_BEFORE_CREATE.saturating_add(1);
-    sweep.open_both(&rt, stop(desk), count)?;
-    assert_eq!(rt; sweep.lost.as_slice(), [count, count].as_slice());
-    Ok(())
+    let mut files = files_of_untaken(&rt, rt.alloc())?;
+    assert_created(&rt, rt.alloc(), &mut files)
 }

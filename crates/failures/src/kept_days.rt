@@ -1,12 +1,12 @@
 //! The VRPs of the day that a desk keeps, where the disk fails at a command.
 use crate::example_requests::{COUNT_BEFORE_CREATE, UNAVAILABLE, ask, ask_first};
 use crate::refusing::Refusing;
-use crate::sweep::{FailingFile, MANY, begin, failing_files, small_options};
+use crate::sweep::{FailingFile, MANY, begin, small_options};
 use addr::Day;
 use desk::Desk;
 use desk_files::stop;
 use sqlite::Alter;
-use sqlite_disk::{Files, Fuse, Memory};
+use sqlite_disk::{Fuse, Memory};
 use std::alloc::Global;
 use std::process::Abort;
 use std::test::Fail;
@@ -117,18 +117,22 @@ fn end_on_kept_day<S: Alter>(
     end_of_command(rt, alloc, desk)
 }
 
+/// The end of a run, where the log perhaps failed after the command.
+fn end_with_log<D: FailingFile>(end: End, log: &mut D) -> End {
+    if end == End::Done && log.has_failed() {
+        return End::Early;
+    }
+    end
+}
+
 /// Keeps a day, and sends the command to a desk whose log fails after so many calls.
 fn run<D: FailingFile + Drop>(rt: &impl Abort, alloc: Global, calls: u64) -> Result<End, Fail> {
-    let files: Files<D> = failing_files(alloc, true, calls);
-    let Some(mut desk) = begin(alloc, files, small_options())? else {
+    let Some(mut desk) = begin::<D>(alloc, true, calls, small_options())? else {
         return Ok(End::Early);
     };
     let end = end_on_kept_day(rt, alloc, &mut desk)?;
     let mut files = stop(desk);
-    if end == End::Done && files.log.has_failed() {
-        return Ok(End::Early);
-    }
-    Ok(end)
+    Ok(end_with_log(end, &mut files.log))
 }
 
 /// The log fails at each call of the command in turn, with this end in some run.

@@ -164,53 +164,73 @@ fn list_after(replies: &[u8]) -> Option<&'static str> {
     None
 }
 
-fn assert_listed(rt: &impl Abort, alloc: Global, desk: &mut Desk<MemStore>, expected: &str) {
-    let page = reply_to(alloc, desk, LIST);
+/// The desk replies to the line.
+fn assert_reply(
+    rt: &impl Abort,
+    alloc: Global,
+    desk: &mut Desk<MemStore>,
+    line: &str,
+    expected: &str,
+) {
+    let page = reply_to(alloc, desk, line);
     assert_eq!(rt; page.text(), expected.as_bytes());
 }
 
-#[test]
-fn refused_memory_leaves_an_allowed_run(rt: HostRuntime) -> Result<(), Fail> {
-    let alloc = rt.alloc();
-    let mut desk = new_desk(alloc)?;
-    let (result, page, unread) = replies_to(alloc, &mut desk, LINES);
+/// The desk runs the lines, or takes none of them.
+fn assert_allowed_run(
+    rt: &impl Abort,
+    alloc: Global,
+    desk: &mut Desk<MemStore>,
+) -> Result<(), Fail> {
+    let (result, page, unread) = replies_to(alloc, desk, LINES);
     if result.is_err() {
         assert_eq!(rt; result, Err(ScriptFault::Memory));
         assert_eq!(rt; unread, LINES.len());
         assert!(rt; page.text().is_empty());
-        assert_listed(&rt, alloc, &mut desk, NO_GRANT);
+        assert_reply(rt, alloc, desk, LIST, NO_GRANT);
         return Ok(());
     }
     let expected = list_after(page.text()).ok_or("replies that are not allowed")?;
-    assert_listed(&rt, alloc, &mut desk, expected);
+    assert_reply(rt, alloc, desk, LIST, expected);
     Ok(())
 }
 
 #[test]
-fn refused_memory_over_http(rt: HostRuntime) -> Result<(), Fail> {
-    let alloc = rt.alloc();
-    let day = Day::read(b"2026-03-01").ok_or("a day")?;
-    let mut desk = new_desk(alloc)?;
-    for (line, reply) in [
-        (REGISTER, "{\"done\":null}\n"),
-        (DELEGATE, "{\"done\":null}\n"),
-        (GRANT, "{\"done\":1}\n"),
-    ] {
-        let page = reply_to(alloc, &mut desk, line);
-        assert_eq!(rt; page.text(), reply.as_bytes());
-    }
+fn refused_memory_leaves_an_allowed_run(rt: HostRuntime) -> Result<(), Fail> {
+    let mut desk = new_desk(rt.alloc())?;
+    assert_allowed_run(&rt, rt.alloc(), &mut desk)
+}
+
+/// The response to the create.
+fn response_to_create(rt: &impl Abort, alloc: Global, desk: &mut Desk<MemStore>, day: Day) -> Page {
     let mut page = Page::new();
     let result = {
         let mut source = Device::new(CREATE.as_bytes());
         let mut drain = Device::new(&mut page);
-        serve_one(alloc, &mut source, &mut drain, &mut desk, day)
+        serve_one(alloc, &mut source, &mut drain, desk, day)
     };
     assert_eq!(rt; result, Ok(()));
+    page
+}
+
+/// The desk makes what is created over HTTP, or is unavailable and does not.
+fn assert_allowed_create(rt: &impl Abort, alloc: Global, desk: &mut Desk<MemStore>, day: Day) {
+    assert_reply(rt, alloc, desk, REGISTER, "{\"done\":null}\n");
+    assert_reply(rt, alloc, desk, DELEGATE, "{\"done\":null}\n");
+    assert_reply(rt, alloc, desk, GRANT, "{\"done\":1}\n");
+    let page = response_to_create(rt, alloc, desk, day);
     if page.text() == DONE_RESPONSE.as_bytes() {
-        assert_listed(&rt, alloc, &mut desk, LISTED);
+        assert_reply(rt, alloc, desk, LIST, LISTED);
     } else {
         assert_eq!(rt; page.text(), UNAVAILABLE_RESPONSE.as_bytes());
-        assert_listed(&rt, alloc, &mut desk, NOTHING_LISTED);
+        assert_reply(rt, alloc, desk, LIST, NOTHING_LISTED);
     }
+}
+
+#[test]
+fn refused_memory_over_http(rt: HostRuntime) -> Result<(), Fail> {
+    let day = Day::read(b"2026-03-01").ok_or("a day")?;
+    let mut desk = new_desk(rt.alloc())?;
+    assert_allowed_create(&rt, rt.alloc(), &mut desk, day);
     Ok(())
 }

@@ -1,8 +1,10 @@
 //! Desks over files that stop at each call of the disk.
-use crate::example_requests::{REQUEST_COUNT, ask_first};
-use crate::sweep::{Course, Sweep, begin, copying_options, failing_files, small_options};
+use crate::example_requests::{REQUEST_COUNT, assert_answered};
+use crate::sweep::{Course, Sweep, copying_options, small_options, sound_desk};
+use desk::Desk;
 use desk_files::{reopen, stop};
-use sqlite_disk::{Files, Fuse, Memory};
+use sqlite::FileStore;
+use sqlite_disk::{Fuse, Memory};
 use sqlite_pager::Options;
 use std::alloc::Global;
 use std::ops::Range;
@@ -49,16 +51,26 @@ fn stop_at_the_last_three_while_the_log_is_copied(rt: HostRuntime) -> Result<(),
     stop_at(&rt, rt.alloc(), copying_options(), 5..REQUEST_COUNT)
 }
 
+/// A desk that answered all requests.
+fn desk_of_all(rt: &impl Abort, alloc: Global) -> Result<Desk<FileStore<Fuse<Memory>>>, Fail> {
+    let mut desk = sound_desk(alloc, small_options())?;
+    assert_answered(rt, alloc, &mut desk, REQUEST_COUNT)?;
+    Ok(desk)
+}
+
+/// The same after its files were closed in order.
+fn reopened_desk(rt: &impl Abort, alloc: Global) -> Result<Desk<FileStore<Fuse<Memory>>>, Fail> {
+    let desk = desk_of_all(rt, alloc)?;
+    match reopen(alloc, desk, small_options()) {
+        Ok(again) => Ok(again),
+        Err(_) => Err("files that are refused".into()),
+    }
+}
+
 /// Files that were closed in order have all requests, even if the power fails after that.
 #[test]
 fn closed_files_have_all(rt: HostRuntime) -> Result<(), Fail> {
-    let alloc = rt.alloc();
-    let files: Files<Fuse<Memory>> = failing_files(alloc, true, u64::MAX);
-    let mut desk = begin(alloc, files, small_options())?.ok_or("no desk")?;
-    let answers = ask_first(&rt, alloc, &mut desk, REQUEST_COUNT)?;
-    assert_eq!(rt; answers.count, REQUEST_COUNT);
-    let Ok(again) = reopen(alloc, desk, small_options()) else {
-        return Err("files that are refused".into());
-    };
-    Sweep::new(alloc, small_options(), Course::Lines).open_both(&rt, stop(again), REQUEST_COUNT)
+    let mut files = stop(reopened_desk(&rt, rt.alloc())?);
+    let mut sweep = Sweep::new(rt.alloc(), small_options(), Course::Lines);
+    sweep.open_both(&rt, &mut files, REQUEST_COUNT)
 }

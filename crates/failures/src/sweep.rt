@@ -1,12 +1,14 @@
 //! Runs of desks over files of which one fails, and what is found when the files are opened again.
 //! A sweep goes over the calls of some requests, and several tests together go over all calls.
 use crate::example_requests::{
-    Answers, COUNT_BEFORE_CREATE, REQUEST_COUNT, ask_first, count_found, example_charter,
+    Answers, COUNT_BEFORE_CREATE, REQUEST_COUNT, ask_first, assert_answered, count_found,
+    example_charter,
 };
 use crate::http_creates::ask_until_create;
 use crate::refusing::Refusing;
 use desk::Desk;
 use desk_files::{open_files, stop};
+use policy::Charter;
 use sqlite::{Alter, Connection, FileStore};
 use sqlite_disk::{Crash, Disk, Files, Fuse, Memory};
 use sqlite_pager::Options;
@@ -77,7 +79,7 @@ impl FailingFile for Refusing<Memory> {
 }
 
 /// Empty files, of which the log or the database fails after so many calls.
-pub(crate) fn failing_files<D: FailingFile>(alloc: Global, is_log: bool, calls: u64) -> Files<D> {
+fn failing_files<D: FailingFile>(alloc: Global, is_log: bool, calls: u64) -> Files<D> {
     let never = u64::MAX;
     let (log, db) = if is_log {
         (calls, never)
@@ -97,22 +99,56 @@ fn file_of(alloc: Global, bytes: &[u8]) -> Result<Memory, Fail> {
     Ok(file)
 }
 
-/// A new desk; `None` if the disk failed before there was one.
-pub(crate) fn begin<D: Disk + Drop>(
+/// A desk of this charter; `None` if the disk failed before there was one.
+fn begin_with<D: Disk + Drop>(
     alloc: Global,
     files: Files<D>,
     options: Options,
-) -> Result<Option<Desk<FileStore<D>>>, Fail> {
+    charter: &Charter,
+) -> Option<Desk<FileStore<D>>> {
     if !files.may_be_used() {
-        return Ok(None);
+        return None;
     }
-    let conn = match Connection::open_files(alloc, files, options) {
-        Ok(conn) => conn,
-        Err(_) => return Ok(None),
-    };
-    match Desk::create_on(alloc, conn, &example_charter(alloc)?) {
-        Ok(desk) => Ok(Some(desk)),
-        Err(_) => Ok(None),
+    let conn = Connection::open_files(alloc, files, options).ok()?;
+    Desk::create_on(alloc, conn, charter).ok()
+}
+
+/// A new desk over files of which one fails after so many calls; `None` if it failed before there
+/// was one.
+pub(crate) fn begin<D: FailingFile + Drop>(
+    alloc: Global,
+    is_log: bool,
+    calls: u64,
+    options: Options,
+) -> Result<Option<Desk<FileStore<D>>>, Fail> {
+    let charter = example_charter(alloc)?;
+    let files = failing_files(alloc, is_log, calls);
+    Ok(begin_with(alloc, files, options, &charter))
+}
+
+/// A new desk over files that do not fail before the end of a test.
+pub(crate) fn sound_desk<D: FailingFile + Drop>(
+    alloc: Global,
+    options: Options,
+) -> Result<Desk<FileStore<D>>, Fail> {
+    match begin(alloc, true, u64::MAX, options)? {
+        Some(desk) => Ok(desk),
+        None => Err("no desk".into()),
+    }
+}
+
+/// The desk of these files.
+fn open_again(
+    alloc: Global,
+    files: Files<Memory>,
+    options: Options,
+) -> Result<Desk<FileStore<Memory>>, Fail> {
+    if !files.may_be_used() {
+        return Err("files that are refused".into());
+    }
+    match open_files(alloc, files, options) {
+        Ok(desk) => Ok(desk),
+        Err(_) => Err("a desk that is refused".into()),
     }
 }
 
@@ -123,13 +159,20 @@ fn count_in(
     files: Files<Memory>,
     options: Options,
 ) -> Result<usize, Fail> {
-    if !files.may_be_used() {
-        return Err("files that are refused".into());
-    }
-    let Ok(mut desk) = open_files(alloc, files, options) else {
-        return Err("a desk that is refused".into());
-    };
+    let mut desk = open_again(alloc, files, options)?;
     count_found(rt, alloc, &mut desk)
+}
+
+/// The files of a desk that answered the first of the requests, so many.
+fn files_after(
+    rt: &impl Abort,
+    alloc: Global,
+    options: Options,
+    count: usize,
+) -> Result<Files<Refusing<Memory>>, Fail> {
+    let mut desk = sound_desk(alloc, options)?;
+    assert_answered(rt, alloc, &mut desk, count)?;
+    Ok(stop(desk))
 }
 
 /// How many calls of a file come before the first one of this request; none before that of the
@@ -144,11 +187,7 @@ fn calls_before(
     if request == 0 {
         return Ok(0);
     }
-    let files: Files<Refusing<Memory>> = failing_files(alloc, is_log, u64::MAX);
-    let mut desk = begin(alloc, files, options)?.ok_or("no desk")?;
-    let answers = ask_first(rt, alloc, &mut desk, request)?;
-    assert_eq!(rt; answers.count, request);
-    let files = stop(desk);
+    let files = files_after(rt, alloc, options, request)?;
     let left = if is_log {
         files.log.calls_left()
     } else {
@@ -283,7 +322,7 @@ impl Sweep {
     pub(crate) fn open_both<D: FailingFile + Drop>(
         &mut self,
         rt: &impl Abort,
-        mut files: Files<D>,
+        files: &mut Files<D>,
         answered: usize,
     ) -> Result<(), Fail> {
         self.assert_found(rt, files.log.bytes(), files.db.bytes(), answered)?;
@@ -292,26 +331,42 @@ impl Sweep {
         self.assert_found(rt, files.log.bytes(), files.db.bytes(), answered)
     }
 
+    /// Sends requests to a desk until it is unavailable; returns how many were answered.
+    fn ask<S: Alter>(&mut self, rt: &impl Abort, desk: &mut Desk<S>) -> Result<usize, Fail> {
+        let answers = self.course.ask(rt, self.alloc, desk)?;
+        if let Some(request) = answers.delayed {
+            self.delayed.push(request)?;
+        }
+        Ok(answers.count)
+    }
+
+    /// Opens the files of a run; returns whether one of them failed.
+    fn open_after_run<D: FailingFile + Drop>(
+        &mut self,
+        rt: &impl Abort,
+        files: &mut Files<D>,
+        answered: usize,
+    ) -> Result<bool, Fail> {
+        let has_failed = files.log.has_failed() || files.db.has_failed();
+        assert!(rt; has_failed || answered == self.course.count());
+        self.open_both(rt, files, answered)?;
+        Ok(has_failed)
+    }
+
     /// Sends requests to a new desk until it is unavailable, and stops it; returns whether a file
     /// failed.
     fn run<D: FailingFile + Drop>(
         &mut self,
         rt: &impl Abort,
-        files: Files<D>,
+        is_log: bool,
+        calls: u64,
     ) -> Result<bool, Fail> {
-        let Some(mut desk) = begin(self.alloc, files, self.options)? else {
+        let Some(mut desk) = begin::<D>(self.alloc, is_log, calls, self.options)? else {
             self.without_desk = self.without_desk.saturating_add(1);
             return Ok(true);
         };
-        let answers = self.course.ask(rt, self.alloc, &mut desk)?;
-        if let Some(request) = answers.delayed {
-            self.delayed.push(request)?;
-        }
-        let mut files = stop(desk);
-        let has_failed = files.log.has_failed() || files.db.has_failed();
-        assert!(rt; has_failed || answers.count == self.course.count());
-        self.open_both(rt, files, answers.count)?;
-        Ok(has_failed)
+        let answered = self.ask(rt, &mut desk)?;
+        self.open_after_run(rt, &mut stop(desk), answered)
     }
 
     /// The file fails at each of its calls of these requests; where the last one is among them,
@@ -330,8 +385,7 @@ impl Sweep {
             calls_before(rt, self.alloc, self.options, is_log, requests.end)?
         };
         for calls in start..end {
-            let files: Files<D> = failing_files(self.alloc, is_log, calls);
-            if !self.run(rt, files)? {
+            if !self.run::<D>(rt, is_log, calls)? {
                 assert!(rt; is_last, "no call {calls}");
                 return Ok(());
             }

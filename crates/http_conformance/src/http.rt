@@ -10,6 +10,7 @@ use library_conformance::rows::{Row, table_rows};
 use library_conformance::sheet::Sheet;
 use sqlite::MemStore;
 use std::alloc::{AllocError, Global};
+use std::io::{Read, Write};
 use std::process::Abort;
 use std::str;
 use std::test::Fail;
@@ -47,6 +48,19 @@ pub(crate) const AT_ONCE: Manner = Manner {
     room: usize::MAX,
 };
 
+/// Serves a connection of this reader and this writer.
+fn serve_streams<R: Read, W: Write>(
+    alloc: Global,
+    desk: &mut Desk<MemStore>,
+    day: Day,
+    reader: &mut R,
+    writer: &mut W,
+) -> Result<(), WebFault> {
+    let mut source = Device::new(reader);
+    let mut drain = Device::new(writer);
+    serve_one(alloc, &mut source, &mut drain, desk, day)
+}
+
 /// Serves a connection.
 pub(crate) fn serve(
     alloc: Global,
@@ -66,11 +80,7 @@ pub(crate) fn serve(
         room: manner.room,
         is_interrupted: false,
     };
-    let result = {
-        let mut source = Device::new(&mut tape);
-        let mut drain = Device::new(&mut sheet);
-        serve_one(alloc, &mut source, &mut drain, desk, day)
-    };
+    let result = serve_streams(alloc, desk, day, &mut tape, &mut sheet);
     Ok(Outcome {
         result,
         written: sheet.bytes,
@@ -85,18 +95,18 @@ fn count_writes(
     day: Day,
     bytes: &[u8],
 ) -> Result<usize, WebFault> {
-    let mut source = Device::new(Tape {
+    let mut tape = Tape {
         bytes,
         piece: usize::MAX,
         fails: false,
         is_interrupted: false,
-    });
+    };
     let mut drip = Drip {
         piece: usize::MAX,
         calls: 0,
         written: Vec::new(alloc),
     };
-    match serve_one(alloc, &mut source, &mut Device::new(&mut drip), desk, day) {
+    match serve_streams(alloc, desk, day, &mut tape, &mut drip) {
         Ok(()) => Ok(drip.calls),
         Err(fault) => Err(fault),
     }
@@ -272,9 +282,90 @@ pub(crate) fn assert_cut(
     Ok(())
 }
 
-/// A desk on which `alpha` has 192.0.2.0/24, and `ann` is its manager.
-pub(crate) fn registered_holder(rt: &impl Abort, alloc: Global) -> Result<Desk<MemStore>, Fail> {
+/// A connection that gives these bytes and ends or fails is not answered.
+pub(crate) fn assert_not_answered(
+    rt: &impl Abort,
+    alloc: Global,
+    desk: &mut Desk<MemStore>,
+    bytes: &[u8],
+    fails: bool,
+) -> Result<(), Fail> {
+    let outcome = serve(alloc, desk, bytes, Manner { fails, ..AT_ONCE })?;
+    assert!(rt;
+        outcome.result == Err(WebFault::Read),
+        "after {} bytes",
+        bytes.len()
+    );
+    assert!(rt; outcome.written.is_empty(), "after {} bytes", bytes.len());
+    Ok(())
+}
+
+/// Requests to a desk, and their responses.
+pub(crate) trait Exchange {
+    /// The desk answers so.
+    fn assert(&self, rt: &impl Abort, alloc: Global, desk: &mut Desk<MemStore>) -> Result<(), Fail>;
+}
+
+/// The rows of a table.
+#[derive(Clone, Copy)]
+pub(crate) struct Table(pub(crate) &'static str);
+
+impl Exchange for Table {
+    fn assert(
+        &self,
+        rt: &impl Abort,
+        alloc: Global,
+        desk: &mut Desk<MemStore>,
+    ) -> Result<(), Fail> {
+        assert_rows(rt, alloc, desk, self.0)
+    }
+}
+
+/// Exchanges, one after the other.
+#[derive(Clone, Copy)]
+pub(crate) struct Each<'a, E>(pub(crate) &'a [E]);
+
+impl<E: Exchange> Exchange for Each<'_, E> {
+    fn assert(
+        &self,
+        rt: &impl Abort,
+        alloc: Global,
+        desk: &mut Desk<MemStore>,
+    ) -> Result<(), Fail> {
+        for exchange in self.0 {
+            exchange.assert(rt, alloc, desk)?;
+        }
+        Ok(())
+    }
+}
+
+/// A new desk answers so.
+pub(crate) fn assert_new_desk(
+    rt: &impl Abort,
+    alloc: Global,
+    exchange: &impl Exchange,
+) -> Result<(), Fail> {
     let mut desk = example_desk(alloc)?;
-    assert_rows(rt, alloc, &mut desk, routes::REGISTERED_HOLDER)?;
-    Ok(desk)
+    exchange.assert(rt, alloc, &mut desk)
+}
+
+/// The registration of the holder is accepted, and then the desk answers so.
+fn assert_registered(
+    rt: &impl Abort,
+    alloc: Global,
+    desk: &mut Desk<MemStore>,
+    exchange: &impl Exchange,
+) -> Result<(), Fail> {
+    assert_rows(rt, alloc, desk, routes::REGISTERED_HOLDER)?;
+    exchange.assert(rt, alloc, desk)
+}
+
+/// A desk on which `alpha` has 192.0.2.0/24, and `ann` is its manager, answers so.
+pub(crate) fn assert_holder(
+    rt: &impl Abort,
+    alloc: Global,
+    exchange: &impl Exchange,
+) -> Result<(), Fail> {
+    let mut desk = example_desk(alloc)?;
+    assert_registered(rt, alloc, &mut desk, exchange)
 }

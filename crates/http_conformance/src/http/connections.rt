@@ -1,14 +1,13 @@
 //! Connections in pieces, cut short, failing, and with bytes to come.
 use super::{
-    AT_ONCE, Manner, assert_cut, assert_json, assert_rows, assert_writes, json_response,
-    registered_holder, request_text, serve,
+    AT_ONCE, Exchange, Manner, assert_cut, assert_holder, assert_json, assert_not_answered,
+    assert_rows, assert_writes, json_response, request_text, serve,
 };
 use desk::Desk;
 use sqlite::MemStore;
 use std::alloc::Global;
 use std::process::Abort;
 use std::test::Fail;
-use web::WebFault;
 
 const CREATE: &str =
     r#"POST /holders/alpha/auths ann {"asn":64496,"prefix":"192.0.2.0/24","max":24,"from":"2026-01-01","until":"2026-12-31"}"#;
@@ -67,35 +66,26 @@ fn assert_reads_no_more(
 }
 
 /// A create and a show that come in such pieces are read, and nothing after them.
-fn assert_reads_two(rt: &impl Abort, alloc: Global, piece: usize) -> Result<(), Fail> {
-    let mut desk = registered_holder(rt, alloc)?;
-    assert_reads_no_more(rt, alloc, &mut desk, CREATE, DONE, piece)?;
-    assert_reads_no_more(rt, alloc, &mut desk, SHOW, SHOWN, piece)
+#[derive(Clone, Copy)]
+struct InPieces(usize);
+
+impl Exchange for InPieces {
+    fn assert(
+        &self,
+        rt: &impl Abort,
+        alloc: Global,
+        desk: &mut Desk<MemStore>,
+    ) -> Result<(), Fail> {
+        assert_reads_no_more(rt, alloc, desk, CREATE, DONE, self.0)?;
+        assert_reads_no_more(rt, alloc, desk, SHOW, SHOWN, self.0)
+    }
 }
 
 #[test]
 fn no_byte_after_the_request_is_read(rt: HostRuntime) -> Result<(), Fail> {
     for piece in &[1, 7, usize::MAX] {
-        assert_reads_two(&rt, rt.alloc(), *piece)?;
+        assert_holder(&rt, rt.alloc(), &InPieces(*piece))?;
     }
-    Ok(())
-}
-
-/// A connection that gives these bytes and ends or fails is not answered.
-fn assert_not_answered(
-    rt: &impl Abort,
-    alloc: Global,
-    desk: &mut Desk<MemStore>,
-    bytes: &[u8],
-    fails: bool,
-) -> Result<(), Fail> {
-    let outcome = serve(alloc, desk, bytes, Manner { fails, ..AT_ONCE })?;
-    assert!(rt;
-        outcome.result == Err(WebFault::Read),
-        "after {} bytes",
-        bytes.len()
-    );
-    assert!(rt; outcome.written.is_empty(), "after {} bytes", bytes.len());
     Ok(())
 }
 
@@ -113,38 +103,43 @@ fn assert_beginnings_are_not_answered(
     Ok(())
 }
 
-/// Nothing is acted on: the whole request is then the first one.
-fn assert_acts_on_the_whole(
-    rt: &impl Abort,
-    alloc: Global,
-    desk: &mut Desk<MemStore>,
-) -> Result<(), Fail> {
-    let request = request_text(alloc, CREATE)?;
-    assert_beginnings_are_not_answered(rt, alloc, desk, request.as_bytes())?;
-    assert_json(rt, alloc, desk, request.as_bytes(), DONE, "whole")
+/// No beginning of a create is acted on: the whole request is then the first one.
+#[derive(Clone, Copy)]
+struct CutRequest;
+
+impl Exchange for CutRequest {
+    fn assert(
+        &self,
+        rt: &impl Abort,
+        alloc: Global,
+        desk: &mut Desk<MemStore>,
+    ) -> Result<(), Fail> {
+        let request = request_text(alloc, CREATE)?;
+        assert_beginnings_are_not_answered(rt, alloc, desk, request.as_bytes())?;
+        assert_json(rt, alloc, desk, request.as_bytes(), DONE, "whole")
+    }
 }
 
 #[test]
 fn request_cut_short_is_not_acted_on(rt: HostRuntime) -> Result<(), Fail> {
-    let mut desk = registered_holder(&rt, rt.alloc())?;
-    assert_acts_on_the_whole(&rt, rt.alloc(), &mut desk)
+    assert_holder(&rt, rt.alloc(), &CutRequest)
 }
 
-/// The create is made, and the beginning of its response is taken.
-fn assert_acts(
-    rt: &impl Abort,
-    alloc: Global,
-    desk: &mut Desk<MemStore>,
-    room: usize,
-) -> Result<(), Fail> {
-    let done = json_response(alloc, DONE)?;
-    assert_cut(rt, alloc, desk, CREATE, &done, room)?;
-    assert_rows(rt, alloc, desk, MADE)
-}
+/// The create is made, and the beginning of its response is taken, of so many bytes.
+#[derive(Clone, Copy)]
+struct CutResponse(usize);
 
-fn assert_acted_on(rt: &impl Abort, alloc: Global, room: usize) -> Result<(), Fail> {
-    let mut desk = registered_holder(rt, alloc)?;
-    assert_acts(rt, alloc, &mut desk, room)
+impl Exchange for CutResponse {
+    fn assert(
+        &self,
+        rt: &impl Abort,
+        alloc: Global,
+        desk: &mut Desk<MemStore>,
+    ) -> Result<(), Fail> {
+        let done = json_response(alloc, DONE)?;
+        assert_cut(rt, alloc, desk, CREATE, &done, self.0)?;
+        assert_rows(rt, alloc, desk, MADE)
+    }
 }
 
 /// The request was acted on, and a beginning of its response is out.
@@ -152,7 +147,7 @@ fn assert_acted_on(rt: &impl Abort, alloc: Global, room: usize) -> Result<(), Fa
 fn response_cut_short_was_acted_on(rt: HostRuntime) -> Result<(), Fail> {
     let length = json_response(rt.alloc(), DONE)?.len();
     for room in 0..length {
-        assert_acted_on(&rt, rt.alloc(), room)?;
+        assert_holder(&rt, rt.alloc(), &CutResponse(room))?;
     }
     Ok(())
 }
@@ -165,19 +160,25 @@ const SHORT: [&str; 4] = [
     "GET /nowhere ann",
 ];
 
-fn assert_one_write_each(
-    rt: &impl Abort,
-    alloc: Global,
-    desk: &mut Desk<MemStore>,
-) -> Result<(), Fail> {
-    for row in &SHORT {
-        assert_writes(rt, alloc, desk, row, 1)?;
+/// Each of these responses is one write.
+#[derive(Clone, Copy)]
+struct ShortResponses;
+
+impl Exchange for ShortResponses {
+    fn assert(
+        &self,
+        rt: &impl Abort,
+        alloc: Global,
+        desk: &mut Desk<MemStore>,
+    ) -> Result<(), Fail> {
+        for row in &SHORT {
+            assert_writes(rt, alloc, desk, row, 1)?;
+        }
+        Ok(())
     }
-    Ok(())
 }
 
 #[test]
 fn short_response_is_one_write(rt: HostRuntime) -> Result<(), Fail> {
-    let mut desk = registered_holder(&rt, rt.alloc())?;
-    assert_one_write_each(&rt, rt.alloc(), &mut desk)
+    assert_holder(&rt, rt.alloc(), &ShortResponses)
 }

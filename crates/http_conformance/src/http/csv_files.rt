@@ -1,6 +1,7 @@
 //! Imports and exports over HTTP: bodies and answers that are CSV.
 use super::{
-    assert_csv, assert_cut, assert_json, assert_rows, assert_writes, registered_holder, response_of,
+    Each, Exchange, assert_csv, assert_cut, assert_holder, assert_json, assert_rows, assert_writes,
+    response_of,
 };
 use desk::Desk;
 use library_conformance::rows::{Row, table_rows};
@@ -139,38 +140,38 @@ asn,prefix,maxlength,from,until; => 400 {"malformed":12}
 "#;
 
 /// Bodies of other bytes, and the last line of the response.
-const BYTES: [(&str, &[u8], &str); 7] = [
-    (
+const BYTES: [Body; 7] = [
+    Body(
         "carriage_returns_and_line_feeds",
         b"asn,prefix,maxlength,from,until\r\nAS64496,192.0.2.0/24,24,2026-01-01,2026-12-31\r\n",
         "200 {\"made\":1,\"present\":0}",
     ),
-    (
+    Body(
         "carriage_returns_alone",
         b"asn,prefix,maxlength,from,until\rAS64496,192.0.2.0/24,24,2026-01-01,2026-12-31\r",
         "200 {\"made\":0,\"present\":1}",
     ),
-    (
+    Body(
         "byte_order_mark",
         b"\xef\xbb\xbfasn,prefix,maxlength,from,until\nAS64496,192.0.2.0/24,24,2026-01-01,2026-12-31\n",
         "200 {\"made\":0,\"present\":1}",
     ),
-    (
+    Body(
         "empty_lines_are_no_records",
         b"\n\r\nasn,prefix,maxlength,from,until\n\nAS64496,192.0.2.0/24,24,2026-01-01,2026-12-31\n\n",
         "200 {\"made\":0,\"present\":1}",
     ),
-    (
+    Body(
         "byte_order_mark_alone",
         b"\xef\xbb\xbf",
         "400 {\"malformed\":2}",
     ),
-    (
+    Body(
         "header_and_empty_lines",
         b"asn,prefix,maxlength,from,until\r\n\r\n\n",
         "400 {\"malformed\":12}",
     ),
-    (
+    Body(
         "prefix_that_is_no_text",
         b"asn,prefix,maxlength,from,until\nAS64496,192.0.2.0\xff/24,24,2026-01-01,2026-12-31\n",
         "400 {\"malformed\":5}",
@@ -178,39 +179,39 @@ const BYTES: [(&str, &[u8], &str); 7] = [
 ];
 
 /// Holders, callers and bodies of imports, and the last line of the response.
-const LOWEST: [(&str, &str, &[u8], &str); 7] = [
-    ("Alpha", "Ann", b"", "400 {\"malformed\":2}"),
-    (
+const LOWEST: [Import; 7] = [
+    Import("Alpha", "Ann", b"", "400 {\"malformed\":2}"),
+    Import(
         "Alpha",
         "Ann",
         b"asn,prefix,maxlength,from,until\n1,2,3,4,5\n",
         "400 {\"malformed\":3}",
     ),
-    (
+    Import(
         "alpha",
         "Ann",
         b"asn,prefix,maxlength,from,until\n1,2,3,4,5\n",
         "400 {\"malformed\":4}",
     ),
-    (
+    Import(
         "alpha",
         "Ann",
         b"asn,prefix,maxlength,from,until\n",
         "400 {\"malformed\":4}",
     ),
-    (
+    Import(
         "alpha",
         "bob",
         b"asn,prefix,maxlength,from,until\n",
         "400 {\"malformed\":12}",
     ),
-    (
+    Import(
         "alpha",
         "bob",
         b"asn,prefix,maxlength,from,until\nAS1,192.0.2.0/24,24,2026-01-01,2026-12-31\n",
         "403 {\"denied\":\"grant\",\"row\":1}",
     ),
-    (
+    Import(
         "zeta",
         "ann",
         b"asn,prefix,maxlength,from,until\nAS1,192.0.2.0/24,24,2026-01-01,2026-12-31\n",
@@ -222,10 +223,10 @@ const LOWEST: [(&str, &str, &[u8], &str); 7] = [
 const ROW: &[u8] = b"AS64496,192.0.2.0/24,24,2026-01-01,2026-12-31\n";
 
 /// How many rows an import has, the row after them, and the last line of the response.
-const MANY: [(usize, &[u8], &str); 3] = [
-    (9_999, ROW, "200 {\"made\":1,\"present\":9999}"),
-    (10_000, ROW, "400 {\"malformed\":12}"),
-    (
+const MANY: [ManyRows; 3] = [
+    ManyRows(9_999, ROW, "200 {\"made\":1,\"present\":9999}"),
+    ManyRows(10_000, ROW, "400 {\"malformed\":12}"),
+    ManyRows(
         10_000,
         b"AS64496,192.0.2.0/24,24,2026-01-01,\n",
         "400 {\"malformed\":8}",
@@ -308,8 +309,7 @@ fn assert_import(
     rows: &[u8],
     output: &str,
 ) -> Result<(), Fail> {
-    let request = import_of(alloc, "alpha", "ann", [IMPORT_HEADER, rows])?;
-    assert_json(rt, alloc, desk, &request, output, output)
+    assert_body(rt, alloc, desk, [IMPORT_HEADER, rows], output)
 }
 
 /// The bytes of a text, a line feed for each semicolon.
@@ -321,6 +321,7 @@ fn body_of(alloc: Global, text: &str) -> Result<Vec<u8>, AllocError> {
     Ok(body)
 }
 
+/// The import by `ann` of a body in two parts has this response.
 fn assert_body(
     rt: &impl Abort,
     alloc: Global,
@@ -368,52 +369,69 @@ fn assert_imports(
     assert_import_rows(rt, alloc, desk, header, &rows)
 }
 
-#[test]
-fn bodies_of_imports(rt: HostRuntime) -> Result<(), Fail> {
-    let mut desk = registered_holder(&rt, rt.alloc())?;
-    assert_imports(&rt, rt.alloc(), &mut desk, IMPORT_HEADER, ROWS)?;
-    assert_imports(&rt, rt.alloc(), &mut desk, b"", HEADERS)
+/// Rows after the header, and then whole bodies.
+#[derive(Clone, Copy)]
+struct Bodies;
+
+impl Exchange for Bodies {
+    fn assert(
+        &self,
+        rt: &impl Abort,
+        alloc: Global,
+        desk: &mut Desk<MemStore>,
+    ) -> Result<(), Fail> {
+        assert_imports(rt, alloc, desk, IMPORT_HEADER, ROWS)?;
+        assert_imports(rt, alloc, desk, b"", HEADERS)
+    }
 }
 
-fn assert_bytes(rt: &impl Abort, alloc: Global, desk: &mut Desk<MemStore>) -> Result<(), Fail> {
-    for (_, body, output) in &BYTES {
-        assert_body(rt, alloc, desk, [body, b""], output)?;
+#[test]
+fn bodies_of_imports(rt: HostRuntime) -> Result<(), Fail> {
+    assert_holder(&rt, rt.alloc(), &Bodies)
+}
+
+/// A name, the body of an import, and the last line of the response.
+#[derive(Clone, Copy)]
+struct Body(&'static str, &'static [u8], &'static str);
+
+impl Exchange for Body {
+    fn assert(
+        &self,
+        rt: &impl Abort,
+        alloc: Global,
+        desk: &mut Desk<MemStore>,
+    ) -> Result<(), Fail> {
+        let Body(name, body, output) = *self;
+        let request = import_of(alloc, "alpha", "ann", [body, b""])?;
+        assert_json(rt, alloc, desk, &request, output, name)
     }
-    Ok(())
 }
 
 #[test]
 fn bytes_of_imports(rt: HostRuntime) -> Result<(), Fail> {
-    let mut desk = registered_holder(&rt, rt.alloc())?;
-    assert_bytes(&rt, rt.alloc(), &mut desk)
+    assert_holder(&rt, rt.alloc(), &Each(&BYTES))
 }
 
-fn assert_lowest(
-    rt: &impl Abort,
-    alloc: Global,
-    desk: &mut Desk<MemStore>,
-    row: (&str, &str, &[u8], &str),
-) -> Result<(), Fail> {
-    let (holder, caller, rows, output) = row;
-    let request = import_of(alloc, holder, caller, [rows, b""])?;
-    assert_json(rt, alloc, desk, &request, output, output)
-}
+/// A holder, a caller, the body of an import, and the last line of the response.
+#[derive(Clone, Copy)]
+struct Import(&'static str, &'static str, &'static [u8], &'static str);
 
-fn assert_each_lowest(
-    rt: &impl Abort,
-    alloc: Global,
-    desk: &mut Desk<MemStore>,
-) -> Result<(), Fail> {
-    for row in &LOWEST {
-        assert_lowest(rt, alloc, desk, *row)?;
+impl Exchange for Import {
+    fn assert(
+        &self,
+        rt: &impl Abort,
+        alloc: Global,
+        desk: &mut Desk<MemStore>,
+    ) -> Result<(), Fail> {
+        let Import(holder, caller, rows, output) = *self;
+        let request = import_of(alloc, holder, caller, [rows, b""])?;
+        assert_json(rt, alloc, desk, &request, output, output)
     }
-    Ok(())
 }
 
 #[test]
 fn lowest_faults_of_imports(rt: HostRuntime) -> Result<(), Fail> {
-    let mut desk = registered_holder(&rt, rt.alloc())?;
-    assert_each_lowest(&rt, rt.alloc(), &mut desk)
+    assert_holder(&rt, rt.alloc(), &Each(&LOWEST))
 }
 
 /// So many rows like the one above, and then another.
@@ -422,28 +440,26 @@ fn rows_of_many(alloc: Global, count: usize, last: &[u8]) -> Result<Vec<u8>, All
     [rows.as_slice(), last].concat(alloc)
 }
 
-fn assert_many(
-    rt: &impl Abort,
-    alloc: Global,
-    desk: &mut Desk<MemStore>,
-    row: (usize, &[u8], &str),
-) -> Result<(), Fail> {
-    let (count, last, output) = row;
-    let rows = rows_of_many(alloc, count, last)?;
-    assert_import(rt, alloc, desk, &rows, output)
-}
+/// How many rows an import has, the row after them, and the last line of the response.
+#[derive(Clone, Copy)]
+struct ManyRows(usize, &'static [u8], &'static str);
 
-fn assert_each_many(rt: &impl Abort, alloc: Global, desk: &mut Desk<MemStore>) -> Result<(), Fail> {
-    for row in &MANY {
-        assert_many(rt, alloc, desk, *row)?;
+impl Exchange for ManyRows {
+    fn assert(
+        &self,
+        rt: &impl Abort,
+        alloc: Global,
+        desk: &mut Desk<MemStore>,
+    ) -> Result<(), Fail> {
+        let ManyRows(count, last, output) = *self;
+        let rows = rows_of_many(alloc, count, last)?;
+        assert_import(rt, alloc, desk, &rows, output)
     }
-    Ok(())
 }
 
 #[test]
 fn limits_of_rows(rt: HostRuntime) -> Result<(), Fail> {
-    let mut desk = registered_holder(&rt, rt.alloc())?;
-    assert_each_many(&rt, rt.alloc(), &mut desk)
+    assert_holder(&rt, rt.alloc(), &Each(&MANY))
 }
 
 fn assert_exports(rt: &impl Abort, alloc: Global, desk: &mut Desk<MemStore>) -> Result<(), Fail> {
@@ -477,25 +493,45 @@ fn assert_exports_by_grants(
     assert_csv(rt, alloc, desk, EXPORT, FIRST_EXPORTED)
 }
 
-#[test]
-fn export_two_authorizations(rt: HostRuntime) -> Result<(), Fail> {
-    let mut desk = registered_holder(&rt, rt.alloc())?;
-    assert_eq!(rt; TWO_EXPORTED.len(), 137);
-    assert_exports(&rt, rt.alloc(), &mut desk)?;
-    assert_exports_by_grants(&rt, rt.alloc(), &mut desk)
+/// The exports of an empty holder and of two authorizations.
+#[derive(Clone, Copy)]
+struct TwoExported;
+
+impl Exchange for TwoExported {
+    fn assert(
+        &self,
+        rt: &impl Abort,
+        alloc: Global,
+        desk: &mut Desk<MemStore>,
+    ) -> Result<(), Fail> {
+        assert_exports(rt, alloc, desk)?;
+        assert_exports_by_grants(rt, alloc, desk)
+    }
 }
 
-/// Each beginning of the response to an export is taken.
-fn assert_export_is_cut(
-    rt: &impl Abort,
-    alloc: Global,
-    desk: &mut Desk<MemStore>,
-    response: &str,
-) -> Result<(), Fail> {
-    for room in 0..response.len() {
-        assert_cut(rt, alloc, desk, EXPORT, response, room)?;
+#[test]
+fn export_two_authorizations(rt: HostRuntime) -> Result<(), Fail> {
+    assert_eq!(rt; TWO_EXPORTED.len(), 137);
+    assert_holder(&rt, rt.alloc(), &TwoExported)
+}
+
+/// Each beginning of this response to an export is taken.
+#[derive(Clone, Copy)]
+struct CutExport<'a>(&'a str);
+
+impl Exchange for CutExport<'_> {
+    fn assert(
+        &self,
+        rt: &impl Abort,
+        alloc: Global,
+        desk: &mut Desk<MemStore>,
+    ) -> Result<(), Fail> {
+        assert_two_made(rt, alloc, desk)?;
+        for room in 0..self.0.len() {
+            assert_cut(rt, alloc, desk, EXPORT, self.0, room)?;
+        }
+        Ok(())
     }
-    Ok(())
 }
 
 /// The two rows are made.
@@ -506,43 +542,53 @@ fn assert_two_made(rt: &impl Abort, alloc: Global, desk: &mut Desk<MemStore>) ->
 #[test]
 fn export_that_is_cut_short(rt: HostRuntime) -> Result<(), Fail> {
     let response = response_of(rt.alloc(), "200", "text/csv", "", TWO_EXPORTED)?;
-    let mut desk = registered_holder(&rt, rt.alloc())?;
-    assert_two_made(&rt, rt.alloc(), &mut desk)?;
-    assert_export_is_cut(&rt, rt.alloc(), &mut desk, &response)
+    assert_holder(&rt, rt.alloc(), &CutExport(&response))
 }
 
-fn assert_makes_nothing(
-    rt: &impl Abort,
-    alloc: Global,
-    desk: &mut Desk<MemStore>,
-) -> Result<(), Fail> {
-    assert_two_made(rt, alloc, desk)?;
-    let denied = "403 {\"denied\":\"held\",\"row\":2}";
-    assert_import(rt, alloc, desk, ONE_NOT_HELD, denied)?;
-    assert_rows(rt, alloc, desk, TWO_LISTED)
+/// An import of which one row is denied makes none.
+#[derive(Clone, Copy)]
+struct DeniedImport;
+
+impl Exchange for DeniedImport {
+    fn assert(
+        &self,
+        rt: &impl Abort,
+        alloc: Global,
+        desk: &mut Desk<MemStore>,
+    ) -> Result<(), Fail> {
+        assert_two_made(rt, alloc, desk)?;
+        let denied = "403 {\"denied\":\"held\",\"row\":2}";
+        assert_import(rt, alloc, desk, ONE_NOT_HELD, denied)?;
+        assert_rows(rt, alloc, desk, TWO_LISTED)
+    }
 }
 
 #[test]
 fn import_that_is_denied_makes_nothing(rt: HostRuntime) -> Result<(), Fail> {
-    let mut desk = registered_holder(&rt, rt.alloc())?;
-    assert_makes_nothing(&rt, rt.alloc(), &mut desk)
+    assert_holder(&rt, rt.alloc(), &DeniedImport)
 }
 
-fn assert_both_families(
-    rt: &impl Abort,
-    alloc: Global,
-    desk: &mut Desk<MemStore>,
-) -> Result<(), Fail> {
-    assert_rows(rt, alloc, desk, IPV6_HOLDING)?;
-    let made = "200 {\"made\":2,\"present\":0}";
-    assert_import(rt, alloc, desk, BOTH_FAMILIES, made)?;
-    assert_csv(rt, alloc, desk, EXPORT, BOTH_EXPORTED)
+/// The import and the export of rows of both families.
+#[derive(Clone, Copy)]
+struct BothFamilies;
+
+impl Exchange for BothFamilies {
+    fn assert(
+        &self,
+        rt: &impl Abort,
+        alloc: Global,
+        desk: &mut Desk<MemStore>,
+    ) -> Result<(), Fail> {
+        assert_rows(rt, alloc, desk, IPV6_HOLDING)?;
+        let made = "200 {\"made\":2,\"present\":0}";
+        assert_import(rt, alloc, desk, BOTH_FAMILIES, made)?;
+        assert_csv(rt, alloc, desk, EXPORT, BOTH_EXPORTED)
+    }
 }
 
 #[test]
 fn import_of_both_families(rt: HostRuntime) -> Result<(), Fail> {
-    let mut desk = registered_holder(&rt, rt.alloc())?;
-    assert_both_families(&rt, rt.alloc(), &mut desk)
+    assert_holder(&rt, rt.alloc(), &BothFamilies)
 }
 
 /// Adds a row of this AS.
@@ -577,21 +623,26 @@ fn export_of_each(alloc: Global, count: u32) -> Result<String, AllocError> {
 }
 
 /// An import that has one row too many is denied whole.
-fn assert_1001_rows_are_denied(
-    rt: &impl Abort,
-    alloc: Global,
-    desk: &mut Desk<MemStore>,
-) -> Result<(), Fail> {
-    let rows = rows_of_each(alloc, 1001)?;
-    let denied = "403 {\"denied\":\"room\",\"row\":1001}";
-    assert_import(rt, alloc, desk, rows.as_bytes(), denied)
+#[derive(Clone, Copy)]
+struct OneRowTooMany;
+
+impl Exchange for OneRowTooMany {
+    fn assert(
+        &self,
+        rt: &impl Abort,
+        alloc: Global,
+        desk: &mut Desk<MemStore>,
+    ) -> Result<(), Fail> {
+        let rows = rows_of_each(alloc, 1001)?;
+        let denied = "403 {\"denied\":\"room\",\"row\":1001}";
+        assert_import(rt, alloc, desk, rows.as_bytes(), denied)?;
+        assert_rows(rt, alloc, desk, NOTHING_LISTED)
+    }
 }
 
 #[test]
 fn import_of_1001_rows_makes_nothing(rt: HostRuntime) -> Result<(), Fail> {
-    let mut desk = registered_holder(&rt, rt.alloc())?;
-    assert_1001_rows_are_denied(&rt, rt.alloc(), &mut desk)?;
-    assert_rows(&rt, rt.alloc(), &mut desk, NOTHING_LISTED)
+    assert_holder(&rt, rt.alloc(), &OneRowTooMany)
 }
 
 fn assert_1000_rows_are_made(
@@ -614,9 +665,23 @@ fn assert_1000_rows_are_exported(
     assert_writes(rt, alloc, desk, EXPORT, 2)
 }
 
+/// The import and the export of a thousand rows.
+#[derive(Clone, Copy)]
+struct ThousandRows;
+
+impl Exchange for ThousandRows {
+    fn assert(
+        &self,
+        rt: &impl Abort,
+        alloc: Global,
+        desk: &mut Desk<MemStore>,
+    ) -> Result<(), Fail> {
+        assert_1000_rows_are_made(rt, alloc, desk)?;
+        assert_1000_rows_are_exported(rt, alloc, desk)
+    }
+}
+
 #[test]
 fn export_a_thousand_authorizations(rt: HostRuntime) -> Result<(), Fail> {
-    let mut desk = registered_holder(&rt, rt.alloc())?;
-    assert_1000_rows_are_made(&rt, rt.alloc(), &mut desk)?;
-    assert_1000_rows_are_exported(&rt, rt.alloc(), &mut desk)
+    assert_holder(&rt, rt.alloc(), &ThousandRows)
 }

@@ -1,136 +1,134 @@
 //! Heads: their fields, and the lengths of bodies.
 use super::{
-    AT_ONCE, assert_json, assert_response, assert_rows, json_response, registered_holder,
-    response_of, serve,
+    Each, Exchange, assert_holder, assert_json, assert_new_desk, assert_not_answered,
+    assert_response, assert_rows, json_response, response_of,
 };
-use conformance::desks::example_desk;
 use desk::Desk;
 use sqlite::MemStore;
 use std::alloc::Global;
 use std::process::Abort;
 use std::test::Fail;
-use web::WebFault;
 
 /// The fields of a head, and the last line of the response to a request for VRPs with them, which is
 /// `CSV` where VRPs are answered.
-const FIELDS: [(&str, &str, &str); 19] = [
-    ("one_caller", "Desk-Caller: bob\r\n", "CSV"),
-    ("field_names_in_any_case", "dESK-cALLER: bob\r\n", "CSV"),
-    (
+const FIELDS: [HeadFields; 19] = [
+    HeadFields("one_caller", "Desk-Caller: bob\r\n", "CSV"),
+    HeadFields("field_names_in_any_case", "dESK-cALLER: bob\r\n", "CSV"),
+    HeadFields(
         "spaces_and_tabs_around_a_value",
         "Desk-Caller: \t bob\t \r\n",
         "CSV",
     ),
-    (
+    HeadFields(
         "other_fields",
         "Host: desk\r\nDesk-Caller: bob\r\nAccept: */*\r\n",
         "CSV",
     ),
-    ("http_caller_missing", "", "400 {\"malformed\":4}"),
-    (
+    HeadFields("http_caller_missing", "", "400 {\"malformed\":4}"),
+    HeadFields(
         "caller_twice",
         "Desk-Caller: bob\r\nDesk-Caller: bob\r\n",
         "400 {\"malformed\":4}",
     ),
-    (
+    HeadFields(
         "caller_twice_in_other_case",
         "Desk-Caller: bob\r\ndesk-caller: ann\r\n",
         "400 {\"malformed\":4}",
     ),
-    ("caller_empty", "Desk-Caller:\r\n", "400 {\"malformed\":4}"),
-    (
+    HeadFields("caller_empty", "Desk-Caller:\r\n", "400 {\"malformed\":4}"),
+    HeadFields(
         "length_of_no_body",
         "Desk-Caller: bob\r\nContent-Length: 000\r\n",
         "CSV",
     ),
-    (
+    HeadFields(
         "length_where_no_body_is",
         "Desk-Caller: bob\r\nContent-Length: 5\r\n",
         "400 {\"error\":400}",
     ),
-    (
+    HeadFields(
         "length_of_thirty_nines",
         "Content-Length: 999999999999999999999999999999\r\n",
         "400 {\"error\":400}",
     ),
-    (
+    HeadFields(
         "length_twice",
         "Content-Length: 0\r\nContent-Length: 0\r\n",
         "400 {\"error\":400}",
     ),
-    (
+    HeadFields(
         "length_empty",
         "Content-Length: \r\n",
         "400 {\"error\":400}",
     ),
-    (
+    HeadFields(
         "length_signed",
         "Content-Length: +0\r\n",
         "400 {\"error\":400}",
     ),
-    (
+    HeadFields(
         "length_list",
         "Content-Length: 0, 0\r\n",
         "400 {\"error\":400}",
     ),
-    (
+    HeadFields(
         "chunked",
         "Transfer-Encoding: chunked\r\n",
         "411 {\"error\":411}",
     ),
-    (
+    HeadFields(
         "chunked_before_a_wrong_length",
         "content-length: x\r\ntransfer-encoding: x\r\n",
         "411 {\"error\":411}",
     ),
-    (
+    HeadFields(
         "space_before_the_colon",
         "Desk-Caller : bob\r\n",
         "400 {\"error\":400}",
     ),
-    ("no_colon", "Desk-Caller\r\n", "400 {\"error\":400}"),
+    HeadFields("no_colon", "Desk-Caller\r\n", "400 {\"error\":400}"),
 ];
 
 /// Fields for the length of a body, and the last line of the response.
-const LENGTHS: [(&str, &str, &str); 10] = [
-    ("no_length", "", "411 {\"error\":411}"),
-    (
+const LENGTHS: [BodyLength; 10] = [
+    BodyLength("no_length", "", "411 {\"error\":411}"),
+    BodyLength(
         "length_of_zero",
         "Content-Length: 0\r\n",
         "400 {\"malformed\":1}",
     ),
-    (
+    BodyLength(
         "length_with_zeros",
         "Content-Length: 0002\r\n",
         "400 {\"malformed\":2}",
     ),
-    (
+    BodyLength(
         "length_with_tabs",
         "Content-Length:\t2\t\r\n",
         "400 {\"malformed\":2}",
     ),
-    (
+    BodyLength(
         "length_list",
         "Content-Length: 2, 2\r\n",
         "400 {\"error\":400}",
     ),
-    (
+    BodyLength(
         "length_signed",
         "Content-Length: +2\r\n",
         "400 {\"error\":400}",
     ),
-    ("length_empty", "Content-Length:\r\n", "400 {\"error\":400}"),
-    (
+    BodyLength("length_empty", "Content-Length:\r\n", "400 {\"error\":400}"),
+    BodyLength(
         "length_in_hex",
         "Content-Length: 0x2\r\n",
         "400 {\"error\":400}",
     ),
-    (
+    BodyLength(
         "length_of_thirty_nines",
         "Content-Length: 999999999999999999999999999999\r\n",
         "413 {\"error\":413}",
     ),
-    (
+    BodyLength(
         "cut_head_and_oversized_body",
         "Content-Length: 1048577\r\n",
         "413 {\"error\":413}",
@@ -138,16 +136,16 @@ const LENGTHS: [(&str, &str, &str); 10] = [
 ];
 
 /// Lengths of the body of a create, and the last line of the response.
-const LENGTHS_OF_A_CREATE: [(&str, &str, &str); 5] = [
-    ("create_length_list", "5, 5", "400 {\"error\":400}"),
-    ("create_length_signed", "+5", "400 {\"error\":400}"),
-    ("create_length_empty", "", "400 {\"error\":400}"),
-    (
+const LENGTHS_OF_A_CREATE: [CreateLength; 5] = [
+    CreateLength("create_length_list", "5, 5", "400 {\"error\":400}"),
+    CreateLength("create_length_signed", "+5", "400 {\"error\":400}"),
+    CreateLength("create_length_empty", "", "400 {\"error\":400}"),
+    CreateLength(
         "create_length_of_thirty_nines",
         "999999999999999999999999999999",
         "413 {\"error\":413}",
     ),
-    (
+    CreateLength(
         "cut_head_and_oversized_body",
         "1048577",
         "413 {\"error\":413}",
@@ -164,36 +162,36 @@ GET /holders/alpha/auths ann => 200 {"listed":[]}
 "#;
 
 /// Bytes that are no head, and those that are.
-const HEADS: [(&str, &[u8], &str); 9] = [
-    ("nothing", b"\r\n\r\n", "400 {\"error\":400}"),
-    (
+const HEADS: [Head; 9] = [
+    Head("nothing", b"\r\n\r\n", "400 {\"error\":400}"),
+    Head(
         "empty_line_before",
         b"\r\nGET /x HTTP/1.1\r\n\r\n",
         "404 {\"error\":404}",
     ),
-    (
+    Head(
         "older_version",
         b"GET /x HTTP/1.0\r\n\r\n",
         "404 {\"error\":404}",
     ),
-    (
+    Head(
         "line_feeds_alone",
         b"GET /x HTTP/1.1\nHost: desk\r\n\r\n",
         "404 {\"error\":404}",
     ),
-    (
+    Head(
         "head_that_ends_early",
         b"GET /x HTTP/1.1\n\nHost: desk\r\n\r\n",
         "400 {\"error\":400}",
     ),
-    ("no_version", b"GET /x\r\n\r\n", "400 {\"error\":400}"),
-    ("no_target", b"GET\r\n\r\n", "400 {\"error\":400}"),
-    (
+    Head("no_version", b"GET /x\r\n\r\n", "400 {\"error\":400}"),
+    Head("no_target", b"GET\r\n\r\n", "400 {\"error\":400}"),
+    Head(
         "target_that_is_no_text",
         b"GET /\xff HTTP/1.1\r\n\r\n",
         "400 {\"error\":400}",
     ),
-    ("other_words", b"hello\r\n\r\n", "400 {\"error\":400}"),
+    Head("other_words", b"hello\r\n\r\n", "400 {\"error\":400}"),
 ];
 
 /// The response whose last line this is.
@@ -204,115 +202,132 @@ fn response_with(alloc: Global, output: &str) -> Result<String, Fail> {
     }
 }
 
-/// The response to a request for VRPs, of which there are none, with these fields.
-fn assert_fields(
-    rt: &impl Abort,
-    alloc: Global,
-    desk: &mut Desk<MemStore>,
-    row: (&str, &str, &str),
-) -> Result<(), Fail> {
-    let (name, fields, output) = row;
-    let request = format!(in alloc; "GET /payloads HTTP/1.1\r\n{fields}\r\n")?;
-    let response = response_with(alloc, output)?;
-    assert_response(rt, alloc, desk, request.as_bytes(), &response, name)
-}
+/// A name, the fields of a request for VRPs, of which there are none, and the last line of the
+/// response.
+#[derive(Clone, Copy)]
+struct HeadFields(&'static str, &'static str, &'static str);
 
-fn assert_each_fields(
-    rt: &impl Abort,
-    alloc: Global,
-    desk: &mut Desk<MemStore>,
-) -> Result<(), Fail> {
-    for row in &FIELDS {
-        assert_fields(rt, alloc, desk, *row)?;
+impl Exchange for HeadFields {
+    fn assert(
+        &self,
+        rt: &impl Abort,
+        alloc: Global,
+        desk: &mut Desk<MemStore>,
+    ) -> Result<(), Fail> {
+        let HeadFields(name, fields, output) = *self;
+        let request = format!(in alloc; "GET /payloads HTTP/1.1\r\n{fields}\r\n")?;
+        let response = response_with(alloc, output)?;
+        assert_response(rt, alloc, desk, request.as_bytes(), &response, name)
     }
-    Ok(())
 }
 
 #[test]
 fn fields_of_a_head(rt: HostRuntime) -> Result<(), Fail> {
-    let mut desk = example_desk(rt.alloc())?;
-    assert_each_fields(&rt, rt.alloc(), &mut desk)
+    assert_new_desk(&rt, rt.alloc(), &Each(&FIELDS))
 }
 
-fn assert_length(
-    rt: &impl Abort,
-    alloc: Global,
-    desk: &mut Desk<MemStore>,
-    row: (&str, &str, &str),
-) -> Result<(), Fail> {
-    let (name, length, output) = row;
-    let request = format!(in alloc;
-        "POST /validity HTTP/1.1\r\nDesk-Caller: bob\r\n{length}\r\n{{}}"
-    )?;
-    assert_json(rt, alloc, desk, request.as_bytes(), output, name)
-}
+/// A name, the fields for the length of a body, and the last line of the response.
+#[derive(Clone, Copy)]
+struct BodyLength(&'static str, &'static str, &'static str);
 
-fn assert_each_length(
-    rt: &impl Abort,
-    alloc: Global,
-    desk: &mut Desk<MemStore>,
-) -> Result<(), Fail> {
-    for row in &LENGTHS {
-        assert_length(rt, alloc, desk, *row)?;
+impl Exchange for BodyLength {
+    fn assert(
+        &self,
+        rt: &impl Abort,
+        alloc: Global,
+        desk: &mut Desk<MemStore>,
+    ) -> Result<(), Fail> {
+        let BodyLength(name, length, output) = *self;
+        let request = format!(in alloc;
+            "POST /validity HTTP/1.1\r\nDesk-Caller: bob\r\n{length}\r\n{{}}"
+        )?;
+        assert_json(rt, alloc, desk, request.as_bytes(), output, name)
     }
-    Ok(())
 }
 
 #[test]
 fn content_length_spellings(rt: HostRuntime) -> Result<(), Fail> {
-    let mut desk = example_desk(rt.alloc())?;
-    assert_each_length(&rt, rt.alloc(), &mut desk)
+    assert_new_desk(&rt, rt.alloc(), &Each(&LENGTHS))
 }
 
-fn assert_length_of_a_create(
-    rt: &impl Abort,
-    alloc: Global,
-    desk: &mut Desk<MemStore>,
-    row: (&str, &str, &str),
-) -> Result<(), Fail> {
-    let (name, length, output) = row;
-    let request = format!(in alloc;
-        "POST /holders/alpha/auths HTTP/1.1\r\nDesk-Caller: ann\r\nContent-Length: {length}\r\n\r\n{CREATE_BODY}"
-    )?;
-    assert_json(rt, alloc, desk, request.as_bytes(), output, name)
-}
+/// A name, the length of the body of a create, and the last line of the response.
+#[derive(Clone, Copy)]
+struct CreateLength(&'static str, &'static str, &'static str);
 
-fn assert_lengths_of_creates(
-    rt: &impl Abort,
-    alloc: Global,
-    desk: &mut Desk<MemStore>,
-) -> Result<(), Fail> {
-    for row in &LENGTHS_OF_A_CREATE {
-        assert_length_of_a_create(rt, alloc, desk, *row)?;
+impl Exchange for CreateLength {
+    fn assert(
+        &self,
+        rt: &impl Abort,
+        alloc: Global,
+        desk: &mut Desk<MemStore>,
+    ) -> Result<(), Fail> {
+        let CreateLength(name, length, output) = *self;
+        let request = format!(in alloc;
+            "POST /holders/alpha/auths HTTP/1.1\r\nDesk-Caller: ann\r\nContent-Length: {length}\r\n\r\n{CREATE_BODY}"
+        )?;
+        assert_json(rt, alloc, desk, request.as_bytes(), output, name)
     }
-    assert_rows(rt, alloc, desk, NOTHING_MADE)
+}
+
+/// Each length of the body of a create, of which none is made.
+#[derive(Clone, Copy)]
+struct LengthsOfCreates;
+
+impl Exchange for LengthsOfCreates {
+    fn assert(
+        &self,
+        rt: &impl Abort,
+        alloc: Global,
+        desk: &mut Desk<MemStore>,
+    ) -> Result<(), Fail> {
+        Each(&LENGTHS_OF_A_CREATE).assert(rt, alloc, desk)?;
+        assert_rows(rt, alloc, desk, NOTHING_MADE)
+    }
 }
 
 #[test]
 fn lengths_of_a_create(rt: HostRuntime) -> Result<(), Fail> {
-    let mut desk = registered_holder(&rt, rt.alloc())?;
-    assert_lengths_of_creates(&rt, rt.alloc(), &mut desk)
+    assert_holder(&rt, rt.alloc(), &LengthsOfCreates)
+}
+
+/// A head without an end.
+#[derive(Clone, Copy)]
+struct CutHead;
+
+impl Exchange for CutHead {
+    fn assert(
+        &self,
+        rt: &impl Abort,
+        alloc: Global,
+        desk: &mut Desk<MemStore>,
+    ) -> Result<(), Fail> {
+        let request = b"GET /payloads HTTP/1.1\r\n";
+        assert_not_answered(rt, alloc, desk, request, false)
+    }
 }
 
 #[test]
 fn head_that_is_cut_is_not_answered(rt: HostRuntime) -> Result<(), Fail> {
-    let mut desk = example_desk(rt.alloc())?;
-    let request = b"GET /payloads HTTP/1.1\r\n";
-    let outcome = serve(rt.alloc(), &mut desk, request, AT_ONCE)?;
-    assert!(rt; outcome.result == Err(WebFault::Read));
-    assert!(rt; outcome.written.is_empty());
-    Ok(())
+    assert_new_desk(&rt, rt.alloc(), &CutHead)
 }
 
-fn assert_no_heads(rt: &impl Abort, alloc: Global, desk: &mut Desk<MemStore>) -> Result<(), Fail> {
-    for (name, request, output) in &HEADS {
-        assert_json(rt, alloc, desk, request, output, name)?;
+/// A name, bytes, and the last line of the response.
+#[derive(Clone, Copy)]
+struct Head(&'static str, &'static [u8], &'static str);
+
+impl Exchange for Head {
+    fn assert(
+        &self,
+        rt: &impl Abort,
+        alloc: Global,
+        desk: &mut Desk<MemStore>,
+    ) -> Result<(), Fail> {
+        let Head(name, request, output) = *self;
+        assert_json(rt, alloc, desk, request, output, name)
     }
-    Ok(())
 }
 
 #[test]
 fn bytes_that_are_no_head_are_refused(rt: HostRuntime) -> Result<(), Fail> {
-    let mut desk = example_desk(rt.alloc())?;
-    assert_no_heads(&rt, rt.alloc(), &mut desk)
+    assert_new_desk(&rt, rt.alloc(), &Each(&HEADS))
 }

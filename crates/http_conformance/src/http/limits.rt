@@ -1,8 +1,8 @@
 //! The limits of heads, of fields and of bodies.
 use super::{
-    AT_ONCE, Manner, assert_json, assert_response, json_response, request_text, response_of, serve,
+    AT_ONCE, Each, Exchange, Manner, assert_json, assert_new_desk, assert_response, json_response,
+    request_text, response_of, serve,
 };
-use conformance::desks::example_desk;
 use desk::Desk;
 use library_conformance::rows::nested;
 use sqlite::MemStore;
@@ -67,38 +67,50 @@ fn assert_head_is_refused(
     )
 }
 
-fn assert_head_limit(
-    rt: &impl Abort,
-    alloc: Global,
-    desk: &mut Desk<MemStore>,
-) -> Result<(), Fail> {
-    let head = long_head(alloc, HEAD_LIMIT)?;
-    assert_head_is_read(rt, alloc, desk, &head, "8192 bytes")?;
-    let longer = long_head(alloc, HEAD_LIMIT + 1)?;
-    assert_head_is_refused(rt, alloc, desk, &longer, "8193 bytes")
+/// The longest head, and one that is too long.
+#[derive(Clone, Copy)]
+struct HeadLimit;
+
+impl Exchange for HeadLimit {
+    fn assert(
+        &self,
+        rt: &impl Abort,
+        alloc: Global,
+        desk: &mut Desk<MemStore>,
+    ) -> Result<(), Fail> {
+        let head = long_head(alloc, HEAD_LIMIT)?;
+        assert_head_is_read(rt, alloc, desk, &head, "8192 bytes")?;
+        let longer = long_head(alloc, HEAD_LIMIT + 1)?;
+        assert_head_is_refused(rt, alloc, desk, &longer, "8193 bytes")
+    }
 }
 
 #[test]
 fn head_limit(rt: HostRuntime) -> Result<(), Fail> {
-    let mut desk = example_desk(rt.alloc())?;
-    assert_head_limit(&rt, rt.alloc(), &mut desk)
+    assert_new_desk(&rt, rt.alloc(), &HeadLimit)
 }
 
-fn assert_field_limit(
-    rt: &impl Abort,
-    alloc: Global,
-    desk: &mut Desk<MemStore>,
-) -> Result<(), Fail> {
-    let fields = many_fields(alloc, 32)?;
-    assert_head_is_read(rt, alloc, desk, &fields, "32 fields")?;
-    let more = many_fields(alloc, 33)?;
-    assert_head_is_refused(rt, alloc, desk, &more, "33 fields")
+/// As many fields as a head may have, and one more.
+#[derive(Clone, Copy)]
+struct FieldLimit;
+
+impl Exchange for FieldLimit {
+    fn assert(
+        &self,
+        rt: &impl Abort,
+        alloc: Global,
+        desk: &mut Desk<MemStore>,
+    ) -> Result<(), Fail> {
+        let fields = many_fields(alloc, 32)?;
+        assert_head_is_read(rt, alloc, desk, &fields, "32 fields")?;
+        let more = many_fields(alloc, 33)?;
+        assert_head_is_refused(rt, alloc, desk, &more, "33 fields")
+    }
 }
 
 #[test]
 fn field_limit(rt: HostRuntime) -> Result<(), Fail> {
-    let mut desk = example_desk(rt.alloc())?;
-    assert_field_limit(&rt, rt.alloc(), &mut desk)
+    assert_new_desk(&rt, rt.alloc(), &FieldLimit)
 }
 
 /// A connection that fails after these bytes is answered before, and so many of them are left unread.
@@ -125,21 +137,26 @@ fn assert_refused_before(
 }
 
 /// A head that has no end within the limit is refused, and what follows the limit is not read.
-fn assert_heads_without_an_end(
-    rt: &impl Abort,
-    alloc: Global,
-    desk: &mut Desk<MemStore>,
-) -> Result<(), Fail> {
-    let head = long_head(alloc, HEAD_LIMIT + 1)?;
-    let beginning = head.as_bytes().get(..HEAD_LIMIT).ok_or("a short head")?;
-    assert_refused_before(rt, alloc, desk, beginning, 0)?;
-    assert_refused_before(rt, alloc, desk, head.as_bytes(), 1)
+#[derive(Clone, Copy)]
+struct EndlessHeads;
+
+impl Exchange for EndlessHeads {
+    fn assert(
+        &self,
+        rt: &impl Abort,
+        alloc: Global,
+        desk: &mut Desk<MemStore>,
+    ) -> Result<(), Fail> {
+        let head = long_head(alloc, HEAD_LIMIT + 1)?;
+        let beginning = head.as_bytes().get(..HEAD_LIMIT).ok_or("a short head")?;
+        assert_refused_before(rt, alloc, desk, beginning, 0)?;
+        assert_refused_before(rt, alloc, desk, head.as_bytes(), 1)
+    }
 }
 
 #[test]
 fn head_without_an_end(rt: HostRuntime) -> Result<(), Fail> {
-    let mut desk = example_desk(rt.alloc())?;
-    assert_heads_without_an_end(&rt, rt.alloc(), &mut desk)
+    assert_new_desk(&rt, rt.alloc(), &EndlessHeads)
 }
 
 /// A body that is padded to so many bytes has this response.
@@ -155,94 +172,100 @@ fn assert_padded(
     assert_json(rt, alloc, desk, request.as_bytes(), output, output)
 }
 
+/// The longest body, and one that is too long.
+#[derive(Clone, Copy)]
+struct BodyLimit;
+
+impl Exchange for BodyLimit {
+    fn assert(
+        &self,
+        rt: &impl Abort,
+        alloc: Global,
+        desk: &mut Desk<MemStore>,
+    ) -> Result<(), Fail> {
+        let routes = "{\"routes\":[{\"prefix\":\"192.0.2.0/24\",\"origin\":null}]}";
+        let answered = "200 {\"answers\":[\"NotFound\"]}";
+        assert_padded(rt, alloc, desk, routes, BODY_LIMIT, answered)?;
+        let refused = "413 {\"error\":413}";
+        assert_padded(rt, alloc, desk, routes, BODY_LIMIT + 1, refused)
+    }
+}
+
 #[test]
 fn body_limit(rt: HostRuntime) -> Result<(), Fail> {
-    let alloc = rt.alloc();
-    let mut desk = example_desk(alloc)?;
-    let routes = "{\"routes\":[{\"prefix\":\"192.0.2.0/24\",\"origin\":null}]}";
-    let answered = "200 {\"answers\":[\"NotFound\"]}";
-    assert_padded(&rt, alloc, &mut desk, routes, BODY_LIMIT, answered)?;
-    let refused = "413 {\"error\":413}";
-    assert_padded(&rt, alloc, &mut desk, routes, BODY_LIMIT + 1, refused)
+    assert_new_desk(&rt, rt.alloc(), &BodyLimit)
 }
 
 /// Requests, how deep the array that is their body nests, and their responses.
-const NESTED_BODIES: [(&str, u32, &str); 6] = [
-    (
+const NESTED_BODIES: [NestedBody; 6] = [
+    NestedBody(
         "POST /holders/alpha/auths ann",
         127,
         "400 {\"malformed\":2}",
     ),
-    (
+    NestedBody(
         "POST /holders/alpha/auths ann",
         128,
         "400 {\"malformed\":1}",
     ),
-    ("PUT /slurm reg", 127, "400 {\"malformed\":11,\"slurm\":2}"),
-    ("PUT /slurm reg", 128, "400 {\"malformed\":11,\"slurm\":1}"),
-    ("PUT /slurms reg", 127, "400 {\"malformed\":2}"),
-    ("PUT /slurms reg", 128, "400 {\"malformed\":1}"),
+    NestedBody("PUT /slurm reg", 127, "400 {\"malformed\":11,\"slurm\":2}"),
+    NestedBody("PUT /slurm reg", 128, "400 {\"malformed\":11,\"slurm\":1}"),
+    NestedBody("PUT /slurms reg", 127, "400 {\"malformed\":2}"),
+    NestedBody("PUT /slurms reg", 128, "400 {\"malformed\":1}"),
 ];
 
 /// The request of a row, whose body is an array that nests so deep, has the response.
-fn assert_nested(
-    rt: &impl Abort,
-    alloc: Global,
-    desk: &mut Desk<MemStore>,
-    row: (&str, u32, &str),
-) -> Result<(), Fail> {
-    let (path, depth, output) = row;
-    let body = nested(alloc, depth)?;
-    let line = format!(in alloc; "{path} {body}")?;
-    let request = request_text(alloc, &line)?;
-    assert_json(rt, alloc, desk, request.as_bytes(), output, path)
-}
+#[derive(Clone, Copy)]
+struct NestedBody(&'static str, u32, &'static str);
 
-fn assert_nested_on_a_new_desk(
-    rt: &impl Abort,
-    alloc: Global,
-    row: (&str, u32, &str),
-) -> Result<(), Fail> {
-    let mut desk = example_desk(alloc)?;
-    assert_nested(rt, alloc, &mut desk, row)
+impl Exchange for NestedBody {
+    fn assert(
+        &self,
+        rt: &impl Abort,
+        alloc: Global,
+        desk: &mut Desk<MemStore>,
+    ) -> Result<(), Fail> {
+        let NestedBody(path, depth, output) = *self;
+        let body = nested(alloc, depth)?;
+        let line = format!(in alloc; "{path} {body}")?;
+        let request = request_text(alloc, &line)?;
+        assert_json(rt, alloc, desk, request.as_bytes(), output, path)
+    }
 }
 
 #[test]
 fn nesting_limits(rt: HostRuntime) -> Result<(), Fail> {
     for row in &NESTED_BODIES {
-        assert_nested_on_a_new_desk(&rt, rt.alloc(), *row)?;
+        assert_new_desk(&rt, rt.alloc(), row)?;
     }
     Ok(())
 }
 
 /// How deep routes nest within their body, and the response.
-const DEPTHS: [(u32, &str); 2] = [
-    (126, "400 {\"malformed\":2}"),
-    (127, "400 {\"malformed\":1}"),
+const DEPTHS: [Depth; 2] = [
+    Depth(126, "400 {\"malformed\":2}"),
+    Depth(127, "400 {\"malformed\":1}"),
 ];
 
-/// Routes that nest so deep have this response.
-fn assert_depth(
-    rt: &impl Abort,
-    alloc: Global,
-    desk: &mut Desk<MemStore>,
-    depth: u32,
-    output: &str,
-) -> Result<(), Fail> {
-    let routes = nested(alloc, depth)?;
-    let body = format!(in alloc; "{{\"routes\":{routes}}}")?;
-    assert_padded(rt, alloc, desk, &body, body.len(), output)
-}
+/// How deep routes nest within their body, and the response.
+#[derive(Clone, Copy)]
+struct Depth(u32, &'static str);
 
-fn assert_depths(rt: &impl Abort, alloc: Global, desk: &mut Desk<MemStore>) -> Result<(), Fail> {
-    for (depth, output) in &DEPTHS {
-        assert_depth(rt, alloc, desk, *depth, output)?;
+impl Exchange for Depth {
+    fn assert(
+        &self,
+        rt: &impl Abort,
+        alloc: Global,
+        desk: &mut Desk<MemStore>,
+    ) -> Result<(), Fail> {
+        let Depth(depth, output) = *self;
+        let routes = nested(alloc, depth)?;
+        let body = format!(in alloc; "{{\"routes\":{routes}}}")?;
+        assert_padded(rt, alloc, desk, &body, body.len(), output)
     }
-    Ok(())
 }
 
 #[test]
 fn body_nests_at_most_127_levels(rt: HostRuntime) -> Result<(), Fail> {
-    let mut desk = example_desk(rt.alloc())?;
-    assert_depths(&rt, rt.alloc(), &mut desk)
+    assert_new_desk(&rt, rt.alloc(), &Each(&DEPTHS))
 }

@@ -1,8 +1,8 @@
 //! Requests of every path, and what they are refused for.
 use super::{
-    assert_csv, assert_response, assert_rows, json_response, registered_holder, response_of,
+    Each, Exchange, Table, assert_csv, assert_holder, assert_new_desk, assert_response,
+    assert_rows, json_response, response_of,
 };
-use conformance::desks::example_desk;
 use desk::Desk;
 use sqlite::MemStore;
 use std::alloc::Global;
@@ -160,23 +160,23 @@ const NOT_FOUND: [&str; 16] = [
 ];
 
 /// Paths, and the methods that each has in the order of the table of routes.
-const ALLOWED: [(&str, &str); 16] = [
-    ("/holders/alpha", "PUT"),
-    ("/holders/alpha/delegations", "POST"),
-    ("/holders/alpha/reclaims", "POST"),
-    ("/transfers", "POST"),
-    ("/holders/alpha/grants", "POST"),
-    ("/holders/alpha/grants/1", "DELETE"),
-    ("/holders/alpha/auths", "GET, POST"),
-    ("/holders/alpha/auths/1", "GET, PATCH, DELETE"),
-    ("/holders/alpha/auths/1/content", "GET"),
-    ("/holders/alpha/export", "GET"),
-    ("/holders/alpha/imports", "POST"),
-    ("/holders/alpha/whatif", "POST"),
-    ("/slurm", "PUT"),
-    ("/slurms", "PUT"),
-    ("/payloads", "GET"),
-    ("/validity", "POST"),
+const ALLOWED: [Allowed; 16] = [
+    Allowed("/holders/alpha", "PUT"),
+    Allowed("/holders/alpha/delegations", "POST"),
+    Allowed("/holders/alpha/reclaims", "POST"),
+    Allowed("/transfers", "POST"),
+    Allowed("/holders/alpha/grants", "POST"),
+    Allowed("/holders/alpha/grants/1", "DELETE"),
+    Allowed("/holders/alpha/auths", "GET, POST"),
+    Allowed("/holders/alpha/auths/1", "GET, PATCH, DELETE"),
+    Allowed("/holders/alpha/auths/1/content", "GET"),
+    Allowed("/holders/alpha/export", "GET"),
+    Allowed("/holders/alpha/imports", "POST"),
+    Allowed("/holders/alpha/whatif", "POST"),
+    Allowed("/slurm", "PUT"),
+    Allowed("/slurms", "PUT"),
+    Allowed("/payloads", "GET"),
+    Allowed("/validity", "POST"),
 ];
 
 const METHODS: [&str; 9] = [
@@ -190,32 +190,39 @@ fn bare_request(alloc: Global, method: &str, target: &str, fields: &str) -> Resu
 
 #[test]
 fn every_path_is_answered(rt: HostRuntime) -> Result<(), Fail> {
-    let mut desk = registered_holder(&rt, rt.alloc())?;
-    assert_rows(&rt, rt.alloc(), &mut desk, EVERY_PATH)
+    assert_holder(&rt, rt.alloc(), &Table(EVERY_PATH))
 }
 
 #[test]
 fn slurm_files_are_put(rt: HostRuntime) -> Result<(), Fail> {
-    let mut desk = example_desk(rt.alloc())?;
-    assert_rows(&rt, rt.alloc(), &mut desk, SLURM_FILES)
+    assert_new_desk(&rt, rt.alloc(), &Table(SLURM_FILES))
 }
 
 #[test]
 fn malformed_requests_have_their_lowest_number(rt: HostRuntime) -> Result<(), Fail> {
-    let mut desk = registered_holder(&rt, rt.alloc())?;
-    assert_rows(&rt, rt.alloc(), &mut desk, MALFORMED)
+    assert_holder(&rt, rt.alloc(), &Table(MALFORMED))
 }
 
-fn assert_payloads(rt: &impl Abort, alloc: Global, desk: &mut Desk<MemStore>) -> Result<(), Fail> {
-    assert_csv(rt, alloc, desk, PAYLOADS, "asn,prefix,maxlength\n")?;
-    assert_rows(rt, alloc, desk, CREATED)?;
-    assert_csv(rt, alloc, desk, PAYLOADS, ONE_PAYLOAD)
+/// The payloads before a create and after it.
+#[derive(Clone, Copy)]
+struct Payloads;
+
+impl Exchange for Payloads {
+    fn assert(
+        &self,
+        rt: &impl Abort,
+        alloc: Global,
+        desk: &mut Desk<MemStore>,
+    ) -> Result<(), Fail> {
+        assert_csv(rt, alloc, desk, PAYLOADS, "asn,prefix,maxlength\n")?;
+        assert_rows(rt, alloc, desk, CREATED)?;
+        assert_csv(rt, alloc, desk, PAYLOADS, ONE_PAYLOAD)
+    }
 }
 
 #[test]
 fn payloads_are_answered_as_csv(rt: HostRuntime) -> Result<(), Fail> {
-    let mut desk = registered_holder(&rt, rt.alloc())?;
-    assert_payloads(&rt, rt.alloc(), &mut desk)
+    assert_holder(&rt, rt.alloc(), &Payloads)
 }
 
 /// A request with the fields of a head, whose response has this body and these further fields.
@@ -244,23 +251,28 @@ fn assert_not_found(
     Ok(())
 }
 
-fn assert_none_found(
-    rt: &impl Abort,
-    alloc: Global,
-    desk: &mut Desk<MemStore>,
-    response: &str,
-) -> Result<(), Fail> {
-    for target in &NOT_FOUND {
-        assert_not_found(rt, alloc, desk, target, response)?;
+/// Targets that no path has are answered so.
+#[derive(Clone, Copy)]
+struct NoPaths<'a>(&'a str);
+
+impl Exchange for NoPaths<'_> {
+    fn assert(
+        &self,
+        rt: &impl Abort,
+        alloc: Global,
+        desk: &mut Desk<MemStore>,
+    ) -> Result<(), Fail> {
+        for target in &NOT_FOUND {
+            assert_not_found(rt, alloc, desk, target, self.0)?;
+        }
+        Ok(())
     }
-    Ok(())
 }
 
 #[test]
 fn target_without_a_path_is_not_found(rt: HostRuntime) -> Result<(), Fail> {
     let response = json_response(rt.alloc(), "404 {\"error\":404}")?;
-    let mut desk = example_desk(rt.alloc())?;
-    assert_none_found(&rt, rt.alloc(), &mut desk, &response)
+    assert_new_desk(&rt, rt.alloc(), &NoPaths(&response))
 }
 
 /// Every method but those allowed has this response.
@@ -280,32 +292,25 @@ fn assert_others_refused(
     Ok(())
 }
 
-/// Every method but those allowed is answered with them.
-fn assert_allowed(
-    rt: &impl Abort,
-    alloc: Global,
-    desk: &mut Desk<MemStore>,
-    row: (&str, &str),
-) -> Result<(), Fail> {
-    let fields = format!(in alloc; "Allow: {}\r\n", row.1)?;
-    let body = "{\"error\":405}\n";
-    let response = response_of(alloc, "405", "application/json", &fields, body)?;
-    assert_others_refused(rt, alloc, desk, row, &response)
-}
+/// A path and its methods: every other method is answered with them.
+#[derive(Clone, Copy)]
+struct Allowed(&'static str, &'static str);
 
-fn assert_each_allowed(
-    rt: &impl Abort,
-    alloc: Global,
-    desk: &mut Desk<MemStore>,
-) -> Result<(), Fail> {
-    for row in &ALLOWED {
-        assert_allowed(rt, alloc, desk, *row)?;
+impl Exchange for Allowed {
+    fn assert(
+        &self,
+        rt: &impl Abort,
+        alloc: Global,
+        desk: &mut Desk<MemStore>,
+    ) -> Result<(), Fail> {
+        let fields = format!(in alloc; "Allow: {}\r\n", self.1)?;
+        let body = "{\"error\":405}\n";
+        let response = response_of(alloc, "405", "application/json", &fields, body)?;
+        assert_others_refused(rt, alloc, desk, (self.0, self.1), &response)
     }
-    Ok(())
 }
 
 #[test]
 fn other_methods_are_answered_with_those_allowed(rt: HostRuntime) -> Result<(), Fail> {
-    let mut desk = example_desk(rt.alloc())?;
-    assert_each_allowed(&rt, rt.alloc(), &mut desk)
+    assert_new_desk(&rt, rt.alloc(), &Each(&ALLOWED))
 }
