@@ -9,6 +9,8 @@
 # printed there. Nothing outside of the namespaces is changed: the settings of the kernel are read-only there, and at
 # the end no mount, process or cgroup is left.
 #
+# Not covered: a second boot, midnight by its timer, what apt fetches as recommended, and a power cut.
+#
 # Needs root, the right to make namespaces, a hierarchy of cgroups v2, a root file system that an overlay can have below
 # it, Debian's systemd, nginx, nftables and the commands below; skipped without them, and where roadesk is installed.
 # PROGRAM names the program, else it is that of the repository; skipped where it is not built. Ends with 1 where
