@@ -4,9 +4,12 @@
 #
 #     package.sh [CASE...]      (all cases, in their order, where left out)
 #
-# Each case is a function below. The blocks of docs/GUIDE.md that install the package, its front and a further desk are
-# run as they are printed there. Nothing outside of the namespaces is changed: the settings of the kernel are read-only
-# there, and at the end no mount, process or cgroup is left.
+# Each case is a function below. `installs` and `front` are run before any other, and `versions` and `removes` need
+# `desks`. The blocks of docs/GUIDE.md that install the package, its front and a further desk are run as they are
+# printed there. Nothing outside of the namespaces is changed: the settings of the kernel are read-only there, and at
+# the end no mount, process or cgroup is left.
+#
+# Not covered: a second boot, midnight by its timer, what apt fetches as recommended, and a power cut.
 #
 # Needs root, the right to make namespaces, a hierarchy of cgroups v2, a root file system that an overlay can have below
 # it, Debian's systemd, nginx, nftables and the commands below; skipped without them, and where roadesk is installed.
@@ -41,15 +44,13 @@ work=$(mktemp -d) || exit 2
 outer=
 first=
 
-# stop_system: powers off, and removes the cgroups from the leaves up. Those of processes that just ended take a moment.
+# stop_system: ends all at once. To power off would first stop what `inside` runs, and nsenter stops with it and no
+# longer waits for its end. The cgroups are removed from the leaves up; those of processes that ended take a moment.
 stop_system() {
-    [ -z "$first" ] || kill -s RTMIN+4 "$first" 2>/dev/null
-    for _ in $(seq 50); do
-        kill -0 "$outer" 2>/dev/null || break
-        sleep 0.1
-    done
-    [ -z "$outer" ] || kill -9 "$outer" 2>/dev/null
+    [ -z "$outer" ] || kill -9 "${first:-$outer}" 2>/dev/null
     wait "$outer" 2>/dev/null
+    outer=
+    first=
     for _ in $(seq 10); do
         find "$group" -depth -type d -exec rmdir {} + 2>/dev/null
         [ -d "$group" ] || break
@@ -184,19 +185,17 @@ block() {
 }
 
 boot() {
+    local child
     setpriv --pdeathsig KILL unshare --mount --propagation private bash -c 'make_root "$@"' - "$work" "$group" \
         >"$work/boot" 2>&1 &
     outer=$!
     for _ in $(seq 300); do
-        first=$(tr -d ' ' <"/proc/$outer/task/$outer/children")
-        [ -z "$first" ] || [ "$(cat "/proc/$first/comm")" != systemd ] || break
+        child=$(tr -d ' ' <"/proc/$outer/task/$outer/children")
+        [ "$(cat "/proc/$child/comm")" != systemd ] || { first=$child && break; }
         kill -0 "$outer" || break
         sleep 0.1
     done 2>/dev/null
-    if [ -z "$first" ] || [ "$(cat "/proc/$first/comm")" != systemd ]; then
-        cat "$work/boot" >&2
-        exit 2
-    fi
+    [ -n "$first" ] || { cat "$work/boot" >&2; exit 2; }
     shell 'for _ in {1..100}; do
         case $(systemctl is-system-running) in running | degraded) break ;; esac
         sleep 0.2
@@ -366,10 +365,10 @@ $two_let_in"
 }
 
 full() {
-    # In the place of the folder of the desk, with its database.
-    shell 'systemctl stop roadesk; cp -p /var/lib/roadesk/desk.db /var/tmp
+    # In the place of the folder of the desk, with its database and the log.
+    shell 'systemctl stop roadesk; cp -a /var/lib/roadesk /var/tmp/full
         mount -t tmpfs -o "size=2m,mode=0700,uid=$(id -u roadesk),gid=$(id -g roadesk)" tmpfs /var/lib/roadesk
-        mv /var/tmp/desk.db /var/lib/roadesk; systemctl start roadesk; echo $?
+        mv /var/tmp/full/* /var/lib/roadesk; systemctl start roadesk; echo $?
         dd if=/dev/zero of=/var/lib/roadesk/fill bs=4k 2>/dev/null' >"$work/full"
     expect 'full: the desk over a small file system' "$(cat "$work/full")" 0
     shell 'create() {
@@ -397,9 +396,11 @@ full() {
 1'
     expect 'full: the day with no room for its copy' "$(shell 'dd if=/dev/zero of=/var/lib/roadesk/fill 2>/dev/null
         systemctl start roadesk-day; echo $?; systemctl is-active roadesk
-        journalctl -q -b -u roadesk-day -o cat | grep "^Error"')" '0
+        journalctl -q -b -u roadesk-day -o cat | grep "^Error"; ls /var/lib/roadesk | grep -- -')" '0
 active
-Error: disk I/O error'
+Error: disk I/O error
+desk.db-shm
+desk.db-wal'
     shell 'systemctl stop roadesk; umount /var/lib/roadesk; systemctl start roadesk'
     expect 'full: the folder that was there before' "$(payloads)" "$kept"
 }
@@ -610,7 +611,6 @@ active'
 
 nothing_left() {
     stop_system
-    first=
     expect 'at the end: no mount, process or cgroup, and the settings of the kernel' "$(left_behind)" "$before"
 }
 
