@@ -95,7 +95,7 @@ class Crate:
 
 
 class Part(Job):
-    """A process with the `nth` test of a crate and each `count`-th after it, since neighbors take about as long."""
+    """A process with the `nth` test of a crate and each `count`-th after it, since neighbouring tests are alike."""
 
     def __init__(self, crate, nth, work):
         self.crate, self.nth = crate, nth
