@@ -1,21 +1,103 @@
 # shellcheck shell=bash
-# Sourced by the scripts beside it: the `top` of the repository, `skip`, `need`, `copy_crates`, `find_program`, `expect`
-# and `free_port`.
+# Sourced by the scripts beside it, and by that of the console: how a check begins and ends.
+#
+# A check ends with 0 where all that it was to run ran and held, with 1 where something failed, and with 77 where nothing
+# failed, but something could not be run here. What that is, and where Debian has it, is then on standard error, in a
+# line that begins with the name of the script and `: not run: `.
 
 top=$(cd "$(dirname "${BASH_SOURCE[0]}")/.." && pwd)
+failed=0
+left_out=0
 
-# skip TEXT: ends with 77, the status of a check that did not run since something is missing.
-skip() {
-    echo "$(basename "$0"): skipped: $1" >&2
-    exit 77
+# fail TEXT: ends the check with 1.
+fail() {
+    echo "$(basename "$0"): $1" >&2
+    exit 1
 }
 
-# need COMMAND...: skips the check where one of these commands is missing.
-need() {
-    local command
-    for command in "$@"; do
-        command -v "$command" >/dev/null || skip "no command $command"
+# not_run TEXT: says what is missing; the check goes on without it.
+not_run() {
+    echo "$(basename "$0"): not run: $1" >&2
+    left_out=1
+}
+
+# skip TEXT: says what is missing, and ends the check.
+skip() {
+    not_run "$1"
+    end
+}
+
+# end: ends the check with its status.
+end() {
+    [ "$failed" = 0 ] || exit 1
+    [ "$left_out" = 0 ] || exit 77
+    exit 0
+}
+
+# place_of COMMAND: where Debian has it; the package has its name unless it is told here.
+place_of() {
+    local package=$1
+    case $1 in
+        rt) echo 'of the Rattle toolchain, which Debian does not have' && return ;;
+        bird | birdc) package=bird2 ;;
+        chromedriver) package=chromium-driver ;;
+        dpkg-deb) package=dpkg ;;
+        drbdadm) package=drbd-utils ;;
+        iconv) package=libc-bin ;;
+        ip | ss) package=iproute2 ;;
+        journalctl | systemctl | systemd-analyze) package=systemd ;;
+        man) package=man-db ;;
+        nft) package=nftables ;;
+        nsenter | prlimit | runuser | setpriv | unshare) package=util-linux ;;
+        readelf | strip) package=binutils ;;
+        rtrdump) package=stayrtr ;;
+        */python3) package=python3 ;;
+        apt-get) package=apt ;;
+    esac
+    echo "Debian: $package"
+}
+
+# without COMMAND: says that it is missing, for not_run.
+without() {
+    echo "no command $1 ($(place_of "$1"))"
+}
+
+# have PART COMMAND...: whether all of these commands are there; else the check goes on without that part.
+have() {
+    local command all=0
+    for command in "${@:2}"; do
+        command -v "$command" >/dev/null || { not_run "$1$(without "$command")" && all=1; }
     done
+    return "$all"
+}
+
+# need COMMAND...: ends the check where one of these commands is missing.
+need() {
+    have '' "$@" || end
+}
+
+# need_python: ends the check where there is no python3 from 3.10 on, with its module for SQLite.
+need_python() {
+    need python3
+    python3 -c 'import sys; sys.exit(sys.version_info < (3, 10))' || skip 'no python3 from 3.10 on (Debian: python3)'
+    python3 -c 'import sqlite3' 2>/dev/null || skip 'python3 has no module sqlite3 (Debian: libpython3-stdlib)'
+}
+
+# run_python SCRIPT WORD...: runs a part of the check that is in Python, which ends as a check does.
+run_python() {
+    python3 -B "$@"
+    case $? in
+        0) ;;
+        77) left_out=1 ;;
+        *) failed=1 ;;
+    esac
+}
+
+# need_gcc: ends the check where no shared library can be made of C.
+need_gcc() {
+    need gcc
+    gcc -shared -fPIC -o /dev/null -xc - <<<'#include <dlfcn.h>' 2>/dev/null ||
+        skip 'gcc makes no shared library (Debian: libc6-dev)'
 }
 
 # copy_crates FOLDER: copies crates.txt and the crates into the folder, without what rt made.
@@ -29,11 +111,28 @@ copy_crates() {
 find_program() {
     program=${PROGRAM:-$top/crates/cli/out/cli}
     [ -x "$program" ] || skip "no program $program: run ./roadesk build first, or name another in PROGRAM"
-    [ -n "${PROGRAM:-}" ] || "$top/roadesk" build || exit 2
+    [ -n "${PROGRAM:-}" ] || "$top/roadesk" build || {
+        need rt
+        fail 'the program was not built'
+    }
     program=$(realpath "$program")
 }
 
-failed=0
+# Sets `work` to a temporary folder, which goes at the end of the check, after the processes in the background.
+make_work() {
+    work=$(mktemp -d) || fail 'no temporary folder'
+    trap 'kill $(jobs -p) 2>/dev/null; rm -rf "$work"' EXIT
+}
+
+# The same, but where BENCH_WORK names a folder it is that, which stays.
+make_or_keep_work() {
+    if [ -z "${BENCH_WORK:-}" ]; then
+        make_work
+    else
+        mkdir -p "$BENCH_WORK" || fail "no folder $BENCH_WORK"
+        work=$(realpath "$BENCH_WORK")
+    fi
+}
 
 # expect NAME FOUND EXPECTED: whether the two are the same; `failed` is 1 where they are not.
 expect() {
@@ -51,4 +150,5 @@ free_port() {
     for port in $(shuf -i 20000-30000 -n 20); do
         (: <"/dev/tcp/127.0.0.1/$port") 2>/dev/null || { echo "$port" && return; }
     done
+    fail 'no port is free'
 }
