@@ -17,14 +17,14 @@ Ends with 1 where something else is found, or where of the commands without a re
 import os
 import shutil
 import struct
-import socket
 import subprocess
 import sys
 import time
 from pathlib import Path
 
 import lives
-from lives import DAY, Check, Command, done, exchange, free_port, tables_of
+from common import connected, free_port, serve_words
+from lives import Check, Command, done, exchange, tables_of
 
 RECORD = struct.Struct("=IIQQ")
 WRITE, TRUNCATE, SYNC = 1, 2, 3
@@ -118,24 +118,18 @@ class Pair(Check):
         self.record = self.folder / "record"
 
     def serve(self, db, port, count):
-        words = ["serve", "--db", db, "--listen", f"127.0.0.1:{port}", "--count", str(count), "--day", DAY]
         preloaded = {"LD_PRELOAD": self.folder / "record.so", "RECORD_OF": db, "RECORD": self.record}
         environment = {**os.environ, **preloaded} if db == self.db else None
         with open(self.folder / "errors", "w") as errors:
-            server = subprocess.Popen([self.program, *words], stderr=errors, env=environment)
+            server = subprocess.Popen([self.program, *serve_words(db, port, count)], stderr=errors, env=environment)
         # Most lives are counted from when the desk listens.
         if self.chance.random() < 0.9:
             wait_for(port, server)
         return server
 
     def ask(self, port, command):
-        end = time.monotonic() + START
-        while time.monotonic() < end:
-            try:
-                return exchange(socket.create_connection(("127.0.0.1", port), timeout=60), command)
-            except OSError:
-                time.sleep(0.01)
-        return None
+        connection = connected(port, START)
+        return connection and exchange(connection, command)
 
     def mirror(self):
         """Both pairs are equal, and no record is left."""

@@ -26,13 +26,13 @@ from datetime import date
 from pathlib import Path
 from typing import Callable, Optional
 
+from common import TABLES, connected, exchanged, free_port, serve_words
+
 CLIENTS = 4
-DAY = "2026-03-01"
 FROM = "2026-01-01"
 # The longest life in seconds, and how many authorizations a holder has about at most.
 LONGEST = 0.5
 MANY = 300
-TABLES = ["meta", "operator", "pool", "holder", "holding", "granted", "auth", "slurm", "claim", "entry"]
 POOL = 10 << 24
 
 
@@ -346,25 +346,12 @@ class Client:
 
 def exchange(connection, command):
     """Status and body, or None where no whole response came."""
-    response = b""
-    with connection:
-        try:
-            connection.sendall(command.bytes())
-            while part := connection.recv(1 << 16):
-                response += part
-        except OSError:
-            pass
+    response, _ = exchanged(connection, command.bytes())
     head, end, body = response.partition(b"\r\n\r\n")
     length = [line for line in head.split(b"\r\n") if line.startswith(b"Content-Length: ")]
     if not end or not length or len(body) != int(length[0].split()[1]):
         return None
     return f"{head.split()[1].decode()} {body.decode()}"
-
-
-def free_port():
-    with socket.socket() as probe:
-        probe.bind(("127.0.0.1", 0))
-        return probe.getsockname()[1]
 
 
 def tables_of(path):
@@ -384,21 +371,16 @@ class Check:
         self.counts = Counter()
 
     def serve(self, db, port, count):
-        words = ["serve", "--db", db, "--listen", f"127.0.0.1:{port}", "--count", str(count), "--day", DAY]
         with open(self.folder / "errors", "w") as errors:
-            return subprocess.Popen([self.program, *words], stderr=errors)
+            return subprocess.Popen([self.program, *serve_words(db, port, count)], stderr=errors)
 
     def errors(self):
         return (self.folder / "errors").read_text()
 
     def ask(self, port, command):
         """Of a desk that begins to listen."""
-        for _ in range(1000):
-            try:
-                return exchange(socket.create_connection(("127.0.0.1", port), timeout=60), command)
-            except OSError:
-                time.sleep(0.01)
-        return None
+        connection = connected(port)
+        return connection and exchange(connection, command)
 
     def set_up(self):
         charter = self.folder / "charter.csv"

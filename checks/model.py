@@ -3,6 +3,8 @@
 
     model.py CHARTER    answers the lines of standard input, as `script --charter CHARTER` does
 
+Needs nothing but python3 from 3.10 on. Ends with 0, and with 1 where the file cannot be read.
+
 Written from docs/DEFINITIONS.md and docs/FORMATS.md alone, in their words. A desk is its charter and its history, the
 list of the commands that it accepted; every answer is computed from these two anew. What is cached are functions of a
 history that is never changed.

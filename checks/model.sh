@@ -7,17 +7,18 @@
 # the seeds are SEED, SEED + STEP and so on, so `model.sh 1000 5 5` makes 1,000 sessions. Stops at the first difference,
 # and prints its seed, the request and both answers; at the latest after an hour.
 #
-# Needs python3, and is skipped without it. PROGRAM names the program, else it is that of the repository; skipped where
-# it is not built. Ends with 1 where the answers differ, with 2 where something could not be run.
+# Needs the built program, which PROGRAM may name, and python3 from 3.10 on.
+#
+# Ends with 0 where all runs were made and the answers are the same, with 1 where they differ or something else failed,
+# and with 77, after what is missing, where not all runs could be made, as in an hour.
 set -u
 . "$(dirname "${BASH_SOURCE[0]}")/common.sh"
-need python3
-python3 -c 'import sys; sys.exit(sys.version_info < (3, 10))' || skip 'python3 is older than 3.10'
+need_python
 find_program
 runs=${1:-1000}
 seed=${2:-1}
 step=${3:-1}
-work=$(mktemp -d) || exit 2
-trap 'kill $(jobs -p) 2>/dev/null; rm -rf "$work"' EXIT
+make_work
 echo "$runs runs from seed $seed in steps of $step"
-python3 -B "$top/checks/model_runs.py" "$program" "$work" "$runs" "$seed" "$step"
+run_python "$top/checks/model_runs.py" "$program" "$work" "$runs" "$seed" "$step"
+end

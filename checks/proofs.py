@@ -7,8 +7,8 @@ A crate begins once all that it uses are built: first the one that the most line
 which no other crate is ready. rt lets no other rt work on a crate, nor on those that it uses, so each proof has a copy
 of them, whose files are hard links. What it built is then moved to where the crate is.
 
-On standard error is the name of each crate as its proof begins. Ends with 1 where one is not proved, after what its
-proof printed.
+On standard error is the name of each crate as its proof begins. Needs rt. Ends with 0 where all are built, with 1 where
+one is not proved, after what its proof printed, and with 77, after a line that says so, where there is no rt.
 """
 import functools
 import os
@@ -18,7 +18,8 @@ import sys
 import tempfile
 
 import side_by_side
-from side_by_side import TOP, Job
+from common import TOP, need_rt
+from side_by_side import Job
 
 PROGRAM = "cli"
 
@@ -111,6 +112,7 @@ class Program(Proof):
 
 
 def main():
+    need_rt()
     side_by_side.note_signals()
     built = set()
 

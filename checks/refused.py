@@ -8,7 +8,8 @@ is a desk, or a file that the next `init` goes on with, or one of which it says 
 in the files that are left: those of before where a response was 503 and the program went on to its end. A kind of run
 is over when the program made fewer allocations fifty times in a row. Those of opening are tried with the first request
 on a desk, and after the first 2,000 each STEPth (1 if not given), and of all from one on each 37th after the first
-hundred. From where a request is answered each is tried. Ends with 1 where something else is found.
+hundred. From where a request is answered each is tried. Ends with 1 where something else is found, or nothing was
+refused.
 """
 import json
 import os
@@ -23,9 +24,9 @@ from concurrent.futures import ThreadPoolExecutor
 from dataclasses import dataclass
 from pathlib import Path
 
-DAY = "2026-03-01"
+from common import TABLES, serve_words
+
 DATES = "2026-01-01,2026-12-31"
-TABLES = ["meta", "operator", "pool", "holder", "holding", "granted", "auth", "slurm", "claim", "entry"]
 # Of these many allocations each is refused.
 EACH = 2000
 # So many runs in a row in which nothing was refused end a kind of run.
@@ -158,8 +159,8 @@ class Place:
     def serve(self, requests, number=0, all_later=False):
         """The responses, the status and the line of a run that answers these."""
         self.port = self.port + 1 if self.port < 32000 else 20000
-        words = ["serve", "--db", "desk.db", "--listen", f"{self.address}:{self.port}", "--count", str(len(requests))]
-        server = self.start([*words, "--day", DAY], number, all_later)
+        words = serve_words("desk.db", self.port, len(requests), address=self.address)
+        server = self.start(words, number, all_later)
         responses = [ask(server, self.address, self.port, request) for request in requests]
         return responses, *end(server)
 
@@ -265,6 +266,9 @@ class Sweep:
                         if was_refused:
                             last = number
                             seen[kind or "not allowed"] += 1
+            if not last:
+                self.faults += 1
+                print(f"{name}: no allocation was refused")
             counts = ", ".join(f"{kind} {count}" for kind, count in sorted(seen.items()))
             print(f"{name}, {'all from' if all_later else 'each of'} {first} to {last}: {counts}", flush=True)
 
@@ -328,7 +332,8 @@ def main(program, library, charter, folder, step="1"):
     for place, request in enumerate(REQUESTS):
         sweep.serve(base, request, is_opening=place == 0)
     sweep.serve(sweep.base("many", SETUP + MANY), PAYLOADS, is_opening=True)
-    sys.exit(1 if sweep.faults else 0)
+    return 1 if sweep.faults else 0
 
 
-main(*sys.argv[1:])
+if __name__ == "__main__":
+    sys.exit(main(*sys.argv[1:]))

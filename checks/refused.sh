@@ -7,23 +7,26 @@
 # is preloaded, refuses each of its allocations in turn, in a run of its own: one line at most is Unavailable, it has
 # done nothing, and the VRPs are right after it; or the program ends with its fault at the start. Then all allocations
 # from each one on are refused: from a line on all are Unavailable. refused.py does the same for `init`, and for `serve`
-# with one connection over a file; of more than 2,000 allocations of a run it refuses each STEPth. PROGRAM names the
-# program; skipped where there is none, or no gcc or python3.
+# with one connection over a file; of more than 2,000 allocations of a run it refuses each STEPth.
 #
-# The proved tests that hold under any one refusal are run with each of their allocations refused, where `rt test` has
-# built them.
+# The proved tests that hold under any one refusal are run with each of their allocations refused.
 #
 # Then refused.rattle makes some allocations for a trie, and rt try refuses each of them in turn; the last run is the
-# first of which none is refused. Needs rt, and is skipped without it. Each run takes half a minute, nothing is proved.
-# Files go to a temporary folder, or stay in BENCH_WORK. Ends with 1 where a reply or a set is not as it has to be, with
-# 2 where something could not be run.
+# first of which none is refused. Each run takes half a minute, nothing is proved.
+#
+# Needs the built program, which PROGRAM may name, gcc and python3 from 3.10 on; for the tests those that `rt test` has
+# built, and for the trie rt. Files go to a temporary folder, or stay in BENCH_WORK.
+#
+# Ends with 0 where all ran and held, with 1 where a reply or a set is not as it has to be or something else failed, and
+# with 77, after what is missing, where not all of it could be run.
 set -u
 . "$(dirname "${BASH_SOURCE[0]}")/common.sh"
-. "$top/bench/common/work.sh"
-need gcc python3 rt
+need_gcc
+need_python
 find_program
+make_or_keep_work
 charter=$top/examples/charter.csv
-gcc -O2 -shared -fPIC -o "$work/refuse.so" "$here/refuse.c" || fail "refuse.c was not built"
+gcc -O2 -shared -fPIC -o "$work/refuse.so" "$top/checks/refuse.c" || fail 'refuse.c was not built'
 
 cat >"$work/lines" <<'END'
 {"day":"2026-03-01","caller":"reg","do":"register","holder":"alpha"}
@@ -42,13 +45,13 @@ replies() {
     local null='{"done":null}' number=$1
     case $number in
         1) printf '%s\n' X '{"denied":"holder"}' '{"denied":"holder"}' '{"denied":"grant"}' '{"payloads":[]}' '{"denied":"grant"}' '{"payloads":[]}' ;;
-        2) printf '%s\n' $null X '{"done":1}' '{"denied":"held"}' '{"payloads":[]}' '{"denied":"held"}' '{"payloads":[]}' ;;
-        3) printf '%s\n' $null $null X '{"denied":"grant"}' '{"payloads":[]}' '{"denied":"grant"}' '{"payloads":[]}' ;;
-        4) printf '%s\n' $null $null '{"done":1}' X '{"payloads":[]}' '{"done":1}' "{\"payloads\":[$second]}" ;;
-        5) printf '%s\n' $null $null '{"done":1}' '{"done":1}' X '{"done":2}' "{\"payloads\":[$first,$second]}" ;;
-        6) printf '%s\n' $null $null '{"done":1}' '{"done":1}' "{\"payloads\":[$first]}" X "{\"payloads\":[$first]}" ;;
-        7) printf '%s\n' $null $null '{"done":1}' '{"done":1}' "{\"payloads\":[$first]}" '{"done":2}' X ;;
-        *) printf '%s\n' $null $null '{"done":1}' '{"done":1}' "{\"payloads\":[$first]}" '{"done":2}' "{\"payloads\":[$first,$second]}" ;;
+        2) printf '%s\n' "$null" X '{"done":1}' '{"denied":"held"}' '{"payloads":[]}' '{"denied":"held"}' '{"payloads":[]}' ;;
+        3) printf '%s\n' "$null" "$null" X '{"denied":"grant"}' '{"payloads":[]}' '{"denied":"grant"}' '{"payloads":[]}' ;;
+        4) printf '%s\n' "$null" "$null" '{"done":1}' X '{"payloads":[]}' '{"done":1}' "{\"payloads\":[$second]}" ;;
+        5) printf '%s\n' "$null" "$null" '{"done":1}' '{"done":1}' X '{"done":2}' "{\"payloads\":[$first,$second]}" ;;
+        6) printf '%s\n' "$null" "$null" '{"done":1}' '{"done":1}' "{\"payloads\":[$first]}" X "{\"payloads\":[$first]}" ;;
+        7) printf '%s\n' "$null" "$null" '{"done":1}' '{"done":1}' "{\"payloads\":[$first]}" '{"done":2}' X ;;
+        *) printf '%s\n' "$null" "$null" '{"done":1}' '{"done":1}' "{\"payloads\":[$first]}" '{"done":2}' "{\"payloads\":[$first,$second]}" ;;
     esac | sed 's/^X$/{"unavailable":true}/'
 }
 
@@ -84,8 +87,9 @@ refuse_each() {
         seen[${unavailable:-0}]=$((${seen[${unavailable:-0}]:-0} + 1))
     done
     counted=$((number - 1))
+    [ "$counted" -gt 0 ] || fail 'no allocation of the program was refused'
     echo "each of $counted allocations of the program was refused in turn: it ended at its start for $early of them, no"
-    echo "reply changed for ${seen[0]:-0}, and one was Unavailable for $(($counted - early - ${seen[0]:-0}))"
+    echo "reply changed for ${seen[0]:-0}, and one was Unavailable for $((counted - early - ${seen[0]:-0}))"
 }
 
 # All allocations from each one on: the replies before a line are as without it, and from it on all are Unavailable.
@@ -114,33 +118,37 @@ refuse_from_each() {
 refuse_test() {
     local tests=$top/crates/$1/out/$1_tests number
     if [ ! -x "$tests" ]; then
-        echo "$2: not run, since its crate's tests are not built: run rt test in crates/$1"
-        return 0
+        not_run "$2: the tests of its crate are not built: run rt test in crates/$1"
+        return
     fi
     for number in $(seq 100000); do
         rm -f "$work/refused"
         if ! REFUSE=$number REFUSED=$work/refused LD_PRELOAD=$work/refuse.so "$tests" "$2" >"$work/error" 2>&1; then
             echo "$2: allocation $number refused, and"
             cat "$work/error"
-            return 1
+            failed=1
+            return
         fi
         [ -e "$work/refused" ] || break
     done
+    [ "$number" -gt 1 ] || fail "no allocation of $2 was refused"
     echo "$2: passes with each of its $((number - 1)) allocations refused in turn"
 }
 
 declare -a seen
-refuse_each && refuse_from_each || exit 1
-python3 "$here/refused.py" "$program" "$work/refuse.so" "$charter" "$work" "${1:-1}" || exit 1
-refuse_test failures refused_memory::refused_memory_leaves_an_allowed_run &&
-    refuse_test failures refused_memory::refused_memory_over_http &&
-    refuse_test library_conformance refused_calls::refused_call_is_good_the_next_time || exit 1
+refuse_each || exit 1
+refuse_from_each || exit 1
+run_python "$top/checks/refused.py" "$program" "$work/refuse.so" "$charter" "$work" "${1:-1}"
+refuse_test failures refused_memory::refused_memory_leaves_an_allowed_run
+refuse_test failures refused_memory::refused_memory_over_http
+refuse_test library_conformance refused_calls::refused_call_is_good_the_next_time
 
-folder=$("$common/crate.sh" "$here/refused.rattle" "$work") || fail "no crate was made"
+have 'a trie: ' rt || end
+folder=$("$top/bench/common/crate.sh" "$top/checks/refused.rattle" "$work") || fail 'no crate was made'
 # More than the program makes.
 most=100
 
-cd "$folder" || exit 2
+cd "$folder" || exit 1
 for number in $(seq "$most"); do
     rt try --fail-alloc "$number" </dev/null >"$work/refused.log" 2>&1
     status=$?
@@ -152,7 +160,8 @@ for number in $(seq "$most"); do
     case $status in
         0)
             echo "each of $((number - 1)) allocations was refused in turn: the set stayed, and took the VRP afterwards"
-            exit "$((number == 1))"
+            [ "$number" -gt 1 ] || fail 'no allocation for the trie was refused'
+            end
             ;;
         3) ;;
         *)

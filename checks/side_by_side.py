@@ -7,7 +7,8 @@ import subprocess
 import sys
 import time
 
-TOP = pathlib.Path(__file__).resolve().parent.parent
+from common import TOP
+
 PROCESSORS = len(os.sched_getaffinity(0))
 # The megabytes that one more process of a proof has been seen to take.
 PROCESS_MEMORY = 1500

@@ -3,13 +3,16 @@
 #
 #     sqlite3.sh
 #
-# Needs rt and sqlite3, and is skipped without them. Files go to a temporary folder, or stay in BENCH_WORK; the next
-# run there is quicker, since the programs are proved. Ends with 1 where something else is found, with 2 where something
-# could not be run.
+# Needs rt and sqlite3. Files go to a temporary folder, or stay in BENCH_WORK; the next run there is quicker, since the
+# programs are proved.
+#
+# Ends with 0 where all ran and held, with 1 where something else is found or something failed, and with 77, after what is
+# missing, where it could not be run.
 set -u
 . "$(dirname "${BASH_SOURCE[0]}")/common.sh"
-. "$top/bench/common/work.sh"
 need rt sqlite3
+make_or_keep_work
+common=$top/bench/common
 rm -f "$work"/*.db*
 
 # What a store made, read by sqlite3.
@@ -29,7 +32,7 @@ expect 'their entries' "$(sqlite3 "$made" "SELECT count(*), sum(asn) FROM $joine
 expect 'the table of schema 1' "$(sqlite3 "$made" 'SELECT count(*) FROM auth')" 0
 
 # What sqlite3 wrote, opened as a store.
-open=$("$common/build.sh" "$here/open.rattle" "$work" "$work/first.db") || fail "open.rattle was not built"
+open=$("$common/build.sh" "$top/checks/open.rattle" "$work" "$work/first.db") || fail "open.rattle was not built"
 rows="
 INSERT INTO meta VALUES ('schema', 2);
 INSERT INTO operator VALUES ('reg');
@@ -124,4 +127,4 @@ expect 'an empty file' "$("$open" "$work/empty.db")" schema
 echo 'register,alpha' >"$work/text.db"
 expect 'a file that is no database' "$("$open" "$work/text.db")" refused
 
-exit "$failed"
+end

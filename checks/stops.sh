@@ -5,20 +5,25 @@
 #     stops.sh [LIVES [SEED]]      (200 lives, and a seed that is drawn, where left out)
 #
 # lives.py kills the desk at random moments under load. The other cases begin with a copy of one database, and sqlite3
-# reads its tables afterwards. Needs python3, sqlite3, curl, strace and the commands of util-linux, and is skipped
-# without them. PROGRAM names the program, else it is that of the repository; skipped where it is not built. Takes some
-# minutes. Ends with 1 where something else is found, with 2 where something could not be run.
+# reads its tables afterwards.
+#
+# Needs the built program, which PROGRAM may name, python3 from 3.10 on, sqlite3, curl, prlimit and setpriv, and strace
+# with the right to trace.
+#
+# Ends with 0 where all ran and held, with 1 where something else is found or something failed, and with 77, after what is
+# missing, where it could not be run.
 set -u
 . "$(dirname "${BASH_SOURCE[0]}")/common.sh"
-need python3 sqlite3 curl strace prlimit setpriv
+need_python
+need sqlite3 curl strace prlimit setpriv
+strace -D -f -qq -o /dev/null true 2>/dev/null || skip 'no right to trace a process with strace'
 find_program
 lives=${1:-200}
 seed=${2:-$RANDOM}
-work=$(mktemp -d) || exit 2
-trap 'kill -9 $(jobs -p) 2>/dev/null; rm -rf "$work"' EXIT
+make_work
 # Another user runs the program too.
 chmod 711 "$work"
-install -m 755 "$program" "$work/roadesk" && install -m 644 "$top/examples/charter.csv" "$work" || exit 2
+install -m 755 "$program" "$work/roadesk" && install -m 644 "$top/examples/charter.csv" "$work" || exit 1
 program=$work/roadesk
 charter=$work/charter.csv
 first=$work/first.db
@@ -79,7 +84,9 @@ ask() {
             "http://127.0.0.1:$port$3")
         status=$?
         # The desk may not listen yet.
-        [ "$status" = 7 ] && kill -0 "$server" 2>/dev/null || break
+        if [ "$status" != 7 ] || ! kill -0 "$server" 2>/dev/null; then
+            break
+        fi
         sleep 0.02
     done
     [ "$status" != 0 ] || echo "${response##*$'\n'} ${response%$'\n'*}"
@@ -158,7 +165,11 @@ found() {
     once=$(ask_once "$1" probe)
     [ "$once" = "$no_grant $fine" ] || { echo "$once" && return; }
     count=$(sqlite3 "$1" 'SELECT count(*) FROM claim')
-    [ "$(rows "$1")" = "$(desk_rows "$count")" ] && echo "$count" || echo 'other rows'
+    if [ "$(rows "$1")" = "$(desk_rows "$count")" ]; then
+        echo "$count"
+    else
+        echo 'other rows'
+    fi
 }
 
 # copy NAME: makes a copy of the first desk, which has one authorization, and prints its path.
@@ -182,31 +193,36 @@ $(create 1)" '200 {"done":null}
     expect 'their rows' "$ended, $(rows "$first")" "$fine, $(desk_rows 1)"
 }
 
-# sweep CASE INJECTION CALL...: runs the case with a program `below` strace, which injects that into one call, the
-# first of its kind, the second and so on, until the program makes fewer of them. Prints how often each of the lines
-# came that the case prints.
+# sweep CASE INJECTION CALL...: runs the case with the words of a strace that the program is to be below, which injects
+# that into one call, the first of its kind, the second and so on, until the program makes fewer of them. Prints how
+# often each of the lines came that the case prints.
 sweep() {
     local call place
     for call in "${@:3}"; do
         for place in $(seq 1000); do
-            below=(strace -D -f -qq -o "$work/calls" -e "trace=$call" -e "inject=$call:$2:when=$place")
-            "$1" >"$work/line" 2>"$work/notices"
+            "$1" strace -D -f -qq -o "$work/calls" -e "trace=$call" -e "inject=$call:$2:when=$place" \
+                >"$work/line" 2>"$work/notices"
             [ "$(grep -c "$call(" "$work/calls")" -ge "$place" ] || break
             cat "$work/line"
         done
     done | sort | uniq -c | sed 's/^ *//; s/ / times: /'
 }
 
+# lines_of SWEEP: the lines that came, without how often each did.
+lines_of() {
+    echo "$1" | sed 's/^[0-9]* times: //; s/^$/no line/'
+}
+
 # expect_lines NAME SWEEP LINES: each of these lines came, and no other.
 expect_lines() {
     echo "$2"
-    expect "$1" "$(sed 's/^[0-9]* times: //' <<<"$2")" "$(sort <<<"$3")"
+    expect "$1" "$(lines_of "$2")" "$(sort <<<"$3")"
 }
 
 killed_init() {
     local file=$work/killed.db line served
     rm -f "$file"*
-    init "$file" "${below[@]}" >"$work/killed"
+    init "$file" "$@" >"$work/killed"
     if [ ! -s "$file" ]; then
         line="no file or an empty one; init: $(init "$file")"
     else
@@ -230,7 +246,7 @@ a file; init: $exists; serve: $no_grant $fine"
 killed_serve() {
     local file made=1
     file=$(copy killed)
-    start "$file" 2 "${below[@]}"
+    start "$file" 2 "$@"
     [ "$(create 2)" != '200 {"done":2}' ] || made=2
     [ "$(create 3)" != '200 {"done":3}' ] || made=3
     finish
@@ -251,7 +267,7 @@ made 3, found 3'
 failing_serve() {
     local file made=1 request right response statuses=()
     file=$(copy failing)
-    start "$file" 4 "${below[@]}"
+    start "$file" 4 "$@"
     for request in create list create probe; do
         case $request in
             create) right="200 {\"done\":$((made + 1))}" response=$(create $((made + 1))) ;;
@@ -259,16 +275,16 @@ failing_serve() {
             probe) right=$no_grant response=$(probe) ;;
         esac
         case $response in
-            "$right") [ $request != create ] || made=$((made + 1)) ;;
+            "$right") [ "$request" != create ] || made=$((made + 1)) ;;
             "$unavailable" | '') ;;
             *) response="another response $response" ;;
         esac
         statuses+=("${response%% \{*}")
     done
     finish
-    [ "${statuses[0]}" != 503 ] || echo "${below[@]}" >"$work/refused"
-    # The desk may not have opened.
-    echo ${statuses[*]} "$ended; made $made, found $(found "$file")"
+    [ "${statuses[0]}" != 503 ] || echo "$@" >"$work/refused"
+    # The desk may not have opened, and then no status is there.
+    printf '%s\n' "${statuses[@]}" "$ended; made $made, found $(found "$file")" | grep . | paste -sd ' '
 }
 
 # Of a desk that did not open, or in which the database was shut: after the first 503 there is nothing else until the
@@ -290,10 +306,10 @@ moves="$fine; schema 2 left, found 1
 $database; schema 1 left, found 1
 $database; schema 2 left, found 1"
 
-# expect_among NAME SWEEP LINES: no other line came.
+# expect_among NAME SWEEP LINES: some of these lines came, and no other.
 expect_among() {
     echo "$2"
-    expect "$1" "$(sed 's/^[0-9]* times: //' <<<"$2" | grep -vxF "$3")" ''
+    expect "$1" "$(lines_of "$2" | grep -vxF "$3")" ''
 }
 
 calls_fail() {
@@ -314,16 +330,16 @@ make_old() {
         done
         echo 'INSERT INTO main.auth SELECT holder, number, asn, family, lo, len, max, opens, ends
             FROM first.claim NATURAL JOIN first.entry; UPDATE main.meta SET value = 1;'
-    } | sqlite3 "$old" || exit 2
+    } | sqlite3 "$old" || exit 1
 }
 
-# Opens such a database below the command. `line` is what is left, schema 1 with the rows that it had or 2, and what the
-# desk has that opens it next; `first_end` is how the first ended.
+# move COMMAND...: opens such a database below the command. `line` is what is left, schema 1 with the rows that it had
+# or 2, and what the desk has that opens it next; `first_end` is how the first ended.
 move() {
     local file=$work/moved.db left
     rm -f "$file"*
-    cp "$old" "$file" || exit 2
-    start "$file" 1 "${below[@]}"
+    cp "$old" "$file" || exit 1
+    start "$file" 1 "$@"
     probe >"$work/response"
     finish
     first_end=$ended
@@ -333,12 +349,12 @@ move() {
 }
 
 killed_move() {
-    move
+    move "$@"
     echo "$line"
 }
 
 failing_move() {
-    move
+    move "$@"
     echo "$first_end; $line"
 }
 
@@ -397,10 +413,10 @@ full_disk() {
 other_users() {
     local folder=$work/folder file=$work/folder/desk.db other=()
     [ "$(id -u)" != 0 ] || other=(setpriv --reuid=65534 --regid=65534 --clear-groups)
-    mkdir "$folder" && install -m 666 "$first" "$file" && chmod 555 "$folder" || exit 2
+    mkdir "$folder" && install -m 666 "$first" "$file" && chmod 555 "$folder" || exit 1
     expect 'a read-only folder: serve' "$(serve "$file" "${other[@]}")" "$database"
     expect 'a read-only folder: init' "$(init "$folder/new.db" "${other[@]}")" "$database"
-    chmod 777 "$folder" && chmod 444 "$file" || exit 2
+    chmod 777 "$folder" && chmod 444 "$file" || exit 1
     expect 'a read-only file: serve' "$(serve "$file" "${other[@]}")" "$database"
     expect 'the folder afterwards' "$(ls "$folder"), $(cmp "$first" "$file" && echo 'as it was')" 'desk.db, as it was'
 }
@@ -425,14 +441,15 @@ two_programs() {
     echo 'SELECT count(*) FROM claim;' >&"${reader[1]}"
     read -r count <&"${reader[0]}"
     expect 'serve while sqlite3 has the file open' "$count, $(serve "$file")" "3, $database"
+    # shellcheck disable=SC2154 # coproc sets it
     kill "$reader_PID"
     wait "$reader_PID" 2>/dev/null
     expect 'found afterwards' "$(found "$file")" 3
 }
 
 two_inits() {
-    local file=$work/raced.db round
-    for round in $(seq 30); do
+    local file=$work/raced.db
+    for _ in $(seq 30); do
         rm -f "$file"*
         init "$file" >"$work/one" &
         init "$file" >"$work/other"
@@ -485,7 +502,7 @@ $file-journal"
 refused() {
     local file before
     file=$(copy edited)
-    sqlite3 "$file" "$2" && before=$(sqlite3 "$file" .dump) || exit 2
+    sqlite3 "$file" "$2" && before=$(sqlite3 "$file" .dump) || exit 1
     expect "sqlite3 edits $1" "$(serve "$file"), $(diff - <(sqlite3 "$file" .dump) <<<"$before")" "$3, "
 }
 
@@ -493,7 +510,7 @@ refused() {
 opened() {
     local file
     file=$(copy edited)
-    sqlite3 "$file" "$2" || exit 2
+    sqlite3 "$file" "$2" || exit 1
     expect "sqlite3 edits $1" "$(ask_once "$file" "${@:4}")" "$3 $fine"
 }
 
@@ -541,7 +558,7 @@ edited_rows() {
     opened 'the index of runs away' "DROP INDEX holding_of" "$one" list
     expect 'its indexes afterwards' "$(sqlite3 "$work/edited.db" '.indexes holding')" sqlite_autoindex_holding_1
     opened 'the whole file by VACUUM' "VACUUM" "$one" list
-    sqlite3 "$(copy edited)" .dump | sqlite3 "$work/dumped.db" || exit 2
+    sqlite3 "$(copy edited)" .dump | sqlite3 "$work/dumped.db" || exit 1
     expect 'a desk made from a dump' "$(found "$work/dumped.db")" 1
     opened 'a claim away with its entries' "PRAGMA foreign_keys = ON; DELETE FROM claim" "$(listed 0)" list
     opened 'a counter forward' "UPDATE holder SET auths = 7" "200 {\"done\":8}" create 2
@@ -564,5 +581,6 @@ $database,$fine"
 foreign_log
 hot_journal
 edited_rows
-mkdir "$work/lives" && python3 "$top/checks/lives.py" "$program" "$work/lives" "$lives" "$seed" || failed=1
-exit "$failed"
+mkdir "$work/lives" || exit 1
+run_python "$top/checks/lives.py" "$program" "$work/lives" "$lives" "$seed"
+end

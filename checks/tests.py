@@ -8,7 +8,8 @@ copy of the sources, from which the tests of the other processes are taken out. 
 said so by name, and the names are those that the sources have.
 
 Prints a line for each crate once its tests have ended, with the seconds since they began, and then each test that
-failed or did not run. Ends with 0 if all passed, else with 1.
+failed or did not run. Needs rt. Ends with 0 if all passed, with 77, after a line that says so, where there is no rt,
+and else with 1.
 """
 import collections
 import os
@@ -20,7 +21,8 @@ import tempfile
 import time
 
 import side_by_side
-from side_by_side import TOP, Job
+from common import TOP, need_rt
+from side_by_side import Job
 
 # A test and the comments before it, as rt fmt lays them out.
 TEST = re.compile(r"(?:^ *//.*\n)*^( *)#\[test\]\n(?:.*\n)*?\1}\n", re.M)
@@ -118,6 +120,7 @@ class Part(Job):
 
 
 def main():
+    need_rt()
     side_by_side.note_signals()
     crates = [Crate(name, names) for name in side_by_side.used_crates() if (names := tests_of(name))]
     with tempfile.TemporaryDirectory(prefix="roadesk-test-") as work:
