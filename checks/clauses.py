@@ -5,15 +5,19 @@
     clauses.py --against TOP          compares those of the repository at TOP with those of this one
 
 Prints each public function and each method of a trait, tests aside, with its signature and its clauses, one to a
-line, and the ghost lines of each type. A comparison prints what is in one of the two alone, and ends with 1 where there is any. An item is
-named by its impl or trait and its own name, without its crate and its module, so one that moved is the same.
+line, and the ghost lines of each type. A comparison prints what is in one of the two alone. An item is named by its impl
+or trait and its own name, without its crate and its module, so one that moved is the same.
+
+Needs nothing but python3. Ends with 0, and with 1 where a comparison printed something, for other words, and where a
+repository has no contracts.
 """
 import collections
 import pathlib
 import re
 import sys
 
-OWN = pathlib.Path(__file__).resolve().parent.parent
+from common import TOP
+
 OUTER = re.compile(r"^(?:unsafe )?(impl\b.*|(?:pub )?trait .*)$")
 FUNCTION = re.compile(r"^( *)(?:(pub) )?(?:const )?fn (\w+)")
 TEST = re.compile(r"^ *#\[(?:test|cfg\(test\))\]")
@@ -83,6 +87,8 @@ def tests_of(path):
 
 def contracts(top):
     paths = sorted(pathlib.Path(top).glob("crates/*/src/**/*.rt"))
+    if not paths:
+        sys.exit(f"clauses.py: {top} has no crates")
     tests = {it for path in paths for it in tests_of(path)}
     found = collections.Counter()
     for path in paths:
@@ -94,7 +100,7 @@ def contracts(top):
 
 def main(words):
     if words[:1] == ["--against"] and len(words) == 2:
-        old, new = contracts(words[1]), contracts(OWN)
+        old, new = contracts(words[1]), contracts(TOP)
         for sign, found in ("-", old - new), ("+", new - old):
             for text in sorted(found.elements()):
                 print(sign, text)
@@ -102,8 +108,8 @@ def main(words):
         return 1 if old != new else 0
     if len(words) > 1 or words[:1] == ["--against"]:
         print(__doc__, file=sys.stderr)
-        return 2
-    found = contracts(words[0] if words else OWN)
+        return 1
+    found = contracts(words[0] if words else TOP)
     print("\n".join(sorted(found.elements())))
     return 0
 

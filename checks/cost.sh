@@ -5,14 +5,17 @@
 #                         the last `rt ci` of it took on this machine, if this script ran it
 #     cost.sh CRATE...    first runs `rt ci` of each of these, lowest first, with one job
 #
-# The seconds are those of the crate alone where what it stands on is kept on this machine; else the names of the crates
+# Needs rt where crates are named. The seconds are those of the crate alone where what it stands on is kept on this machine; else the names of the crates
 # that were proved in the same run follow them. Where the crate itself was kept, nothing is measured, and the older
-# figure stays. Ends with 1 where a run failed.
+# figure stays.
+#
+# Ends with 0 where all crates were run and passed, with 1 where something failed, and with 77, after what is missing,
+# where they could not be run.
 set -u
-source "$(dirname "${BASH_SOURCE[0]}")/common.sh"
-need rt
+. "$(dirname "${BASH_SOURCE[0]}")/common.sh"
+[ $# = 0 ] || need rt
 record=${XDG_CACHE_HOME:-$HOME/.cache}/roadesk/cost
-mkdir -p "$record" || exit 2
+mkdir -p "$record" || exit 1
 
 crates() {
     sed -n 's/^\([a-z0-9_]*\):.*/\1/p' "$top/crates.txt"
@@ -29,7 +32,7 @@ count_edits() {
 # Runs the gate of one crate, and keeps the seconds, and the names of the crates below that were proved with it.
 measure() {
     local crate=$1 log times others status
-    log=$(mktemp) && times=$(mktemp) || exit 2
+    log=$(mktemp) && times=$(mktemp) || exit 1
     (cd "$top" && TIMEFORMAT='%U %S' && time RT_JOBS=1 rt ci "$crate" >"$log" 2>&1 </dev/null) 2>"$times"
     status=$?
     tail -n 1 "$log" | sed "s/^/$crate: /"
@@ -42,6 +45,9 @@ measure() {
     return $status
 }
 
+for crate in "$@"; do
+    crates | grep -qxF "$crate" || fail "no crate $crate"
+done
 if [ $# -gt 0 ]; then
     for crate in $(crates); do
         case " $* " in *" $crate "*) measure "$crate" || failed=1 ;; esac
@@ -54,4 +60,4 @@ for crate in $(crates); do
     edits=$(count_edits "$crate")
     echo "| \`$crate\` | $(count_lines "$crate") | ${edits/#0/} | $seconds${others:+ with ${others% }} |"
 done
-exit "$failed"
+end

@@ -4,28 +4,29 @@
 #
 #     deb.sh
 #
-# Needs dpkg-deb, lintian, readelf, strip, man, nginx and openssl; skipped without them. PROGRAM names the program, else
-# it is that of the repository; skipped where it is not built. Ends with 1 where something is otherwise, with 2 where
-# something could not be run.
+# Needs the built program, which PROGRAM may name, and dpkg, dpkg-deb, lintian, readelf, strip, man, nginx and openssl.
+#
+# Ends with 0 where all ran and held, with 1 where something failed, and with 77, after what is missing, where it could
+# not be run.
 set -u
 . "$(dirname "${BASH_SOURCE[0]}")/common.sh"
-need dpkg-deb lintian readelf strip man nginx openssl
+need dpkg dpkg-deb lintian readelf strip man nginx openssl
 find_program
-work=$(mktemp -d) || exit 2
-trap 'rm -rf "$work"' EXIT
-cd "$work" || exit 2
+make_work
+cd "$work" || exit 1
 
 # The time of a second run is another, and the mask of its files.
 export SOURCE_DATE_EPOCH=1767225600
-package=$("$top/packaging/package.sh" "$program" first) || exit 2
+package=$("$top/packaging/package.sh" "$program" first) || fail "no package was made"
 sleep 1.1
-(umask 077 && "$top/packaging/package.sh" "$program" second >/dev/null) || exit 2
+(umask 077 && "$top/packaging/package.sh" "$program" second >/dev/null) || fail "no second package was made"
 expect 'its name' "$package" "first/roadesk_$(cat "$top/VERSION")_$(dpkg --print-architecture).deb"
 expect 'twice the same octets' "$(cmp "$package" "second/${package##*/}" 2>&1)" ''
-expect 'errors of lintian' "$(lintian --fail-on none "$package" 2>&1 | grep '^E:')" ''
+lintian --fail-on none "$package" >judged 2>&1 || { cat judged >&2 && fail 'lintian failed'; }
+expect 'errors of lintian' "$(grep '^E:' judged)" ''
 
-dpkg-deb -R "$package" held || exit 2
-"$top/packaging/install.sh" "$program" by-hand || exit 2
+dpkg-deb -R "$package" held || exit 1
+"$top/packaging/install.sh" "$program" by-hand || exit 1
 # What the package adds and leaves out: its own files, and the form of Debian for the changes.
 expect 'the same as by hand' "$(diff -rq by-hand held | sort)" "Files by-hand/usr/bin/roadesk and held/usr/bin/roadesk differ
 Only in held/usr/share/doc/roadesk: changelog.gz
@@ -49,7 +50,7 @@ expect 'warnings of man' "$(cat warnings)" ''
 # shellcheck disable=SC2016 # these are of Markdown
 sed -n '/^## Faults of the program/,/^## Tables/p' "$top/docs/FORMATS.md" | grep -o '`roadesk: [^`]*`' | tr -d '`' |
     sort -u >lines
-[ -s lines ] || exit 2
+[ -s lines ] || fail 'FORMATS.md has no lines on standard error'
 expect 'lines on standard error that the man page leaves out' "$(grep -v -x -F -f <(sed 's/^ *//' page) lines)" ''
 
 # The site names what the package installs, and nginx finds its logs made.
@@ -69,9 +70,9 @@ expect 'certificate, key and callers: where they are' "$(cat named)" '/etc/roade
 # nginx reads the site as a part of Debian's configuration, which is replaced by a shorter one of its kind.
 mkdir -p etc/roadesk log
 openssl req -x509 -newkey ec -pkeyopt ec_paramgen_curve:prime256v1 -nodes -days 1 -subj /CN=localhost \
-    -keyout etc/roadesk/key.pem -out etc/roadesk/cert.pem 2>/dev/null || exit 2
+    -keyout etc/roadesk/key.pem -out etc/roadesk/cert.pem 2>/dev/null || fail 'openssl made no certificate'
 sed "s#/etc/roadesk/#$work&#; s#/var/log/roadesk/#$work/log/#" $site >site.conf
 printf 'user www-data;\npid %s/pid;\nerror_log %s/log/error.log;\nevents {}\nhttp { include %s/site.conf; }\n' \
     "$work" "$work" "$work" >nginx.conf
-expect 'nginx and the site' "$(nginx -t -c "$work/nginx.conf" 2>&1 | grep -v -e 'is ok$' -e 'is successful$')" ''
-exit "$failed"
+expect 'nginx and the site' "$(nginx -t -c "$work/nginx.conf" 2>&1 | sed '/is ok$/d; s/.* test is successful$/read/')" read
+end

@@ -6,12 +6,14 @@
 For the clauses of these names in the file, prints the definitions of specs/ that they reach, each file with its names and
 lines; then the types of the code that these name; then the definitions of the toolchain's libraries, whose own
 definitions are not followed. Nothing is proved or run. The last line has the sums.
+
+Needs nothing but python3. Ends with 0, and with 1 where there is no such file or no such clause in it.
 """
-import pathlib
 import re
 import sys
 
-TOP = pathlib.Path(__file__).resolve().parent.parent
+from common import TOP
+
 USE = re.compile(r"^\s*(?:ghost )?use (Rattle\.[\w.+]+)(?:\.\{([^}]*)\}| as (\w+));?\s*$", re.M)
 HEAD = re.compile(r"^(?:(?:abbrev|unfoldable|pub) )*(?:record |data )?([^\s(:]+)(?=[\s(:])")
 WORD = re.compile(r"[^\s(){}\[\],;λ]+")
@@ -88,6 +90,9 @@ def follow(crate, file, names):
     """The definitions of specs/ by file, the types of the code, and those of the toolchain by module, that are reached."""
     text = (TOP / "crates" / crate / file).read_text(encoding="utf-8")
     modules, specs, code, kit = {}, {}, set(), {}
+    missing = [it for it in names if not any(clauses(text, [it]))]
+    if missing:
+        sys.exit(f"definitions.py: {file} has no clause {missing[0]}")
     left = [it for clause in clauses(text, names) for it in reached(clause, imports(text), ())]
     while left:
         module, name = left.pop()

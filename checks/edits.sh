@@ -7,27 +7,25 @@
 # tries them there, as many at a time as RT_JOBS says. It begins with what earlier checks of the same crates kept on
 # this machine, and proves what they lack.
 #
-# Needs rt, and is skipped without it. Ends with 1 where an edit was not refused, could not be applied or was not tried,
-# with 2 where something could not be run.
+# Needs rt.
+#
+# Ends with 0 where each edit was refused, with 1 where one was not, could not be applied or was not tried, or something
+# else failed, and with 77, after what is missing, where it could not be run.
 set -u
 . "$(dirname "${BASH_SOURCE[0]}")/common.sh"
 need rt
-work=$(mktemp -d) || exit 2
-trap 'rm -rf "$work"' EXIT
+make_work
 
-copy_crates "$work" || exit 2
-cp "$top/HANDLES" "$work" || exit 2
+copy_crates "$work" || exit 1
+cp "$top/HANDLES" "$work" || exit 1
 rm -rf "$work"/crates/*/must-fail
-cd "$top/checks/edits" || exit 2
+cd "$top/checks/edits" || exit 1
 [ $# -gt 0 ] || set -- *
 edits=()
 for crate in "$@"; do
-    if [ ! -d "$top/crates/$crate" ]; then
-        echo "$(basename "$0"): no crate $crate" >&2
-        exit 2
-    fi
+    [ -d "$top/crates/$crate" ] || fail "no crate $crate"
     if [ -d "$crate" ]; then
-        cp -r "$crate" "$work/crates/$crate/must-fail" || exit 2
+        cp -r "$crate" "$work/crates/$crate/must-fail" || exit 1
         edits+=("$crate"/*.edit)
     fi
 done
@@ -43,4 +41,5 @@ for edit in "${edits[@]}"; do
 done
 [ "$refused" -eq "${#edits[@]}" ] || grep -v ': refused, as it must be' "$work/said" >&2
 echo "${#edits[@]} edits, $refused refused"
-[ "$status" -eq 0 ] && [ "$refused" -eq "${#edits[@]}" ]
+[ "$status" -eq 0 ] && [ "$refused" -eq "${#edits[@]}" ] || failed=1
+end

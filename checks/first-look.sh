@@ -3,22 +3,23 @@
 #
 #     first-look.sh
 #
-# PROGRAM names the proved program, else it is that of the repository; skipped where it is not built. Needs rt, and
-# is skipped without it. A run before the proof takes three minutes; so many as JOBS says, or two, are made at a time.
-# Ends with 1 where a reply differs or a run leaves a file behind, with 2 where something could not be run.
+# Needs the built program, which PROGRAM may name, rt and iconv. A run before the proof takes three minutes; so many as
+# JOBS says, or two, are made at a time.
+#
+# Ends with 0 where all ran and held, with 1 where a reply differs, a run leaves a file behind or something else failed,
+# and with 77, after what is missing, where it could not be run.
 set -u
 . "$(dirname "${BASH_SOURCE[0]}")/common.sh"
 need rt iconv
 find_program
-work=$(mktemp -d) || exit 2
-trap 'kill $(jobs -p) 2>/dev/null; rm -rf "$work"' EXIT
+make_work
 
 # A copy of the repository in which the program is not built, and a folder that the runs are started in.
 copy=$work/copy
 user=$work/user
-mkdir "$copy" "$user" "$work/temporary" || exit 2
-cp -a "$top/roadesk" "$top/examples" "$copy" || exit 2
-copy_crates "$copy" || exit 2
+mkdir "$copy" "$user" "$work/temporary" || exit 1
+cp -a "$top/roadesk" "$top/examples" "$copy" || exit 1
+copy_crates "$copy" || exit 1
 names() { (cd "$copy" && find . -print | sort); }
 names >"$work/names"
 
@@ -26,9 +27,9 @@ names >"$work/names"
 cases=0
 case_of() {
     cases=$((cases + 1))
-    mkdir "$work/$cases" || exit 2
+    mkdir "$work/$cases" || exit 1
     echo "$1" >"$work/$cases/name"
-    cp "$2" "$work/$cases/input" || exit 2
+    cp "$2" "$work/$cases/input" || exit 1
     : >"$work/$cases/words"
     [ $# -eq 2 ] || printf '%s\0' "${@:3}" >"$work/$cases/words"
 }
@@ -86,7 +87,6 @@ case_of 'a charter with a fault' "$top/examples/first-day.jsonl" script --charte
 case_of 'routes that are a folder' /dev/null check "$top/examples/payloads.csv" .
 case_of 'payloads with another header' /dev/null check faulty.csv "$top/examples/routes.csv"
 
-failed=0
 for number in $(seq "$cases"); do
     while [ "$(jobs -pr | wc -l)" -ge "${JOBS:-2}" ]; do
         wait -n
@@ -106,4 +106,4 @@ if [ -n "$(ls -A "$work/temporary")" ]; then
     echo "temporary files: left behind"
     failed=1
 fi
-exit "$failed"
+end

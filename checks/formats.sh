@@ -1,16 +1,20 @@
 #!/usr/bin/env bash
 # Sends the lines and the messages of FORMATS.md to the program, and compares its replies with those that it says.
 #
+#     formats.sh
+#
 # The block marked jsonl has a line and its reply in turn; the blocks marked http a request and its response in turn.
-# Where there are openssl and xxd, openssl reads each content of a reply as the elements of a vector of ROA-CONTENT.md.
-# PROGRAM names the program, else it is that of the repository; skipped where it is not built. Ends with 1 where a reply
-# differs, with 2 where something could not be run.
+# openssl reads each content of a reply as the elements of a vector of ROA-CONTENT.md.
+#
+# Needs the built program, which PROGRAM may name, and for the contents openssl and xxd.
+#
+# Ends with 0 where all ran and held, with 1 where something failed, and with 77, after what is missing, where not all of
+# it could be run.
 set -u
 . "$(dirname "${BASH_SOURCE[0]}")/common.sh"
 find_program
 charter=$top/examples/charter.csv
-work=$(mktemp -d) || exit 2
-trap 'kill $(jobs -p) 2>/dev/null; rm -rf "$work"' EXIT
+make_work
 
 # blocks LANGUAGE: each block of the language as a file N.LANGUAGE, counted from 1.
 blocks() {
@@ -28,6 +32,7 @@ sent() {
 
 check_lines() {
     blocks jsonl
+    [ -s "$work/1.jsonl" ] || fail 'FORMATS.md has no lines'
     awk 'NR % 2' "$work/1.jsonl" | "$program" script --charter "$charter" >"$work/replied"
     awk 'NR % 2 == 0' "$work/1.jsonl" | diff - "$work/replied"
 }
@@ -35,11 +40,13 @@ check_lines() {
 # Each word of the table of requests has a line.
 check_words() {
     local word missing=0
-    for word in $(sed -n 's/.*Some("\([a-z]*\)").*/\1/p' "$top/crates/requests/src/table.rt"); do
+    sed -n 's/.*Some("\([a-z]*\)").*/\1/p' "$top/crates/requests/src/table.rt" >"$work/words"
+    [ -s "$work/words" ] || fail 'the table of requests has no words'
+    while read -r word; do
         grep -q "\"do\":\"$word\"" "$work/1.jsonl" && continue
         echo "no line with the word $word"
         missing=1
-    done
+    done <"$work/words"
     return "$missing"
 }
 
@@ -51,12 +58,14 @@ elements() {
 
 check_contents() {
     local content found strange=0
-    for content in $(sed -n 's/^{"content":"\(.*\)"}$/\1/p' "$work/1.jsonl"); do
+    sed -n 's/^{"content":"\(.*\)"}$/\1/p' "$work/1.jsonl" >"$work/contents"
+    [ -s "$work/contents" ] || fail 'FORMATS.md has no reply with a content'
+    while read -r content; do
         found=$(elements <<<"$content")
         grep -qF "| $found |" "$top/docs/ROA-CONTENT.md" && continue
         echo "no vector of ROA-CONTENT.md has the elements $found"
         strange=1
-    done
+    done <"$work/contents"
     return "$strange"
 }
 
@@ -73,7 +82,8 @@ check_messages() {
     local count port block differs=0
     blocks http
     count=$(find "$work" -name '*.http' | wc -l)
-    port=$(free_port)
+    [ "$count" -gt 0 ] || fail 'FORMATS.md has no messages'
+    port=$(free_port) || exit 1
     "$program" init --db "$work/desk.db" --charter "$charter" || return
     "$program" serve --db "$work/desk.db" --listen "127.0.0.1:$port" --count $((count / 2)) --day 2026-03-01 &
     sleep 2
@@ -86,12 +96,17 @@ check_messages() {
     return "$differs"
 }
 
-check_lines && echo "lines: as said" || failed=1
-check_words && echo "words: each has a line" || failed=1
-if command -v openssl >/dev/null && command -v xxd >/dev/null; then
-    check_contents && echo "contents: elements as said" || failed=1
-else
-    echo "contents: skipped: no command openssl or xxd"
-fi
-check_messages && echo "messages: as said" || failed=1
-exit "$failed"
+# report TEXT COMMAND...: the text where the command held.
+report() {
+    if "${@:2}"; then
+        echo "$1"
+    else
+        failed=1
+    fi
+}
+
+report 'lines: as said' check_lines
+report 'words: each has a line' check_words
+! have 'contents: ' openssl xxd || report 'contents: elements as said' check_contents
+report 'messages: as said' check_messages
+end

@@ -9,19 +9,21 @@
 #
 # What a block prints, on standard error too, has to be the block after a line that ends with `prints` or `print`. Where
 # there is none, it has to end with status 0.
-# A block marked `sh needs COMMAND..` is skipped where one of these commands is missing; `netfilter` stands for the right
-# to make a network namespace with rules of nftables, which root has.
-# PROGRAM names the program to run as ./roadesk, else it is that of the repository; skipped where it is not built.
-# Ends with 1 where a block does otherwise, with 2 where something could not be run.
+#
+# Needs the built program, which PROGRAM may name and which is run as ./roadesk, and git. A block marked `sh needs
+# COMMAND..` needs these commands and is else not run; `netfilter` stands for the right to make a network namespace with
+# rules of nftables, which root has, and the command nft.
+#
+# Ends with 0 where all blocks ran and did as the guide says, with 1 where one did otherwise or something else failed,
+# and with 77, after what is missing, where not all of them could be run.
 set -u
 . "$(dirname "${BASH_SOURCE[0]}")/common.sh"
 need git
 find_program
 guide=${1:-$top/docs/GUIDE.md}
-work=$(mktemp -d) || exit 2
+make_work
 # The workers of an nginx that root starts are another user.
 chmod 711 "$work"
-trap 'rm -rf "$work"' EXIT
 
 # Block N becomes N.sh, with its line in N.line, what it needs in N.needs, and what it is said to print in N.said.
 awk -v work="$work" '
@@ -40,8 +42,9 @@ awk -v work="$work" '
         is_said = 0
         next
     }
-    NF { is_said = /(^| )prints?:?$/ }' "$guide" || exit 2
+    NF { is_said = /(^| )prints?:?$/ }' "$guide" || exit 1
 blocks=$(find "$work" -name '*.sh' | wc -l)
+[ "$blocks" -gt 0 ] || fail "$guide has no blocks"
 
 # A hook of git names its own repository in these.
 # shellcheck disable=SC2046
@@ -60,12 +63,12 @@ sum_used() {
 
 # A repository whose reader followed the guide by hand. The folder for the blocks is made from it.
 mkdir -p "$work/used/front" "$work/top"
-copy_tracked "$top" "$work/used" && git -C "$work/used" init -q && git -C "$work/used" add -f . || exit 2
+copy_tracked "$top" "$work/used" && git -C "$work/used" init -q && git -C "$work/used" add -f . || exit 1
 for file in desk.db front/key.pem front/cert.pem front/callers; do
     echo "the reader's" >"$work/used/$file"
 done
 sum_used >"$work/used.before"
-copy_tracked "$work/used" "$work/top" && rm "$work/top/roadesk" || exit 2
+copy_tracked "$work/used" "$work/top" && rm "$work/top/roadesk" || exit 1
 # The program is built.
 printf '#!/bin/sh\n[ "$*" = build ] || exec "%s" "$@"\n' "$program" >"$work/top/roadesk"
 chmod +x "$work/top/roadesk"
@@ -81,16 +84,33 @@ is_there() {
 
 # missing_for N: the commands that block N needs and that are missing.
 missing_for() {
-    for tool in $(cat "$work/$1.needs"); do
+    local tool tools
+    read -ra tools <"$work/$1.needs"
+    for tool in ${tools[@]+"${tools[@]}"}; do
         is_there "$tool" || echo "$tool"
     done
+}
+
+# tell_missing: says once of each of them what it is, and the lines of the blocks that need it.
+tell_missing() {
+    local tool what block lines
+    while read -r tool; do
+        case $tool in
+            netfilter) what='no right to make a network namespace with rules of nftables, or no nft (Debian: nftables)' ;;
+            *) what=$(without "$tool") ;;
+        esac
+        lines=$(for block in $(seq "$blocks"); do
+            ! grep -qxF "$tool" "$work/$block.missing" || cat "$work/$block.line"
+        done | paste -sd ,)
+        not_run "$what, for the blocks at the lines ${lines//,/, }"
+    done < <(cat "$work"/*.missing | sort -u)
 }
 
 # wait_for BLOCK: until each desk that the block leaves in the background listens, a minute at most. The desk is not
 # asked, as it may answer one connection alone.
 wait_for() {
     local port
-    for port in $(sed -n 's/.*--listen 127\.0\.0\.1:\([0-9]*\) .*&$/\1/p' "$1"); do
+    sed -n 's/.*--listen 127\.0\.0\.1:\([0-9]*\) .*&$/\1/p' "$1" | while read -r port; do
         for _ in $(seq 600); do
             ! grep -q "$(printf ':%04X 00000000:0000 0A' "$port")" /proc/net/tcp || break
             sleep 0.1
@@ -101,9 +121,10 @@ wait_for() {
 # Runs the blocks that miss nothing. What one leaves in the background goes on until the last has ended.
 run_blocks() {
     trap 'kill $(jobs -p) 2>/dev/null' EXIT
-    cd "$work/top" || exit 2
+    cd "$work/top" || exit 1
     for guide_block in $(seq "$blocks"); do
         [ ! -s "$work/$guide_block.missing" ] || continue
+        # shellcheck source=/dev/null
         . "$work/$guide_block.sh" >"$work/$guide_block.printed" 2>&1 </dev/null
         echo $? >"$work/$guide_block.status"
         wait_for "$work/$guide_block.sh"
@@ -116,7 +137,7 @@ run_blocks() {
 judge() {
     local at=$work/$1
     if [ -s "$at.missing" ]; then
-        echo "skipped: missing $(xargs <"$at.missing")"
+        echo "not run: missing $(paste -sd ' ' "$at.missing")"
     elif [ ! -e "$at.status" ]; then
         echo "did not end"
         return 1
@@ -136,6 +157,7 @@ judge() {
 for block in $(seq "$blocks"); do
     missing_for "$block" >"$work/$block.missing"
 done
+tell_missing
 export work blocks CURL_HOME=$work
 export -f run_blocks wait_for
 timeout 600 bash -c run_blocks
@@ -145,4 +167,4 @@ for block in $(seq "$blocks"); do
     echo "line $(cat "$work/$block.line"): $verdict"
 done
 expect 'a repository in use, before and after' "$(sum_used | diff "$work/used.before" -)" ''
-exit "$failed"
+end

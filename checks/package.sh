@@ -11,18 +11,31 @@
 #
 # Not covered: a second boot, midnight by its timer, what apt fetches as recommended, and a power cut.
 #
-# Needs root, the right to make namespaces, a hierarchy of cgroups v2, a root file system that an overlay can have below
-# it, Debian's systemd, nginx, nftables and the commands below; skipped without them, and where roadesk is installed.
-# PROGRAM names the program, else it is that of the repository; skipped where it is not built. Ends with 1 where
-# something is otherwise, with 2 where something could not be run.
+# Needs the built program, which PROGRAM may name; root, the right to make namespaces, a hierarchy of cgroups v2, a root
+# file system that an overlay can have below it, and no roadesk that is installed; Debian's systemd, nginx and nftables
+# and the commands below; and for the package before git, with the commit before.
+#
+# Ends with 0 where all ran and held, with 1 where something is otherwise or something failed, and with 77, after what is
+# missing, where not all of it could be run.
 # shellcheck disable=SC2016 # most of these are of a shell inside
-# shellcheck disable=SC2317 # called by their names, or exported
 set -u
 . "$(dirname "${BASH_SOURCE[0]}")/common.sh"
-[ "$(id -u)" = 0 ] || skip "not root"
-need apt-get dpkg dpkg-deb strip readelf systemctl journalctl nginx logrotate nft curl sqlite3 openssl python3 cc ip \
+cases='installs front killed locked connects nftables full days probes first_days desks versions removes'
+chosen=" ${*:-$cases} installs front "
+for case in $chosen; do
+    [[ " $cases " == *" $case "* ]] || fail "no case $case"
+done
+
+# want CASE: whether it is to be run.
+want() {
+    [[ $chosen == *" $1 "* ]]
+}
+
+[ "$(id -u)" = 0 ] || skip 'no root: run it as root'
+need apt-get dpkg dpkg-deb strip readelf systemctl journalctl nginx logrotate nft curl sqlite3 openssl python3 ip \
     unshare nsenter setpriv runuser tar
-[ -x /lib/systemd/systemd ] || skip "no systemd"
+need_gcc
+[ -x /lib/systemd/systemd ] || skip 'no /lib/systemd/systemd (Debian: systemd)'
 for file in /usr/bin/roadesk /var/lib/roadesk /etc/roadesk; do
     [ ! -e $file ] || skip "roadesk is installed here"
 done
@@ -40,7 +53,7 @@ unshare --mount --propagation private --pid --fork --net --ipc --uts --cgroup ba
     skip "no right to make namespaces, or no overlay of the root"
 group=$hierarchy/roadesk-check-$$
 mkdir "$group" 2>/dev/null || skip "no right to make a cgroup"
-work=$(mktemp -d) || exit 2
+work=$(mktemp -d) || exit 1
 outer=
 first=
 
@@ -70,25 +83,26 @@ rmdir "$group"
 before=$(left_behind)
 mkdir "$group"
 
-# The packages: of these files, and of those of the commit before, with a lower version. Where that commit has no
-# packaging, it is of these files too.
+# The packages: of these files, and of those of the commit before, with a lower version. Where there is no such commit, it
+# is of these files too.
 export SOURCE_DATE_EPOCH=1767225600
 version=$(cat "$top/VERSION")
-package=$("$top/packaging/package.sh" "$program" "$work/trial/out") || exit 2
+package=$("$top/packaging/package.sh" "$program" "$work/trial/out") || fail 'no package was made'
 mkdir "$work/before"
 if ! git -C "$top" archive HEAD~1 2>/dev/null | tar -xf - -C "$work/before" 2>/dev/null ||
     [ ! -e "$work/before/packaging/package.sh" ]; then
+    ! want versions || not_run 'the package of the commit before: no git (Debian: git), or no such commit in this clone'
     tar -C "$top" -cf - VERSION CHANGELOG.md packaging console docs examples | tar -xf - -C "$work/before"
 fi
 echo "$version~before" >"$work/before/VERSION"
-older=$("$work/before/packaging/package.sh" "$program" "$work/trial/out") || exit 2
+older=$("$work/before/packaging/package.sh" "$program" "$work/trial/out") || fail 'no package was made of the files before'
 
 # The examples and a `roadesk` that has made its package already, for the blocks of the guide.
 cp -r "$top/examples" "$work/trial"
 printf '#!/bin/sh\n[ "$*" = package ]\n' >"$work/trial/roadesk"
 chmod +x "$work/trial/roadesk"
 # Preloaded: refuses each sync while there is such a file.
-cc -shared -fPIC -o "$work/trial/refuse-syncs.so" -xc - <<'C' || exit 2
+gcc -shared -fPIC -o "$work/trial/refuse-syncs.so" -xc - <<'C' || exit 1
 #include <errno.h>
 #include <sys/syscall.h>
 #include <unistd.h>
@@ -195,7 +209,7 @@ boot() {
         kill -0 "$outer" || break
         sleep 0.1
     done 2>/dev/null
-    [ -n "$first" ] || { cat "$work/boot" >&2; exit 2; }
+    [ -n "$first" ] || { cat "$work/boot" >&2; fail 'systemd did not start'; }
     shell 'for _ in {1..100}; do
         case $(systemctl is-system-running) in running | degraded) break ;; esac
         sleep 0.2
@@ -615,9 +629,8 @@ nothing_left() {
 }
 
 boot
-for case in installs front killed locked connects nftables full days probes first_days desks versions removes; do
-    [ $# = 0 ] || [[ " installs front $* " == *" $case "* ]] || continue
-    $case
+for case in $cases; do
+    ! want "$case" || $case
 done
 nothing_left
-exit "$failed"
+end

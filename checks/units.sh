@@ -7,18 +7,19 @@
 # its own, so that the ports are those of the units and nothing else hears of them. In the place of the desk a server
 # answers as one would, and `systemctl` is a script that writes down its words.
 #
-# Needs the right to make a network namespace with rules of nftables, which root has, and nft, ip, ss, nsenter, setpriv,
-# python3, curl, sqlite3, systemd-analyze and systemctl; skipped without them. Ends with 1 where a command does
-# otherwise, with 2 where something could not be run.
+# Needs the right to make a network namespace with rules of nftables, which root has, and nft, ip, ss, unshare, nsenter,
+# setpriv, python3, curl, sqlite3, systemd-analyze and systemctl; and no program.
+#
+# Ends with 0 where all ran and held, with 1 where a command does otherwise or something else failed, and with 77, after
+# what is missing, where it could not be run.
 set -u
 . "$(dirname "${BASH_SOURCE[0]}")/common.sh"
 need nft ip ss nsenter setpriv python3 curl sqlite3 unshare systemd-analyze systemctl
-unshare -n nft list ruleset >/dev/null 2>&1 || skip "no right to make a network namespace with rules of nftables"
-work=$(mktemp -d) || exit 2
+unshare -n nft list ruleset >/dev/null 2>&1 || skip 'no right to make a network namespace with rules of nftables'
+make_work
 # The users that connect run curl in it.
 chmod 755 "$work"
-trap 'rm -rf "$work"' EXIT
-cd "$work" || exit 2
+cd "$work" || exit 1
 
 # As the program and as systemctl: each prints or writes down its words.
 mkdir bin run
@@ -30,13 +31,13 @@ cat >bin/systemctl <<'SH'
 [ "$(cat state)" = active ]
 SH
 chmod +x bin/*
-"$top/packaging/install.sh" bin/roadesk installed || exit 2
+"$top/packaging/install.sh" bin/roadesk installed || exit 1
 units=$work/installed/lib/systemd/system
 
 # In the place of the desk's user, which this machine may not have.
 stand_in=daemon
 sed "s/\"roadesk\"/\"$stand_in\"/" installed/etc/roadesk/roadesk.nft >roadesk.nft
-grep -q "$stand_in" roadesk.nft || exit 2
+grep -q "$stand_in" roadesk.nft || fail 'the rules name no user'
 
 # commands UNIT KEY: the commands of a unit, a line each, without the signs that tell systemd how to run them.
 commands() {
@@ -54,6 +55,7 @@ export PATH=$work/bin:$PATH
 
 # The settings that systemd gives to the commands.
 set -a
+# shellcheck source=../packaging/etc/desk.conf
 . "$top/packaging/etc/desk.conf"
 set +a
 export RUNTIME_DIRECTORY=$work/run
@@ -243,4 +245,4 @@ expect 'probe: three 503' "$(cat probe-503)" 'status 0'
 expect 'probe: two 503' "$(cat probe-twice)" 'status 1'
 expect 'probe: a desk that answers' "$(cat probe-403)" 'status 1'
 expect 'probe: no desk' "$(cat probe-away)" 'status 1'
-exit "$failed"
+end
