@@ -36,7 +36,9 @@ run() {
 
 # reason: what the check said that is missing, in a line.
 reason() {
-    sed -n 's/^[^ ]*: not run: //p' "$work/said" | sort -u | paste -sd ';' | sed 's/;/; /g'
+    local lines
+    lines=$(sed -n 's/^[^ ]*: not run: //p' "$work/said" | sort -u | paste -sd ';' | sed 's/;/; /g')
+    echo "${lines:-it does not say why}"
 }
 
 for name in "${names[@]}"; do
