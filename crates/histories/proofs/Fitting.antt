@@ -180,7 +180,7 @@ legal_rows_fit charter history h rows legal fits of =
     }
 
 files_after-fit : (c : Command) (before : List NamedSlurm) → CommandFits c → FilesFit before → FilesFit (files_after c before)
-files_after-fit (Slurm files) before values fit = All-filter (λ (f : NamedSlurm). has_entries f.file) FileFits files values
+files_after-fit (Slurm files) before values fit = All-filter (λ (f : NamedSlurm). has_entries f.file) FileFits files values.1
 files_after-fit _ before values fit = fit
 
 pub files_in_force_fit : FilesInForceFit

@@ -7,6 +7,7 @@ use Rattle.addr.specs.Day.{IsDay}
 use Rattle.addr.specs.Name.{is_name}
 use Rattle.addr.specs.declared.vrp.Vrp.{Vrp}
 use Rattle.slurm.specs.Exceptions.{Exceptions}
+use Rattle.slurm.specs.SlurmSets.{AreFiles}
 use Rattle.slurm.specs.declared.exceptions.TheConstants.{MOST_ENTRIES}
 use Rattle.slurm.specs.declared.filter.Filter.{Filter}
 use Rattle.slurm.specs.declared.filter.Filter.TheVariants.{Under, By, Both}
@@ -86,7 +87,7 @@ CommandFits (Create holder terms) = IsTrue (is_name holder) × TermsFit terms
 CommandFits (Amend holder n maxes until) = IsTrue (is_name holder) × IsU32 n × All IsU8 maxes.items × IsDay until
 CommandFits (Withdraw holder n) = IsTrue (is_name holder) × IsU32 n
 CommandFits (Import holder rows) = IsTrue (is_name holder) × All ImportRowFits rows.items
-CommandFits (Slurm files) = FilesFit files
+CommandFits (Slurm files) = AreFiles files × FilesFit files
 
 pub record EntryFits (e : Entry) : Type 0 where
   pub day : IsDay e.day
