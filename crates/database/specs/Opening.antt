@@ -1,11 +1,15 @@
 -- The opening of a database that has the tables of a desk, or those of schema 1.
-use Rattle.std.specs.Prelude.{◌≡◌, ◌⊎◌, false, IsTrue}
+use Rattle.std.specs.Prelude.{◌≡◌, ◌⊎◌, Bool, true, false, ◌||◌, List, IsTrue}
+use Rattle.std.specs.List.{list_any}
 use Rattle.sqlite.specs.Effect.{Database}
 use Rattle.sqlite.specs.State.{State}
+use Rattle.sqlite_schema.specs.Names.{same_name}
+use Rattle.sqlite_schema.specs.declared.schema.Schema.{Schema}
+use Rattle.sqlite_schema.specs.declared.schema.Table.{Table}
 use Rattle.sqlite_trees.specs.Tree.{Trees}
 use Rattle.charters.specs.CharterSets.{CharterSets}
 use Rattle.registry.specs.RowsOfAll.{AllRows}
-use Rattle.tables.specs.Tables.{desk_tables, SameRows}
+use Rattle.tables.specs.Tables.{claim, entry, desk_tables, SameRows}
 use Rattle.tables.specs.Schemas.{has_names}
 use Rattle.tables.specs.TablesHold.{TablesHold}
 use Rattle.moving.specs.EitherSchema.{AreOfEitherSchema, EitherSchemaHolds}
@@ -48,10 +52,23 @@ abbrev pub LeavesOldOrMoved : State → State → Type 0
 LeavesOldOrMoved old new =
     (trees : Trees) → new.may_leave trees → old.may_leave trees ⊎ AreMoved old trees
 
--- A name of a table or a column of a desk is missing, and the schema is not schema 1; or the tables of either schema are
--- there and do not read.
+-- a table has a name that schema 1 does not have: `claim` or `entry`
+abbrev pub has_new_table : Schema → Bool
+has_new_table schema =
+    list_any (λ table. same_name table.name claim.name || same_name table.name entry.name) schema.tables
+
+-- a name of these tables of schema 1 or of one of their columns is missing, or a new table is there
+abbrev pub HasOtherNames : Schema → List Table → Type 0
+HasOtherNames schema old = (has_names schema old ≡ false) ⊎ (has_new_table schema ≡ true)
+
+-- by its names the schema is neither that of a desk nor schema 1
+abbrev pub IsStrange : Schema → Type 0
+IsStrange schema = (has_names schema desk_tables ≡ false) × HasOtherNames schema old_tables
+
+-- A name of a table or a column of a desk is missing, and the names are not those of schema 1 either; or the tables of
+-- either schema are there and do not read.
 abbrev pub IsOfAnotherSchema : Database → Type 0
 IsOfAnotherSchema db =
-    ((has_names db.schema desk_tables ≡ false) × ¬ IsOldSchema db.schema)
+    IsStrange db.schema
     ⊎ ((db.schema.tables ≡ desk_tables) × ¬ TablesRead db.trees)
     ⊎ (IsOldSchema db.schema × ¬ OldTablesRead db.trees)

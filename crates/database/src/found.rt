@@ -3,9 +3,11 @@ ghost use Rattle.std.specs.Prelude.{◌≡◌, ◌↔◌, true, false, Err, IfOk
 ghost use Rattle.sqlite_schema.specs.declared.schema.Schema.{Schema as shown_schema};
 ghost use Rattle.tables.specs.Schemas.{has_names, HasPlainTables};
 ghost use Rattle.tables.specs.Tables.{desk_schema, desk_tables};
-ghost use Rattle.moving.specs.OldTables.{IsOldSchema};
+ghost use Rattle.moving.specs.OldTables.{old_tables};
 ghost use Rattle.making.specs.Moving.{old_schema_if};
-ghost use Rattle.database.specs.steps.Found.{HasFound, IsFoundOf, IsSamePlain, IsStrange};
+ghost use Rattle.database.specs.Opening as spec;
+ghost use Rattle.database.specs.Opening.{HasOtherNames, IsStrange};
+ghost use Rattle.database.specs.steps.Found.{HasFound, IsFoundOf, IsSamePlain};
 
 use making::{make_old_schema, make_schema};
 use sqlite::{Connection, Error, MemStore};
@@ -64,7 +66,9 @@ fn compare_tables(schema: &Schema, desk: &Schema) -> Result<(), StoreFault>
 }
 
 /// Whether a table is there that schema 1 does not have.
-fn has_new_table(schema: &Schema) -> bool {
+fn has_new_table(schema: &Schema) -> bool
+    ensures { result ≡ spec.has_new_table schema.now }
+{
     schema.tables.as_slice().iter().any(|table| table.is_named(b"claim")
         || table.is_named(b"entry"))
 }
@@ -76,7 +80,9 @@ fn compare_old(schema: &Schema, indexed: &Schema, bare: &Schema) -> Result<Found
     ensures found { IfOk result (IsFoundOf schema.now indexed.now bare.now) }
     ensures neither { OnErr result (¬ IsSamePlain schema.now indexed.now
         × ¬ IsSamePlain schema.now bare.now) }
-    ensures named { result ≡ Err StoreFault.Database → has_names schema.now bare.now.tables ≡ true }
+    ensures named { result ≡ Err StoreFault.Database
+        → ¬ HasOtherNames schema.now bare.now.tables }
+    ensures other { result ≡ Err StoreFault.Schema → HasOtherNames schema.now bare.now.tables }
 {
     if same_schema(schema, indexed) {
         return Ok(Found::Old(true));
@@ -93,7 +99,7 @@ fn compare_old(schema: &Schema, indexed: &Schema, bare: &Schema) -> Result<Found
 /// Compares a schema that lacks a name of a desk's tables with schema 1, as `compare_old` does.
 fn find_old(alloc: Global, schema: &Schema) -> Result<Found, StoreFault>
     ensures found { IfOk result (HasFound schema.now) }
-    ensures schema { result ≡ Err StoreFault.Schema → ¬ IsOldSchema schema.now }
+    ensures schema { result ≡ Err StoreFault.Schema → HasOtherNames schema.now old_tables }
 {
     let indexed = old_tables_in_memory(alloc, true)?;
     let bare = old_tables_in_memory(alloc, false)?;

@@ -5,10 +5,10 @@ ghost use Rattle.sqlite.specs.State.{HasCleanDisk};
 ghost use Rattle.making.specs.Making.{IsOver};
 ghost use Rattle.transactions.specs.Statements.{state_in, IfAnswered, IfRolledBack, StaysInside, WhenClean};
 ghost use Rattle.making.specs.Moving.{old_schema_if};
-ghost use Rattle.database.specs.Opening.{IsOfAnotherSchema, LeavesOldOrMoved, OpensDesk};
+ghost use Rattle.database.specs.Opening.{IsOfAnotherSchema, IsStrange, LeavesOldOrMoved, OpensDesk};
 ghost use Rattle.database.specs.OldTablesRead.{OldTablesRead};
 ghost use Rattle.transactions.specs.Queries.{IsClean};
-ghost use Rattle.database.specs.steps.Found.{HasFound, IsStrange};
+ghost use Rattle.database.specs.steps.Found.{HasFound};
 ghost use Rattle.database.specs.steps.Moving.{MovesDesk};
 
 use crate::found::{Found, find_tables};

@@ -240,6 +240,26 @@ fn some_shows(rows: &[Row], is_old: bool) -> bool
     }
 }
 
+/// Checks that the one row has the number of this schema, or that of schema 1. Fault `Schema`: no
+/// row has it. Fault `Database`: another row is beside the one that has it.
+fn check_number(rows: &[Row], is_old: bool) -> Result<(), StoreFault>
+    ensures found { OnOk result (Any (λ row. first_columns 2 row ≡ number_row is_old) rows.now
+        × (length rows.now ≡ 1)) }
+    ensures schema { result ≡ Err StoreFault.Schema
+        → ¬ Any (λ row. first_columns 2 row ≡ number_row is_old) rows.now }
+    ensures others { result ≡ Err StoreFault.Database
+        → Any (λ row. first_columns 2 row ≡ number_row is_old) rows.now
+        × (length rows.now ≢ 1) }
+{
+    if !some_shows(rows, is_old) {
+        return Err(StoreFault::Schema);
+    }
+    if rows.len() != 1 {
+        return Err(StoreFault::Database);
+    }
+    Ok(())
+}
+
 /// Checks that the one row of the table `meta` has the number of this schema, or that of schema 1.
 pub(crate) fn read_number<S: Alter>(
     tx: &mut Transaction<'_, S>,
@@ -253,13 +273,7 @@ pub(crate) fn read_number<S: Alter>(
         → ¬ HasNumber is_old (state_in S.Store tx.old).now.trees }
 {
     let rows = ask_all(tx, SELECT_SCHEMA)?;
-    if !some_shows(&rows, is_old) {
-        return Err(StoreFault::Schema);
-    }
-    if rows.len() != 1 {
-        return Err(StoreFault::Database);
-    }
-    Ok(())
+    check_number(&rows, is_old)
 }
 
 /// The charter of these operators and this pool. If they make none, the fault is `Schema`.

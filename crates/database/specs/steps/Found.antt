@@ -2,8 +2,7 @@
 use Rattle.std.specs.Prelude.{◌≡◌, true, false}
 use Rattle.sqlite_schema.specs.declared.schema.Schema.{Schema}
 use Rattle.tables.specs.Tables.{desk_tables}
-use Rattle.tables.specs.Schemas.{has_names, IsPlainSchema}
-use Rattle.moving.specs.OldTables.{IsOldSchema}
+use Rattle.tables.specs.Schemas.{IsPlainSchema}
 use Rattle.making.specs.Moving.{old_schema_if}
 use Rattle.database.specs.declared.found.Found.{Found}
 use Rattle.database.specs.declared.found.Found.TheVariants.{Desk, Old}
@@ -12,10 +11,6 @@ use Rattle.database.specs.declared.found.Found.TheVariants.{Desk, Old}
 abbrev pub HasFound : Schema → Found → Type 0
 HasFound schema Desk = schema.tables ≡ desk_tables
 HasFound schema (Old has_index) = schema ≡ old_schema_if has_index
-
--- a name of the tables of a desk is missing, and it is not that of schema 1
-abbrev pub IsStrange : Schema → Type 0
-IsStrange schema = (has_names schema desk_tables ≡ false) × ¬ IsOldSchema schema
 
 -- it is the other schema, and others are compared with it
 abbrev pub IsSamePlain : Schema → Schema → Type 0

@@ -1,7 +1,7 @@
 use Rattle.std.proofs.Common.{◌≡◌, [], ◌∷◌, map, refl, subst, arith, length, IsPermutation}
-use Rattle.std.proofs.lemmas.Bool.{both_ways}
 use Rattle.std.proofs.lemmas.List.{length-map}
 use Rattle.std.proofs.lemmas.List.Sorted.{IsPermutation-sym}
+use Rattle.std.proofs.lemmas.Result.{on_ok_weaker}
 use Rattle.tables.specs.Decode.{first_columns}
 use Rattle.tables.proofs.SomeRow.{has_permuted}
 use Rattle.transactions.specs.Statements.{state_in}
@@ -18,14 +18,13 @@ ask_all-requires-clause-plain g c = selects_meta.plain
 pub ask_all-requires-clause-unlisted : goal.ask_all-requires-clause-unlisted
 ask_all-requires-clause-unlisted g c = selects_meta.unlisted
 
-pub returns-then-not-some_shows-clause-schema :
-    goal.returns-then-not-some_shows-clause-schema
-returns-then-not-some_shows-clause-schema g c clean is has =
+pub returns-clause-schema : goal.returns-clause-schema
+returns-clause-schema g c clean is has =
     let db = (state_in g.S.Store c.args.tx.now).now in
     let rows = c.in_ok-rows.rows.items in
     let same = shown_of 2 (0 ∷ 1 ∷ []) (db.trees 0) rows refl (selects_meta.found db rows (c.in_ok-rows.ensures.answered clean)) in
     let some = some_from_has (first_columns 2) rows (number_row c.args.is_old) (has_permuted _ _ (number_row c.args.is_old) same (number_in c.args.is_old db has)) in
-    both_ways _ c.if-not-some_shows.true (c.some_shows.ensures.1 (rw c.deref.ensures.value some))
+    c.check_number.ensures.schema is (rw c.deref.ensures.value some)
 
 pub returns-clause-found : goal.returns-clause-found
 returns-clause-found g c clean =
@@ -33,9 +32,10 @@ returns-clause-found g c clean =
     let rows = c.in_ok-rows.rows.items in
     let found = selects_meta.found db rows (c.in_ok-rows.ensures.answered clean) in
     let same = shown_of 2 (0 ∷ 1 ∷ []) (db.trees 0) rows refl found in
-    let some = has_some (first_columns 2) rows (number_row c.args.is_old) (rw c.deref.ensures.value at (c.some_shows.ensures.0 c.if-not-some_shows.false)) in
-    let one : length (map (first_columns 2) rows) ≡ 1 = omega (arith, c.len.ensures, c.if-len-ne1.false, c.in_ok-rows.rows.ok.0, length-map rows (first_columns 2)) in
+    on_ok_weaker c.check_number.result (λ shown.
+    let some = has_some (first_columns 2) rows (number_row c.args.is_old) (rw c.deref.ensures.value at shown.0) in
+    let one : length (map (first_columns 2) rows) ≡ 1 = omega (arith, shown.1, length-map rows (first_columns 2)) in
     record {
       whole = is_tree (0 ∷ 1 ∷ []) (db.trees 0) rows found c.in_ok-rows.ensures.rise;
       shown = subst (λ l. IsPermutation l (shown_in 0 (0 ∷ 1 ∷ []) db)) (only_one (map (first_columns 2) rows) (number_row c.args.is_old) some one) (IsPermutation-sym _ _ same);
-    }
+    }) c.check_number.ensures.found
