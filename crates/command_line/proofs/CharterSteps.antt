@@ -13,7 +13,6 @@ use Rattle.std.specs.BTreeSet.{contains}
 use Rattle.std.specs.Cmp.{both_ways}
 use Rattle.std.specs.Cmp.Lexicographic.{pointwise, slice_cmp}
 use Rattle.std.specs.Ordering.{nat_cmp}
-use Rattle.std.specs.declared.cmp.Ordering.{Ordering}
 use Rattle.std.specs.List.{list_any}
 use Rattle.std.specs.Str.{bytes_eq}
 use Rattle.addr.specs.Address.{prefix_eq}

@@ -1,6 +1,5 @@
 //! How the program ends if it does not do its task: a line on standard error and a status.
 ghost use Rattle.std.specs.Prelude.{◌≡◌, ◌≤◌, length};
-ghost use Rattle.command_line.specs.declared.fault.FileFault.TheVariants.{Memory};
 ghost use Rattle.command_line.specs.ProgramFaults.{fault_of_file, fault_of_words, file_name, program_fault_text, row_fault_text, status_of};
 
 use crate::words::WordsFault;
@@ -84,7 +83,9 @@ pub enum FileFault {
 }
 
 impl From<AllocError> for FileFault {
-    ghost from_gives = { λ error fault. fault ≡ Memory };
+    ghost use Rattle.command_line.specs.declared.fault.FileFault.TheVariants.{Memory};
+
+    ghost from_gives = { λ _ fault. fault ≡ Memory };
 
     fn from(_: AllocError) -> FileFault {
         FileFault::Memory
@@ -189,6 +190,10 @@ impl From<WordsFault> for ProgramFault {
 }
 
 impl From<AllocError> for ProgramFault {
+    ghost use Rattle.command_line.specs.declared.fault.ProgramFault.TheVariants.{Memory};
+
+    ghost from_gives = { λ _ fault. fault ≡ Memory };
+
     fn from(_: AllocError) -> ProgramFault {
         ProgramFault::Memory
     }
