@@ -1,8 +1,10 @@
--- What an opening that was refused leaves.
-use Rattle.std.specs.Prelude.{◌≡◌, IsTrue}
+-- What an opening or a making of a store that was refused leaves.
+use Rattle.std.specs.Prelude.{◌≡◌, ◌≢◌, IsTrue}
+use Rattle.charters.specs.CharterSets.{CharterSets}
 use Rattle.sqlite.specs.Held.{Held, state}
 use Rattle.sqlite.specs.State.{State, HasCleanDisk}
 use Rattle.sqlite.specs.Store.{Ghosts}
+use Rattle.transactions.specs.Databases.{LeavesOldOrNew}
 use Rattle.transactions.specs.Statements.{IsAsBefore}
 use Rattle.transactions.specs.declared.fault.StoreFault.{StoreFault}
 use Rattle.transactions.specs.declared.fault.StoreFault.TheVariants.{Schema}
@@ -16,3 +18,12 @@ pub record IsGivenBack {S : Type 0} (g : Ghosts S) (found : State) (fault : Stor
   pub schema : HasCleanDisk (state g returned) → fault ≡ Schema → IsOfAnotherSchema found.now
   pub same : HasCleanDisk (state g returned) → IsTrue (state g returned).is_open → IsAsBefore found (state g returned)
   pub left : HasCleanDisk (state g returned) → LeavesOldOrMoved found (state g returned)
+
+-- The connection is returned with the fault of a store that was not made, which is never `Schema`. If the disk returned
+-- what was written, the database is as it was found while the connection is open, and a crash leaves what it left
+-- before, or, of an unused database, the tables with the charter and blank rows.
+pub record IsNotMade {S : Type 0} (g : Ghosts S) (charter : CharterSets) (found : State) (fault : StoreFault) (returned : Held S) : Type 0 where
+  pub clean : HasCleanDisk (state g returned) → HasCleanDisk found
+  pub not_schema : fault ≢ Schema
+  pub same : HasCleanDisk (state g returned) → IsTrue (state g returned).is_open → IsAsBefore found (state g returned)
+  pub left : HasCleanDisk (state g returned) → LeavesOldOrNew charter found (state g returned)

@@ -3,7 +3,7 @@ ghost use Rattle.std.specs.Prelude.{◌≡◌, ◌≢◌, ◌↔◌, false, None
 ghost use Rattle.sqlite.specs.Held.{state};
 ghost use Rattle.sqlite.specs.State.{HasCleanDisk};
 ghost use Rattle.registry.specs.RowsOfAll.{blank_rows, changed_rows};
-ghost use Rattle.store.specs.RefusedOpening.{IsGivenBack};
+ghost use Rattle.store.specs.RefusedOpening.{IsGivenBack, IsNotMade};
 ghost use Rattle.store.specs.StoreRows.{IsOpened};
 ghost use Rattle.transactions.specs.Databases.{HasDeskTables, IsUnused, IsNew, LeavesNew, IsHonest};
 ghost use Rattle.database.specs.Opening.{IsOfAnotherSchema};
@@ -77,8 +77,9 @@ impl<S: Alter + Drop> Store<S> {
 
     /// A store over a connection to a database that has no table yet, with this charter, where no
     /// holder is registered and no exception is in force. A connection in a transaction is refused,
-    /// and a limit of its steps is lifted.
-    pub fn create_on(mut conn: Connection<S>, charter: &Charter) -> Result<Self, StoreFault>
+    /// and a limit of its steps is lifted. What was done to a database that is refused is in no
+    /// value: a caller that needs to know calls `create_or_return`.
+    pub fn create_on(conn: Connection<S>, charter: &Charter) -> Result<Self, StoreFault>
         ensures charter { IfOk result (λ store. store.charter ≡ charter.now) }
         ensures rows { IfOk result (λ store. Holds S.Store store blank_rows) }
         ensures unused { OnOk result (IsUnused (state S.Store conn)) }
@@ -91,17 +92,47 @@ impl<S: Alter + Drop> Store<S> {
             (LeavesNew charter.now (connection_state S.Store store))) }
         ensures no_schema { result ≢ Err StoreFault.Schema }
     {
-        let kept = charter.clone()?;
-        make_tables(&mut conn, charter)?;
-        Ok(Store {
-            conn,
-            charter: kept,
-        })
+        match Store::create_or_return(conn, charter) {
+            Ok(store) => Ok(store),
+            Err((fault, _)) => Err(fault),
+        }
+    }
+
+    /// Like `create_on`, but returns the connection if it is refused, so that a contract can say
+    /// what is left of its database.
+    pub fn create_or_return(
+        mut conn: Connection<S>,
+        charter: &Charter,
+    ) -> Result<Self, (StoreFault, Connection<S>)>
+        ensures charter { IfOk result (λ store. store.charter ≡ charter.now) }
+        ensures rows { IfOk result (λ store. Holds S.Store store blank_rows) }
+        ensures unused { OnOk result (IsUnused (state S.Store conn)) }
+        ensures unlimited { IfOk result (λ store. store.connection.step_limit ≡ None) }
+        ensures made { IfOk result (λ store. IfClean S.Store store
+            (IsNew charter.now (connection_state S.Store store))) }
+        ensures clean { IfOk result (λ store. IfClean S.Store store
+            (HasCleanDisk (state S.Store conn))) }
+        ensures left { IfOk result (λ store. IfClean S.Store store
+            (LeavesNew charter.now (connection_state S.Store store))) }
+        ensures err { IfErr result (λ refused.
+            IsNotMade S.Store charter.now (state S.Store conn) refused.0 refused.1) }
+    {
+        let Ok(kept) = charter.clone() else {
+            return Err((StoreFault::Database, conn));
+        };
+        match make_tables(&mut conn, charter) {
+            Ok(()) => Ok(Store {
+                conn,
+                charter: kept,
+            }),
+            Err(fault) => Err((fault, conn)),
+        }
     }
 
     /// A store over a database that has the tables of a desk. One of schema 1 is moved in one
     /// commit; otherwise nothing is written, and indexes and views are left alone. A connection in
-    /// a transaction is refused, and a limit of its steps is lifted.
+    /// a transaction is refused, and a limit of its steps is lifted. What was done to a database
+    /// that is refused is in no value: a caller that needs to know calls `open_or_return`.
     pub fn open_from(alloc: Global, conn: Connection<S>) -> Result<Self, StoreFault>
         ensures opened { IfOk result (λ store. IfClean S.Store store
             (IsOpened S.Store (state S.Store conn) store)) }
@@ -118,7 +149,7 @@ impl<S: Alter + Drop> Store<S> {
     }
 
     /// Like `open_from`, but returns the connection if it is refused, so that a contract can say
-    /// whether its disk returned what was written.
+    /// whether its disk returned what was written, and what is left of its database.
     pub fn open_or_return(
         alloc: Global,
         mut conn: Connection<S>,
