@@ -1,6 +1,4 @@
 pub mod HolderLemmas
-pub mod OneReply
-pub mod AsDone
 pub mod DeskLemmas
 pub mod RunLemmas
 pub mod CrashLemmas

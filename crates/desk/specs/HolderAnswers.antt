@@ -1,8 +1,7 @@
 -- Holders that share a desk: which entries of the history decide the reply to a request, and which rows
 -- a request may change.
-use Rattle.std.specs.Prelude.{◌≡◌, ℕ, Bool, false, List, [], ◌∷◌, Option, Some, None, IsSome, IfSome, option_map, if◌then◌else◌}
+use Rattle.std.specs.Prelude.{◌≡◌, ℕ, Bool, false, List, [], ◌∷◌, Option, Some, None, IfSome, option_map, if◌then◌else◌}
 use Rattle.std.specs.List.{list_any}
-use Rattle.std.specs.String.{string_bytes}
 use Rattle.isolation.specs.Isolation.{concerns_all_holders}
 use Rattle.charters.specs.declared.charter.Charter.{Charter}
 use Rattle.registry.specs.declared.command.Query.TheVariants.{WhatIf}
@@ -21,7 +20,7 @@ use Rattle.registry.specs.declared.asked.Request.{Request}
 use Rattle.registry.specs.declared.asked.Request.TheVariants.{Command as CommandRequest, Query as QueryRequest}
 use Rattle.desk.specs.declared.desk.Desk.{Desk}
 use Rattle.desk.specs.declared.reply.Reply.{Reply}
-use Rattle.desk.specs.declared.reply.Reply.TheVariants.{Content, Listed, Report, Unavailable}
+use Rattle.desk.specs.declared.reply.Reply.TheVariants.{Report}
 
 -- the entries that decide the reply to a request: those that name one of its holders; none where the
 -- request concerns all holders
@@ -51,25 +50,6 @@ AnswersByEntries =
     (after : History) → IsLegal charter history
     → AnswersRequest charter history day caller request reply after
     → IsAnswerByEntries charter history day caller request reply
-
--- The replies say the same: of lists the items, of contents the text. Of Unavailable, and of the states of two
--- what-ifs, nothing is required.
-abbrev pub SaySame : Reply → Reply → Type 0
-SaySame Unavailable other = Unit {0}
-SaySame one Unavailable = Unit {0}
-SaySame (Report states) (Report others) = Unit {0}
-SaySame (Listed xs) (Listed ys) = xs.items ≡ ys.items
-SaySame (Content text) (Content other) = string_bytes text ≡ string_bytes other
-SaySame one other = one ≡ other
-
--- histories that agree on the entries that decide a request give it the same reply
-abbrev pub OneReply : Type 0
-OneReply =
-    (charter : Charter) (one other : History) (day : ℕ) (caller : List ℕ) (request : Request) (reply again : Reply)
-    → IsSome (deciding_entries request one) → deciding_entries request one ≡ deciding_entries request other
-    → IsAnswerByEntries charter one day caller request reply
-    → IsAnswerByEntries charter other day caller request again
-    → SaySame reply again
 
 -- each reply answers by the entries that decide it, of the history that the replies before it left
 abbrev pub RunsByEntries : Charter → History → List Asked → List Reply → Type 0

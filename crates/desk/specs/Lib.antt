@@ -2,7 +2,6 @@ pub mod Answer
 pub mod CrashOutcomes
 pub mod Resumed
 pub mod Run
-pub mod AsDone
 pub mod HolderAnswers
 pub mod DeskView
 pub mod Desk

@@ -26,7 +26,8 @@ use Rattle.hex.specs.Hex.{encode_lower}
 use Rattle.roa.specs.ContentOctets.{content_octets}
 use Rattle.roa.specs.RoaContent.{RouteOriginAttestation, Encodes, IsContent}
 use Rattle.contents.specs.ContentText.{content_of, IsContentText}
-use Rattle.desk.specs.HolderAnswers.{deciding_entries, IsAnswerOn, SaySame, OneReply}
+use Rattle.desk.specs.HolderAnswers.{deciding_entries, IsAnswerOn}
+use Rattle.desk_laws.specs.OneReply.{SaySame, OneReply}
 use Rattle.registry.specs.declared.asked.Request.{Request}
 use Rattle.registry.specs.declared.asked.Request.TheVariants.{Command as CommandRequest, Query as QueryRequest}
 use Rattle.desk.specs.declared.reply.Reply.{Reply}

@@ -13,7 +13,7 @@ use Rattle.registry.specs.declared.command.Proposed.TheVariants.{Create as Propo
 use Rattle.histories.specs.OneOutcome.{OneHypotheticalOutcome}
 use Rattle.kept.specs.States.{states_after}
 use Rattle.desk.specs.Answer.{is_accepted, is_import, AnswersCommand, AreStatesOn}
-use Rattle.desk.specs.AsDone.{requests_for, AreDone, WhatIfAsDone}
+use Rattle.desk_laws.specs.AsDone.{requests_for, AreDone, WhatIfAsDone}
 use Rattle.desk.specs.Run.{Runs}
 use Rattle.desk.specs.declared.reply.Reply.{Reply}
 use Rattle.desk.specs.declared.reply.Reply.TheVariants.{Done, Imported}

@@ -1,0 +1,2 @@
+mod AsDone
+mod OneReply

@@ -1,0 +1,2 @@
+pub mod AsDone
+pub mod OneReply
