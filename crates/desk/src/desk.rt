@@ -9,7 +9,7 @@ ghost use Rattle.sqlite.specs.State.{HasCleanDisk};
 ghost use Rattle.sqlite.specs.Steps.{over_memory};
 ghost use Rattle.loads.specs.Loads.{AreLoaded, AreNumbered};
 ghost use Rattle.store.specs.StoreRows.{connection_state, IfClean, OfHeldRows, IsRead, IsOpened};
-ghost use Rattle.store.specs.RefusedOpening.{IsGivenBack};
+ghost use Rattle.store.specs.RefusedOpening.{IsGivenBack, IsNotMade};
 ghost use Rattle.transactions.specs.Databases.{IsDeskWhileOpen, IsNew, IsUnused, LeavesNew, IsHonest};
 ghost use Rattle.database.specs.Opening.{IsOfAnotherSchema};
 ghost use Rattle.desk.specs.Answer.{is_accepted, only_reads, IsAnswered};
@@ -65,7 +65,8 @@ impl<S: Alter> Model for Desk<S> {
 impl<S: Alter + Drop> Desk<S> {
     /// A desk of this charter on which nothing was accepted yet, over a connection to a database
     /// that has no table. A connection in a transaction is refused, and a limit of its steps is
-    /// lifted.
+    /// lifted. What was done to a database that is refused is in no value: a caller that needs to
+    /// know calls `create_or_return`.
     pub fn create_on(
         alloc: Global,
         conn: Connection<S>,
@@ -85,14 +86,43 @@ impl<S: Alter + Drop> Desk<S> {
             → LeavesAtMost S.Store charter.now desk [] []) }
         ensures no_schema { result ≢ Err StoreFault.Schema }
     {
-        let store = Store::create_on(conn, charter)?;
+        match Desk::create_or_return(alloc, conn, charter) {
+            Ok(desk) => Ok(desk),
+            Err((fault, _)) => Err(fault),
+        }
+    }
+
+    /// Like `create_on`, but returns the connection if it is refused, so that a contract can say
+    /// what is left of its database.
+    pub fn create_or_return(
+        alloc: Global,
+        conn: Connection<S>,
+        charter: &Charter,
+    ) -> Result<Self, (StoreFault, Connection<S>)>
+        ensures charter { IfOk result (λ desk. charter_of desk ≡ charter.now) }
+        ensures empty { IfOk result (λ desk. HoldsHistory S.Store desk []) }
+        ensures unused { OnOk result (IsUnused (state S.Store conn)) }
+        ensures unlimited { IfOk result (λ desk. (store_of desk).connection.step_limit ≡ None) }
+        ensures made { IfOk result (λ desk. IfClean S.Store (store_of desk)
+            (IsNew charter.now (connection_state S.Store (store_of desk)))) }
+        ensures clean { IfOk result (λ desk. IsOnCleanDisk S.Store desk
+            → HasCleanDisk (state S.Store conn)) }
+        ensures left { IfOk result (λ desk. IfClean S.Store (store_of desk)
+            (LeavesNew charter.now (connection_state S.Store (store_of desk)))) }
+        ensures none_pending { IfOk result (λ desk. IsOnCleanDisk S.Store desk
+            → LeavesAtMost S.Store charter.now desk [] []) }
+        ensures err { IfErr result (λ refused.
+            IsNotMade S.Store charter.now (state S.Store conn) refused.0 refused.1) }
+    {
+        let store = Store::create_or_return(conn, charter)?;
         let kept = None;
         Ok(Desk { alloc, store, kept })
     }
 
     /// A desk over a database that has the tables of one, with the charter and the rows that they
     /// hold. One of schema 1 is moved in one commit. A connection in a transaction is refused, and
-    /// a limit of its steps is lifted.
+    /// a limit of its steps is lifted. What was done to a database that is refused is in no value:
+    /// a caller that needs to know calls `open_or_return`.
     pub fn open_from(alloc: Global, conn: Connection<S>) -> Result<Self, StoreFault>
         ensures opened { IfOk result (λ desk. IfClean S.Store (store_of desk)
             (IsOpened S.Store (state S.Store conn) (store_of desk))) }
@@ -115,7 +145,7 @@ impl<S: Alter + Drop> Desk<S> {
     }
 
     /// Like `open_from`, but returns the connection if it is refused, so that a contract can say
-    /// whether its disk returned what was written.
+    /// whether its disk returned what was written, and what is left of its database.
     pub fn open_or_return(
         alloc: Global,
         conn: Connection<S>,
