@@ -72,7 +72,8 @@ mkdir -p etc/roadesk log
 openssl req -x509 -newkey ec -pkeyopt ec_paramgen_curve:prime256v1 -nodes -days 1 -subj /CN=localhost \
     -keyout etc/roadesk/key.pem -out etc/roadesk/cert.pem 2>/dev/null || fail 'openssl made no certificate'
 sed "s#/etc/roadesk/#$work&#; s#/var/log/roadesk/#$work/log/#" $site >site.conf
-printf 'user www-data;\npid %s/pid;\nerror_log %s/log/error.log;\nevents {}\nhttp { include %s/site.conf; }\n' \
-    "$work" "$work" "$work" >nginx.conf
+[ "$(id -u)" != 0 ] || echo 'user www-data;' >nginx.conf
+printf 'pid %s/pid;\nerror_log %s/log/error.log;\nevents {}\nhttp { include %s/site.conf; }\n' \
+    "$work" "$work" "$work" >>nginx.conf
 expect 'nginx and the site' "$(nginx -t -c "$work/nginx.conf" 2>&1 | sed '/is ok$/d; s/.* test is successful$/read/')" read
 end
