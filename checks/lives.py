@@ -26,7 +26,7 @@ from datetime import date
 from pathlib import Path
 from typing import Callable, Optional
 
-from common import TABLES, connected, exchanged, free_port, serve_words
+from common import DAY, TABLES, connected, exchanged, free_port, serve_words
 
 CLIENTS = 4
 FROM = "2026-01-01"
