@@ -7,6 +7,7 @@ pub mod FileReadLemmas
 pub mod HeadLemmas
 pub mod HttpReadLemmas
 pub mod InOrder
+pub mod PathEquality
 pub mod PathLemmas
 pub mod RequestFaultLemmas
 pub mod RequestReadLemmas
