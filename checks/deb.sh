@@ -55,9 +55,8 @@ expect 'lines on standard error that the man page leaves out' "$(grep -v -x -F -
 
 # The site names what the package installs, and nginx finds its logs made.
 site=held/usr/share/roadesk/nginx-site
-expect 'console: the files that the site serves' "$(ls "held$(sed -n 's/^ *alias \(.*\);/\1/p' $site)")" 'console.js
-index.html
-style.css'
+expect 'console: the files that the site serves' "$(ls "held$(sed -n 's/^ *alias \(.*\);/\1/p' $site)")" \
+    "$(cd "$top/console" && ls ./*.css ./*.html ./*.js | sed 's#^\./##')"
 expect 'logs: made before nginx starts' "$(sed -n 's/^f \([^ ]*\) 0640 www-data adm -$/\1/p' \
     held/usr/lib/tmpfiles.d/roadesk.conf | sort)" "$(grep -o '/var/log/[a-z./]*' $site | sort)"
 # In every text, the folder of these three is the same.

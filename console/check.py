@@ -161,6 +161,11 @@ class Page:
     def run(self, script, *words):
         return self.driver.execute_script(script, *words)
 
+    def imported(self, module, expression):
+        """What an expression says of a module of the page."""
+        return self.driver.execute_async_script(
+            f"const told = arguments[0]; import('{ORIGIN}/console/{module}.js').then((module) => told({expression}))")
+
     def get(self, name):
         return self.driver.find_element(By.ID, name)
 
@@ -283,7 +288,7 @@ def check_sentences(page):
         return {number for row in re.findall(r"^\| ([\d, ]+) \|", section, re.M) for number in row.split(", ")}
 
     def keys(table):
-        return set(page.run(f"return Object.keys(SENTENCES.{table})"))
+        return set(page.imported("sentences", f"Object.keys(module.SENTENCES.{table})"))
 
     named = rules.split("| rule | holds where |")[1]
     words = {word for row in re.findall(r"^\| ([a-z, ]+) \|", named, re.M) for word in row.split(", ")}
@@ -436,11 +441,15 @@ def check_list(page):
 
 def check_several(page):
     """An authorization of several prefixes is shown with each of them."""
-    cells = page.run("""const entries = [{ prefix: '192.0.2.0/24', max: 24 }, { prefix: '2001:db8::/32', max: 48 }];
-        const row = listRow(toLine({ number: 9, asn: 64496, entries, from: '2026-01-01', until: '2026-12-31' }));
-        return [...row.children].slice(2, 4).map((cell) =>
-          [...cell.firstChild.children].map((part) => part.textContent));""")
-    expect("an authorization of several prefixes", cells, [["192.0.2.0/24", "2001:db8::/32"], ["24", "48"]])
+    entries = [{"prefix": "2001:db8:9::/48", "max": 56}, {"prefix": "192.0.2.0/26", "max": 26}]
+    terms = {"asn": 64509, "entries": entries, "from": DAY, "until": "2026-12-31"}
+    expect("an authorization of several prefixes", curl("ann", "/holders/alpha/auths", "-d", json.dumps(terms)),
+           '{"done":7}\n')
+    page.open()
+    row = page.rows("auths")[-1]
+    expect("its prefixes are listed", ["192.0.2.0/26" in row, "2001:db8:9::/48" in row], [True, True])
+    curl("ann", "/holders/alpha/auths/7", "-X", "DELETE")
+    page.open()
 
 
 def check_import(page):
@@ -449,6 +458,10 @@ def check_import(page):
         "denied.csv": header + "".join(f"AS64496,198.51.100.{16 * at}/28,28,2026-03-01,2026-12-31\n" for at in range(5))
         + "AS64496,203.0.113.0/24,24,2026-03-01,2026-12-31\nAS64497,198.51.100.128/26,26,2026-03-01,2026-12-31\n",
         "markup.csv": header + f'"{MARKUP}",192.0.2.0/26,26,2026-03-01,"<script>alert(2)</script>"\n',
+        "as.csv": header + "64496,192.0.2.0/29,29,2026-03-01,2026-12-31\n",
+        "capitals.csv": header + "AS64496,2001:DB8::/48,48,2026-03-01,2026-12-31\n",
+        "day.csv": header + "".join(
+            f"AS64496,2001:db8:{at:x}::/48,48,2026-03-01,2026-12-{32 if at == 137 else 31}\n" for at in range(1, 201)),
         "good.csv": header + "AS64496,192.0.2.0/24,25,2026-01-01,2026-12-31\n"
         + "".join(f"AS{64502 + at},2001:db8:{at + 16:x}::/48,{48 + at},2026-0{at + 1}-01,2027-0{at + 1}-28\n"
                   for at in range(6)),
@@ -466,11 +479,19 @@ def check_import(page):
     page.wait("change-said", "not an AS number")
     made = page.run("return document.querySelectorAll('#report img, #report script').length")
     expect("no markup came from a file", made, 0)
+    # What the desk would refuse, the page says by the row, its field and the true reason, and sends nothing.
+    for name, place, reason in [("as", 1, "write this AS number AS64496"), ("capitals", 1, "spell this prefix 2001:db8::/48"),
+                                ("day", 137, "no such day")]:
+        page.put(import_file=str(WORK / f"{name}.csv"))
+        page.wait("change-said", f"Row {place} is faulty")
+        marked = page.run("return [...document.querySelectorAll('#report tr.denied')].map((row) => row.innerText)")
+        expect(f"{name}.csv: the row is marked", [len(marked), reason in marked[0]], [1, True])
+        expect(f"{name}.csv: nothing is offered", page.get("confirm").is_displayed(), False)
     page.put(import_file=str(WORK / "good.csv"))
     page.wait("change-said", "7 rows, of which 6 would make an authorization")
     before = listed()
     page.confirm("6 authorizations made; 1 row was already authorized.")
-    imported = [f"{at + 7} {64502 + at} 2001:db8:{at + 16:x}::/48 {48 + at} 2027-0{at + 1}-28" for at in range(6)]
+    imported = [f"{at + 8} {64502 + at} 2001:db8:{at + 16:x}::/48 {48 + at} 2027-0{at + 1}-28" for at in range(6)]
     expect("what was imported", listed()[len(before):], imported)
 
 

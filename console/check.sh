@@ -1,14 +1,15 @@
 #!/usr/bin/env bash
 # Clicks through the console as an operator and as a holder's manager, in Chromium, on the built program behind the
-# nginx of examples/nginx.conf, and checks what the desk then lists. check.py has the tasks.
+# nginx of examples/nginx.conf, and checks what the desk then lists. check.py has the tasks. First the tests of the modules
+# that need no browser run, in tests/.
 #
 #     check.sh [FOLDER]
 #
 # FOLDER, as docs/pictures, gets the pictures. PROGRAM may name another program than that of the repository. Debian's
-# packages: chromium chromium-driver python3-selenium nginx openssl curl. Ends with 1 where a check failed.
+# packages: chromium chromium-driver python3-selenium nodejs nginx openssl curl. Ends with 1 where a check failed.
 set -u
 . "$(dirname "${BASH_SOURCE[0]}")/../checks/common.sh"
-need chromium chromedriver nginx openssl curl /usr/bin/python3
+need chromium chromedriver node nginx openssl curl /usr/bin/python3
 /usr/bin/python3 -c 'import selenium' 2>/dev/null || skip "no python3-selenium"
 find_program
 pictures=$(realpath "${1:-/nonexistent}" 2>/dev/null)
@@ -19,6 +20,9 @@ clicks=
 # A check that is ended ends its servers and browsers before its folder goes.
 trap '[ -z "$clicks" ] || { kill "$clicks" && wait "$clicks"; } 2>/dev/null; rm -rf "$work"' EXIT
 trap 'exit 1' HUP INT TERM
+
+tests=$(node --test "$top"/console/tests/*.test.js 2>&1)
+expect 'the tests of the modules' "$(grep -E '^not ok|^# fail [1-9]' <<<"$tests"; grep -cE '^# pass [1-9]' <<<"$tests")" 1
 
 mkdir "$work/front" "$work/pictures" "$work/downloads"
 cp -r "$top/console" "$work/front/"
@@ -40,8 +44,6 @@ TMPDIR=$work /usr/bin/python3 "$top/console/check.py" "$top" "$work" "$program" 
 clicks=$!
 wait "$clicks" || failed=1
 clicks=
-size=$(cat "$top"/console/{index.html,style.css,console.js} | wc -c)
-expect 'the page is below 60 KB' "$((size < 60000))" 1
 expect 'each picture is below 150 KB' "$(find "$work/pictures" -name '*.png' -size +149k)" ''
 if [ -d "$pictures" ]; then
     cp "$work"/pictures/*.png "$pictures"

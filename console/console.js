@@ -1,76 +1,11 @@
 // The page of a desk. What comes from the desk, from a file or from the user is put in as text, never as markup.
-"use strict";
 
-const KEPT = "Nothing was changed";
-const AGAIN = "Look whether it was, and send it again if not.";
-
-// What a denial, a malformed request, a fault of a SLURM file or a status says: the words of ../docs/FORMATS.md.
-const SENTENCES = {
-  denied: {
-    operator: "Only an operator of the registry may do this.",
-    steward: "Only an operator, or someone with a current grant as manager at this holder, may do this.",
-    grant: "You have no current grant at this holder with a role that allows this.",
-    holder: "No holder of this name is registered.",
-    fresh: "A holder of this name is registered already.",
-    number: "There is nothing active of this number at this holder, or it lies outside the scope of your grants.",
-    scope: "Your grants do not reach to all of this address space.",
-    dates: "The first day is after the last, or the last day has passed.",
-    length: "maxLength has to lie between the length of the prefix and 32 for IPv4 or 128 for IPv6.",
-    pool: "Part of this prefix lies outside the pool.",
-    free: "Part of this prefix is held already.",
-    distinct: "A transfer needs two holders: it goes from one to another.",
-    held: "The holder does not hold every address of this prefix.",
-    same: "The holder has another active authorization with this AS, prefix and maxLength. Amend or withdraw that one.",
-    room: "The holder is full: 1000 active authorizations, 64 grants, or all 999,999 numbers are used.",
-    overlap: "Two SLURM files name the same addresses.",
-  },
-  malformed: {
-    1: "The desk could not read the request: it is no JSON.",
-    2: "The request has a part missing or too much. A CSV file needs its header and the same fields in each row.",
-    3: "This is not the name of a holder: 1 to 32 of a to z, 0 to 9 and -, not beginning with -.",
-    4: "This is not the name of a user, which has the form of a holder's.",
-    5: "This is not a prefix, such as 192.0.2.0/24 or 2001:db8::/32, or it has bits set past its length.",
-    6: "This is not an AS number: 0 to 4294967295, or NONE for a route without an origin.",
-    7: "maxLength has to be a whole number from 0 to 255.",
-    8: "This is not a day from 1970-01-01 to 9999-12-31.",
-    9: "The role or the scope is none that can be granted. A manager has the scope all.",
-    10: "The number has to be a whole number from 1 to 999999.",
-    11: "This file is not a SLURM file that the desk takes.",
-    12: "The desk takes 1 to 10,000 rows or routes at once, and at most 1000 changes.",
-    13: "The request is longer than 1,048,576 bytes.",
-    14: "A prefix stands twice.",
-    15: "A SLURM file has no name of its own.",
-  },
-  slurm: {
-    1: "The file is not JSON, or is nested too deeply, or begins with a byte order mark.",
-    2: "The file as a whole is not a JSON object.",
-    3: "A part of the file is missing, unknown, or of the wrong kind.",
-    4: "slurmVersion has to be the number 1.",
-    5: "The file has BGPsec entries: both BGPsec arrays have to be empty.",
-    6: "A prefix in the file is not one in its usual spelling, with no bit set past its length.",
-    7: "An asn in the file is not an AS number: 0 to 4294967295, without quotes.",
-    8: "A maxPrefixLength does not lie between the length of its prefix and 32 for IPv4 or 128 for IPv6.",
-    9: "A filter has neither prefix nor asn: it would take every VRP away.",
-    10: "A comment is not text.",
-    11: "The file has more than 4096 filters and assertions.",
-    12: `The desk was out of memory. ${KEPT}: send the file again.`,
-  },
-  status: {
-    400: `The desk could not read the request. ${KEPT}.`,
-    401: `Your password was not accepted. ${KEPT}: load this page again.`,
-    403: `The front refused the request. ${KEPT}.`,
-    404: `The desk has no such page: a name or a number is empty or misspelt. ${KEPT}.`,
-    405: `The desk does not do this there. ${KEPT}.`,
-    411: `The request came without its length. ${KEPT}.`,
-    413: `The file is larger than the desk takes, 1,048,576 bytes. ${KEPT}.`,
-    429: `Too many requests came at once. ${KEPT}: wait, and send it again.`,
-    502: `The front did not get the desk's reply. The change may have been made. ${AGAIN}`,
-    503: `The desk's memory or database failed. ${KEPT}, unless the desk stops now. ${AGAIN}`,
-    504: `The desk did not reply in time. The change may have been made, or may still be. ${AGAIN}`,
-    lost: `The connection was lost. The change may have been made. ${AGAIN}`,
-    question: `There was no answer from the desk. ${KEPT}: ask again.`,
-  },
-};
+import { isTooLong, readImport, textOf, writeImport } from "./csv.js";
+import { coveredBy, overlap, placeOf, readPrefix } from "./prefixes.js";
+import { SENTENCES, faultOf } from "./sentences.js";
+import {
+  asOf, count, daysOf, describe, entriesOf, isName, originOf, ownRoutes, prefixesOf, showOrigin, stateOn, wholeOr,
+} from "./values.js";
 
 const SIGNS = { Valid: "✓", Invalid: "✗", NotFound: "?" };
 const KINDS = { Valid: "good", Invalid: "bad", NotFound: "open" };
@@ -95,10 +30,6 @@ function say(place, text, kind = "") {
 }
 
 const statusOf = (form) => form.querySelector("output");
-
-function count(number, one, many = `${one}s`) {
-  return `${number.toLocaleString("en")} ${number === 1 ? one : many}`;
-}
 
 function badge(state, words = state) {
   return element("span", { className: `state ${KINDS[state]}` }, `${SIGNS[state]} ${words}`);
@@ -153,110 +84,16 @@ function save(name, type, content) {
 
 // Values
 
-/** The prefix of a text, with its one spelling as `text`, or null. */
-function readPrefix(given) {
-  const [, address, digits] = /^\s*([0-9a-f.:]+)\/(\d{1,3})\s*$/i.exec(given) ?? [];
-  if (!address) return null;
-  const bits = address.includes(":") ? 128 : 32;
-  const parts = bits === 32 ? readBytes(address) : readGroups(address);
-  const length = Number(digits);
-  if (!parts || length > bits) return null;
-  const digitsOfPart = bits / parts.length / 4;
-  const hex = parts.map((part) => part.toString(16).padStart(digitsOfPart, "0")).join("");
-  const value = BigInt(`0x${hex}`);
-  if (BigInt.asUintN(bits - length, value)) return null;
-  return {
-    bits, length, value, hex,
-    get text() {
-      return `${bits === 32 ? parts.join(".") : writeGroups(parts)}/${length}`;
-    },
-  };
-}
-
-function readBytes(address) {
-  const bytes = address.split(".");
-  return bytes.length === 4 && bytes.every((byte) => /^\d{1,3}$/.test(byte) && byte < 256) ? bytes.map(Number) : null;
-}
-
-function readGroups(address) {
-  const halves = address.split("::").map((half) => (half ? half.split(":") : []));
-  const missing = 8 - halves.flat().length;
-  if (halves.length > 2 || (halves.length === 2 ? missing < 1 : missing !== 0)) return null;
-  const groups = [...halves[0], ...Array(missing).fill("0"), ...(halves[1] ?? [])];
-  return groups.every((group) => /^[0-9a-f]{1,4}$/i.test(group)) ? groups.map((group) => parseInt(group, 16)) : null;
-}
-
-/** As RFC 5952: the first of the longest runs of two or more zeros becomes `::`. */
-function writeGroups(groups) {
-  const text = groups.map((group) => group.toString(16)).join(":");
-  const runs = [...text.matchAll(/\b0(?::0)+\b/g)].sort((one, other) => other[0].length - one[0].length);
-  if (!runs.length) return text;
-  const [{ 0: run, index }] = runs;
-  return `${text.slice(0, index).replace(/:$/, "")}::${text.slice(index + run.length).replace(/^:/, "")}`;
-}
-
-const partOf = ({ bits, value }, length) => `${bits} ${length} ${value >> BigInt(bits - length)}`;
-
-/** A test of prefixes: whether one of these covers it. */
-function coveredBy(prefixes) {
-  const parts = new Set(prefixes.map((prefix) => partOf(prefix, prefix.length)));
-  const lengths = [...new Set(prefixes.map((prefix) => prefix.length))];
-  return (inner) => lengths.some((length) => length <= inner.length && parts.has(partOf(inner, length)));
-}
-
-const overlap = (one, other) => coveredBy([one])(other) || coveredBy([other])(one);
-
 /** What a field asks for. A text that is none is sent as it is, and the desk says what is wrong with it. */
 const prefixIn = (id) => readPrefix($(id).value)?.text ?? $(id).value.trim();
-const wholeOr = (text) => (/^\d+$/.test(text) ? Number(text) : text);
-const asOf = (text) => wholeOr(text.trim().replace(/^AS/i, ""));
-const originOf = (text) => (/^none$/i.test(text.trim()) ? null : asOf(text));
-const showOrigin = (origin) => (origin === null ? "NONE" : `AS${origin}`);
 const nameIn = (id) => $(id).value.trim();
 const pathOf = (...parts) => parts.map((part) => `/${encodeURIComponent(part)}`).join("");
-const isName = (text) => /^[a-z0-9][a-z0-9-]{0,31}$/.test(text);
-
-/** The prefixes of an authorization with their maxLengths: its own, or those of its entries. */
-const entriesOf = (auth) => auth.entries ?? [{ prefix: auth.prefix, max: auth.max }];
-
-const prefixesOf = (auth) => entriesOf(auth).map((entry) => readPrefix(entry.prefix)).filter(Boolean);
-
-const ownRoutes = (auth) => entriesOf(auth).map(({ prefix }) => ({ prefix, origin: auth.asn }));
 
 const rangesOf = (auth) => entriesOf(auth).map(({ prefix, max }) => `${prefix} up to /${max}`);
 
-const daysOf = ({ from, until }) => `${from} to ${until}`;
-
-const describe = (auth) => `AS${auth.asn} for ${rangesOf(auth).join(", ")}, ${daysOf(auth)}`;
-
-function stateOf(auth) {
-  if (auth.from > $("day").value) return "to come";
-  return auth.until < $("day").value ? "past" : "in force";
-}
-
-/** The records of a CSV text, with the quotes undone. */
-function readRecords(text) {
-  const found = [];
-  let record = [];
-  for (const [, quoted, plain, end] of text.matchAll(/(?:"((?:[^"]|"")*)"|([^,\r\n]*))(,|\r\n|\n|\r|$)/g)) {
-    record.push(quoted === undefined ? plain : quoted.replaceAll('""', '"'));
-    if (end === ",") continue;
-    if (record.length > 1 || record[0] !== "") found.push(record);
-    record = [];
-  }
-  return found;
-}
+const stateOf = (auth) => stateOn(auth, $("day").value);
 
 // The desk
-
-/** The sentence of a response that is no answer. */
-function faultOf(status, reply, isQuestion) {
-  if (reply?.denied) return SENTENCES.denied[reply.denied] ?? `The desk denied this by the rule ${reply.denied}.`;
-  if (reply?.slurm) return SENTENCES.slurm[reply.slurm] ?? `The file has the fault ${reply.slurm}.`;
-  if (reply?.malformed) return SENTENCES.malformed[reply.malformed] ?? `The request has the fault ${reply.malformed}.`;
-  if (isQuestion && (status > 500 || status === "lost")) return SENTENCES.status.question;
-  return SENTENCES.status[status] ?? `The front answered ${status}. Look whether the change was made.`;
-}
 
 /** Sends one request. The result has the text and the reply of an answer, or else what went wrong as `fault`. */
 async function ask(method, path, body, isQuestion = method === "GET") {
@@ -306,7 +143,7 @@ function keep(what, text) {
 const COLUMNS = [
   ["Number", (line) => line.auth.number],
   ["AS", (line) => line.auth.asn],
-  ["Prefix", (line) => (line.place ??= placeOf(entriesOf(line.auth)[0]))],
+  ["Prefix", (line) => (line.place ??= placeOf(readPrefix(entriesOf(line.auth)[0].prefix)))],
   ["maxLength", (line) => entriesOf(line.auth)[0].max],
   ["First day", (line) => line.auth.from],
   ["Last day", (line) => line.auth.until],
@@ -316,12 +153,6 @@ const COLUMNS = [
 let holder = "";
 let lines = [];
 let sorted = { column: 0, falls: false };
-
-/** A text by which prefixes are in the order of their addresses, and those of one address by length. */
-function placeOf({ prefix }) {
-  const { bits, hex, length } = readPrefix(prefix);
-  return `${String(bits).padStart(3)} ${hex} ${String(length).padStart(3)}`;
-}
 
 /** What is sorted and filtered. The place of its prefix and its row are made when they are needed, and once. */
 function toLine(auth) {
@@ -697,55 +528,70 @@ function withdraw(auth) {
 
 // Imports
 
-const HEADER = "asn,prefix,maxlength,from,until";
-
 const sameTerms = ({ asn, prefix, max, from, until }) => `${asn} ${prefix} ${max} ${from} ${until}`;
 
-/** The rows that would make an authorization, with their places in the file. */
-function newRows(records) {
+/** The rows that would make an authorization. */
+function newRows(rows) {
   const present = new Set(lines.filter(({ auth }) => !auth.entries).map(({ auth }) => sameTerms(auth)));
-  return records.flatMap(([asn, prefix, max, from, until], at) => {
-    const terms = { asn: asOf(asn), prefix, max: wholeOr(max ?? ""), from, until };
+  return rows.filter(({ terms }) => {
     const isNew = !present.has(sameTerms(terms));
     present.add(sameTerms(terms));
-    return isNew ? [{ terms, place: at + 1 }] : [];
+    return isNew;
   });
 }
 
-/** Shows the rows, and the denied one with its fault, which is shown even where it comes late. */
-function showRows(records, denied, fault) {
+/** Shows the rows, those that are marked first where they come late: with the mark, and the reason in its column. */
+function showRows(rows, marks = []) {
   heads("Row", "AS", "Prefix", "maxLength", "First day", "Last day");
-  const places = records.map((_, at) => at + 1);
-  const first = denied > SHOWN_AT_MOST ? [denied] : [];
-  fill($("report"), [...first, ...places.slice(0, SHOWN_AT_MOST)], (place) => {
-    const row = rowOf(`${place}`, ...records[place - 1]);
-    if (place !== denied) return row;
+  const marked = new Map();
+  for (const mark of marks) marked.set(mark.place, [...(marked.get(mark.place) ?? []), mark]);
+  const late = [...marked.keys()].filter((place) => place > SHOWN_AT_MOST).slice(0, SHOWN_AT_MOST);
+  const shown = [...late.map((place) => rows[place - 1]), ...rows.slice(0, SHOWN_AT_MOST)];
+  let isFirst = true;
+  fill($("report"), shown, ({ place, record }) => {
+    const row = rowOf(`${place}`, ...record);
+    const own = marked.get(place) ?? [];
+    if (!own.length) return row;
     row.className = "denied";
-    row.firstChild.append(element("span", { className: "why" }, "✗ denied"));
-    row.children[2]?.append(element("span", { className: "why" }, fault));
-    requestAnimationFrame(() => row.scrollIntoView({ block: "center" }));
+    row.firstChild.append(element("span", { className: "why" }, `✗ ${own[0].word}`));
+    for (const { column, reason } of own) {
+      (row.children[column + 1] ?? row.lastChild).append(element("span", { className: "why" }, reason));
+    }
+    if (isFirst) requestAnimationFrame(() => row.scrollIntoView({ block: "center" }));
+    isFirst = false;
     return row;
   });
+}
+
+/** What is wrong with the rows of a file: how many are faulty, and the first of them. */
+function sayFaulty(faulty) {
+  const [{ place, faults: [{ reason }] }] = faulty;
+  const which = faulty.length === 1 ? `Row ${place} is faulty` : `${count(faulty.length, "row")} are faulty, first row ${place}`;
+  sayOfChange(`${which}: ${reason} Nothing was sent.`, "fault");
 }
 
 async function planImport() {
   const [file] = $("import-file").files;
   if (!file) return void sayOfChange("Choose a file.", "fault");
-  const [header, ...records] = readRecords(await file.text());
-  showRows(records);
-  const isWhole = header?.join() === HEADER && records.every((record) => record.length === 5);
-  if (!isWhole) return void sayOfChange(`${SENTENCES.malformed[2]} The header is ${HEADER}.`, "fault");
-  const made = newRows(records);
+  const { rows, reason } = readImport(textOf(await file.arrayBuffer()));
+  const faulty = rows.filter(({ faults }) => faults.length);
+  const marks = faulty.flatMap(({ place, faults }) => faults.map((fault) => ({ ...fault, place, word: "faulty" })));
+  showRows(rows, marks);
+  if (reason) return void sayOfChange(`${reason} Nothing was sent.`, "fault");
+  if (faulty.length) return void sayFaulty(faulty);
+  const sent = new Blob([writeImport(rows.map(({ terms }) => terms))]);
+  if (isTooLong(sent.size)) return void sayOfChange(SENTENCES.status[413], "fault");
+  const made = newRows(rows);
   const mark = (place, fault) => {
     sayOfChange(`Row ${place} is denied, so the whole file is, and nothing was changed: ${fault}`, "fault");
-    showRows(records, place, fault);
+    showRows(rows, [{ place, column: 1, reason: fault, word: "denied" }]);
   };
   return {
-    request: ["POST", underHolder("imports"), file],
+    request: ["POST", underHolder("imports"), sent],
     done: ({ made: number, present }) =>
       `${count(number, "authorization")} made; ${count(present, "row was", "rows were")} already authorized.`,
     mark,
-    show: () => reportImport(records, made),
+    show: () => reportImport(rows, made),
   };
 }
 

@@ -51,8 +51,8 @@ put 644 tmpfiles.d/roadesk.conf usr/lib/tmpfiles.d/roadesk.conf
 put_setting desk.conf
 put_setting roadesk.nft
 put 644 etc/logrotate etc/logrotate.d/roadesk
-for file in index.html style.css console.js; do
-    install -D -m 644 "$top/console/$file" "$root/usr/share/roadesk/console/$file"
+for file in "$top"/console/*.html "$top"/console/*.css "$top"/console/*.js; do
+    install -D -m 644 "$file" "$root/usr/share/roadesk/console/${file##*/}"
 done
 install -D -m 644 "$top/examples/wait.conf" "$root/usr/share/roadesk/wait.conf"
 install -D -m 644 "$top/examples/nginx.conf" "$root/usr/share/roadesk/nginx-site"
