@@ -226,8 +226,8 @@ class Page:
                         f"#{name} tbody tr")
 
     def rows(self, name):
-        """As `table`, once there is a row: a list that is sorted anew is empty for a moment."""
-        return WebDriverWait(self.driver, 20).until(lambda _: self.table(name))
+        """As `table`, once there is a row, and it is laid out: a list that is sorted anew is empty for a moment."""
+        return WebDriverWait(self.driver, 20).until(lambda _: (rows := self.table(name)) and all(rows) and rows)
 
     def open(self, holder="alpha"):
         self.page("authorizations")
@@ -395,7 +395,7 @@ def check_changes(page):
     expect("what would be denied is not offered", page.get("confirm").is_displayed(), False)
     page.put(terms_prefix=MARKUP)
     page.click("ask-report")
-    page.wait("change-said", "This is not a prefix")
+    page.wait("change-said", "is not a prefix")
     page.click("cancel")
 
     page.open_auth(1)
@@ -439,17 +439,95 @@ def check_list(page):
     page.click("details-close")
 
 
+def check_later_days(page):
+    """A change that shows on another day than the desk's says so, by its button too."""
+    def reported(verb):
+        said = page.wait("change-said", "From ")
+        return [line in said for line in ["Today: nothing changes.", "cannot know what else"]] + [
+            re.search(r"From .*?\.(?= For)", said)[0], page.text("confirm"),
+            "danger" in page.get("confirm").get_attribute("class")]
+
+    page.click("create")
+    page.put(terms_asn="AS64777", terms_prefix="2001:db8:1::/48")
+    page.day("terms-from", "2026-03-02")
+    page.click("ask-report")
+    expect("a create that begins tomorrow", reported("Create"),
+           [True, True, "From 2026-03-02: 2001:db8:1::/48 AS64499 becomes Invalid.",
+            "Create: 1 route becomes Invalid from 2026-03-02", True])
+    page.click("cancel")
+    page.open_auth(2)
+    page.click("amend")
+    page.day("terms-until", "2026-04-30")
+    page.click("ask-report")
+    expect("an amendment that ends earlier", reported("Amend"),
+           [True, True, "From 2026-05-01: 192.0.2.128/25 AS64497 becomes Invalid.",
+            "Amend: 1 route becomes Invalid from 2026-05-01", True])
+    page.click("cancel")
+    (WORK / "later.csv").write_text(
+        "asn,prefix,maxlength,from,until\nAS64777,2001:db8:1::/48,48,2026-04-01,2026-12-31\n")
+    page.click("import")
+    page.put(import_file=str(WORK / "later.csv"))
+    expect("an import of rows that begin later", reported("Import"),
+           [True, True, "From 2026-04-01: 2001:db8:1::/48 AS64499 becomes Invalid.",
+            "Import: 1 route becomes Invalid from 2026-04-01", True])
+    page.click("cancel")
+    # The desk's day is its own, whatever this browser takes it for.
+    expect("the desk's day was found", page.run("return document.getElementById('day').value"), DAY)
+
+
+def paste(page, name, text):
+    page.run("""const data = new DataTransfer();
+        data.setData('text/plain', arguments[1]);
+        document.getElementById(arguments[0]).dispatchEvent(
+          new ClipboardEvent('paste', { clipboardData: data, bubbles: true, cancelable: true }));""", name, text)
+
+
 def check_several(page):
-    """An authorization of several prefixes is shown with each of them."""
-    entries = [{"prefix": "2001:db8:9::/48", "max": 56}, {"prefix": "192.0.2.0/26", "max": 26}]
-    terms = {"asn": 64509, "entries": entries, "from": DAY, "until": "2026-12-31"}
-    expect("an authorization of several prefixes", curl("ann", "/holders/alpha/auths", "-d", json.dumps(terms)),
-           '{"done":7}\n')
-    page.open()
+    """An authorization of several prefixes is created from a pasted list, shown with each, and amended."""
+    page.click("create")
+    page.put(terms_asn="64509")
+    paste(page, "terms-prefix", "2001:DB8:9::/48-56\n192.0.2.0/26\n")
+    page.click("add-entry")
+    page.put(terms_prefix_3="192.0.2.64/26", terms_max_3="27")
+    expect("a loose maxLength is marked with why", "RFC 9319" in page.text("terms-entries"), True)
+    page.click("ask-report")
+    page.confirm("Authorization 7 is created")
     row = page.rows("auths")[-1]
-    expect("its prefixes are listed", ["192.0.2.0/26" in row, "2001:db8:9::/48" in row], [True, True])
-    curl("ann", "/holders/alpha/auths/7", "-X", "DELETE")
-    page.open()
+    texts = ["192.0.2.0/26", "192.0.2.64/26-27 loose", "2001:db8:9::/48-56 loose"]
+    expect("its prefixes are listed", [text in row for text in texts], [True, True, True])
+    page.open_auth(7)
+    page.click("amend")
+    page.put(terms_max_2="26")
+    page.click("ask-report")
+    page.wait("confirm", "Amend:")
+    amended = {"maxes": [26, 26, 64], "until": "2026-12-31"}
+    curl("ann", "/holders/alpha/auths/7", "-X", "PATCH", "-d", json.dumps(amended))
+    page.click("confirm")
+    said = page.wait("change-said", "someone else changed authorization 7")
+    expect("what another user changed is said", "2001:db8:9::/48-64" in said, True)
+    page.click("cancel")
+    page.open_auth(7)
+    page.click("amend")
+    page.put(terms_max="27")
+    page.click("ask-report")
+    page.confirm("Authorization 7 is amended")
+    shown = json.loads(curl("ann", "/holders/alpha/auths/7"))["shown"]
+    expect("the maxLengths that were amended", [entry["max"] for entry in shown["entries"]], [27, 26, 64])
+    page.open_auth(7)
+    page.click("withdraw")
+    page.confirm("Authorization 7 is withdrawn")
+
+
+def check_filter(page):
+    """What is looked for is found by containment and in any spelling."""
+    for words, numbers in [("192.0.2.77", ["1"]), ("2001:DB8:0002:0::1", ["5"]), ("198.51.102.0/23", []),
+                           ("198.51.100.0/24 64501", ["6"]), ("198.51.0.0/16", ["3", "6"])]:
+        page.put(filter=words)
+        page.wait("count", f"{len(numbers)} of 5")
+        found = [row.split()[0] for row in (page.rows("auths") if numbers else page.table("auths"))]
+        expect(f"the filter {words}", found, numbers)
+    page.put(filter=" ")
+    page.wait("count", "5 authorizations")
 
 
 def check_import(page):
@@ -522,7 +600,10 @@ def check_grants_of_manager(page):
 
 
 def check_failures(page, desk, front):
-    """What is said where the desk or the front fails. Both are started anew."""
+    """What is said where the desk or the front fails, until the user has looked. Both are started anew."""
+    def looked():
+        page.driver.find_element(By.CSS_SELECTOR, "#unclear .looked").click()
+
     page.open()
     before = listed()
     create(page, "64510", "192.0.2.64/26")
@@ -531,24 +612,49 @@ def check_failures(page, desk, front):
     page.wait("change-said", "The desk did not reply in time. The change may have been made")
     os.kill(desk.pid, signal.SIGCONT)
     expect("a change that was answered 504 may have been made", len(listed()), len(before) + 1)
+    page.click("look-here")
+    page.wait("change-said", "it was made. Authorization")
+    expect("what was made is not offered again", page.get("confirm").is_displayed(), False)
     page.click("cancel")
+    looked()
     page.open()
     create(page, "64511", "192.0.2.64/26")
     end(desk)
     page.click("confirm")
     page.wait("change-said", "The front did not get the desk's reply. The change may have been made")
+    expect("what may have been made is not offered again", page.get("confirm").is_displayed(), False)
+    page.click("look-here")
+    page.wait("change-said", "the list that would show it did not come")
+    page.click("cancel")
+    page.put(holder="alpha")
+    page.get("holder").send_keys(Keys.ENTER)
+    page.wait("notice", "There was no answer from the desk")
+    expect("an unclear end stays, whatever fails afterwards", "may have been made" in page.text("unclear"), True)
+    desk = start_desk()
+    page.driver.find_element(By.CSS_SELECTOR, "#unclear .look").click()
+    page.wait("unclear", "it was not made")
+    looked()
+    page.open()
+    create(page, "64511", "192.0.2.64/26")
+    end(desk)
     failing = serve(Unavailable, DESK)
     page.click("confirm")
     page.wait("change-said", "The desk's memory or database failed.")
     failing.shutdown()
     failing.server_close()
     start_desk()
+    page.click("look-here")
+    page.wait("change-said", "it was not made")
     end(front)
     page.click("confirm")
     page.wait("change-said", "The connection was lost. The change may have been made")
     start_front()
+    page.click("look-here")
+    page.wait("change-said", "it was not made")
     page.confirm("is created")
     expect("what was sent again", len(listed()), len(before) + 2)
+    for _ in range(2):
+        looked()
 
 
 def check_other_origin(page):
@@ -724,6 +830,8 @@ def main():
         manager = Page("ann")
         check_changes(manager)
         check_list(manager)
+        check_later_days(manager)
+        check_filter(manager)
         check_several(manager)
         check_import(manager)
         manager.open()

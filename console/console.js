@@ -1,10 +1,14 @@
 // The page of a desk. What comes from the desk, from a file or from the user is put in as text, never as markup.
 
 import { isTooLong, readImport, textOf, writeImport } from "./csv.js";
-import { coveredBy, overlap, placeOf, readPrefix } from "./prefixes.js";
+import { coveredBy, overlap, placeOf, readPlace, readPrefix } from "./prefixes.js";
+import {
+  THEN_UNKNOWN, effectsOf, findDay, isStill, momentsOf, outcomeOf, questionsOf, sentencesOf, statesOf, worstOf,
+} from "./reports.js";
 import { SENTENCES, faultOf } from "./sentences.js";
 import {
-  asOf, count, daysOf, describe, entriesOf, isName, originOf, ownRoutes, prefixesOf, showOrigin, stateOn, wholeOr,
+  LOOSE, MOST_ENTRIES, amendmentOf, asOf, count, daysOf, describe, entriesGiven, entriesOf, faultOfEntries, isDay, isExact,
+  isName, originOf, ownRoutes, prefixesOf, readEntries, showEntry, showOrigin, stateOn, termsOf,
 } from "./values.js";
 
 const SIGNS = { Valid: "✓", Invalid: "✗", NotFound: "?" };
@@ -89,8 +93,6 @@ const prefixIn = (id) => readPrefix($(id).value)?.text ?? $(id).value.trim();
 const nameIn = (id) => $(id).value.trim();
 const pathOf = (...parts) => parts.map((part) => `/${encodeURIComponent(part)}`).join("");
 
-const rangesOf = (auth) => entriesOf(auth).map(({ prefix, max }) => `${prefix} up to /${max}`);
-
 const stateOf = (auth) => stateOn(auth, $("day").value);
 
 // The desk
@@ -110,9 +112,10 @@ async function ask(method, path, body, isQuestion = method === "GET") {
   } catch {
     status = "lost";
   }
-  if (status === 200) return { text, reply };
+  if (status === 200) return { text, reply, isClear: true };
   const isUnclear = status === "lost" || status > 500;
-  return { fault: faultOf(status, reply, isQuestion), rule: reply?.denied, row: reply?.row, isUnclear };
+  const isClear = Boolean(reply?.denied);
+  return { fault: faultOf(status, reply, isQuestion), rule: reply?.denied, row: reply?.row, isUnclear, isClear };
 }
 
 const question = (path, body) => ask("POST", path, body, true);
@@ -143,8 +146,7 @@ function keep(what, text) {
 const COLUMNS = [
   ["Number", (line) => line.auth.number],
   ["AS", (line) => line.auth.asn],
-  ["Prefix", (line) => (line.place ??= placeOf(readPrefix(entriesOf(line.auth)[0].prefix)))],
-  ["maxLength", (line) => entriesOf(line.auth)[0].max],
+  ["Prefix-maxLength", (line) => (line.place ??= placeOf(readPrefix(entriesOf(line.auth)[0].prefix)))],
   ["First day", (line) => line.auth.from],
   ["Last day", (line) => line.auth.until],
   ["State", (line) => line.state],
@@ -156,18 +158,20 @@ let sorted = { column: 0, falls: false };
 
 /** What is sorted and filtered. The place of its prefix and its row are made when they are needed, and once. */
 function toLine(auth) {
-  const words = entriesOf(auth).map((entry) => `${entry.prefix}-${entry.max}`).join(" ");
+  const words = entriesOf(auth).map(({ prefix, max }) => `${prefix}-${max}`).join(" ");
   return { auth, state: stateOf(auth), words: `as${auth.asn} ${words} ${auth.from} ${auth.until} #${auth.number}` };
 }
 
 function listRow({ auth, state }) {
   const kinds = { "in force": "good", "to come": "open", past: "past" };
-  const each = (member) => (!auth.entries ? `${auth[member]}`
-    : element("div", {}, ...auth.entries.map((entry) => element("div", {}, `${entry[member]}`))));
+  const entries = entriesOf(auth).map((entry) => (isExact(entry) ? showEntry(entry)
+    : element("span", {}, showEntry(entry), element("span", { className: "loose", title: LOOSE }, " loose"))));
+  const prefixes = entries.length === 1 ? entries[0]
+    : element("div", {}, ...entries.map((entry) => element("div", {}, entry)));
   const more = element("button", { type: "button", ariaLabel: `Open authorization ${auth.number}` }, "Open");
   more.dataset.number = auth.number;
   const row = rowOf(
-    `${auth.number}`, `AS${auth.asn}`, each("prefix"), each("max"), auth.from, auth.until,
+    `${auth.number}`, `AS${auth.asn}`, prefixes, auth.from, auth.until,
     element("span", { className: `state ${kinds[state]}` }, state), more,
   );
   row.role = "row";
@@ -178,13 +182,21 @@ function listRow({ auth, state }) {
   return row;
 }
 
+/** A test of lines by a word: an address or a prefix in any spelling finds what covers it or lies in it. */
+function filterOf(word) {
+  const place = readPlace(word);
+  if (!place) return (line) => line.words.includes(word);
+  return (line) => (line.places ??= prefixesOf(line.auth)).some((other) => overlap(other, place));
+}
+
 function showList() {
   const words = $("filter").value.toLowerCase().split(/\s+/).filter(Boolean);
+  const tests = words.map(filterOf);
   const state = $("filter-state").value;
   const value = COLUMNS[sorted.column][1];
   const order = (one, other) => (value(one) < value(other) ? -1 : Number(value(one) > value(other)));
   const found = lines
-    .filter((line) => (!state || line.state === state) && words.every((word) => line.words.includes(word)))
+    .filter((line) => (!state || line.state === state) && tests.every((test) => test(line)))
     .sort((one, other) => (sorted.falls ? -1 : 1) * order(one, other));
   [...$("sorts").children].forEach((head, at) => {
     head.ariaSort = at !== sorted.column ? "none" : sorted.falls ? "descending" : "ascending";
@@ -220,7 +232,19 @@ async function openHolder(name) {
   holder = name;
   keep("holder", holder);
   $("authorizations-title").textContent = `Authorizations of ${holder}`;
-  lines = reply.listed.map(toLine);
+  showListed(reply.listed);
+}
+
+function showListed(listed) {
+  lines = listed.map(toLine);
+  showList();
+}
+
+/** Shows what is in force, to come or past on a day. */
+function showAsOf(day) {
+  if (!isDay(day)) return say($("notice"), `${day}: ${SENTENCES.malformed[8]}`, "fault");
+  $("day").value = day;
+  lines = lines.map(({ auth }) => toLine(auth));
   showList();
 }
 
@@ -231,14 +255,14 @@ let detailed = null;
 function showDetails(auth) {
   detailed = auth;
   $("details-title").textContent = `Authorization ${auth.number} of ${holder}`;
-  const facts = [["AS", `AS${auth.asn}`], ...rangesOf(auth).map((range) => ["Prefix", range]),
+  const facts = [["AS", `AS${auth.asn}`], ...entriesOf(auth).map((entry) => ["Prefix", showEntry(entry)]),
     ["Days", `${daysOf(auth)}, ${stateOf(auth)}`]];
   const parts = facts.flatMap(([name, fact]) => [element("dt", {}, name), element("dd", {}, fact)]);
   $("details-facts").replaceChildren(...parts);
   $("content").hidden = $("save-content").hidden = true;
   $("show-content").hidden = false;
-  $("amend").hidden = Boolean(auth.entries);
-  say($("details-said"), auth.entries ? "To change one of several prefixes, withdraw it and create it anew." : "");
+  const isLoose = entriesOf(auth).some((entry) => !isExact(entry));
+  say($("details-said"), isLoose ? LOOSE : "", isLoose ? "caution" : "");
   $("details").showModal();
 }
 
@@ -344,6 +368,8 @@ async function judge() {
 
 let change = null;
 let plan = null;
+// The day of the desk as it was last found, from the first one by the front's clock.
+let deskDay = "";
 
 const sayOfChange = (text, kind) => say($("change-said"), text, kind);
 
@@ -353,11 +379,12 @@ function openChange(given) {
   $("change-title").textContent = change.title;
   $("change-facts").textContent = change.facts ?? "";
   $("terms").hidden = !change.terms;
-  for (const name of ["asn", "prefix", "max", "from", "until"]) {
+  for (const name of ["asn", "from", "until"]) {
     const field = $(`terms-${name}`);
     field.value = change.terms?.[name] ?? "";
-    field.disabled = !change.terms || (change.terms.isFixed && !["max", "until"].includes(name));
+    field.disabled = !change.terms || (change.terms.isFixed && name !== "until");
   }
+  showEntries(change.terms ? entriesOf(change.terms) : []);
   $("import-fields").hidden = !change.isImport;
   $("import-file").value = "";
   $("reach").hidden = !change.reports;
@@ -368,7 +395,8 @@ function openChange(given) {
 
 function forgetReport() {
   plan = null;
-  $("confirm").hidden = $("report").hidden = true;
+  $("confirm").hidden = $("report").hidden = $("look-here").hidden = true;
+  $("ask-report").className = "primary";
   $("reach-given").hidden = $("reach-which").value !== "covered";
   sayOfChange("");
 }
@@ -383,6 +411,7 @@ function offer(words, isDangerous) {
   $("confirm").className = isDangerous ? "primary danger" : "primary";
   $("confirm").disabled = false;
   $("confirm").hidden = false;
+  $("ask-report").className = "";
 }
 
 async function report() {
@@ -401,22 +430,56 @@ function reach({ prefixes }) {
   return watched.filter((route) => isCovered(route.place));
 }
 
-/** How grave a change of state is: the gravest is shown first. */
-function rank({ now, then }) {
-  if (now !== then && then === "Invalid") return 0;
-  if (now === "Valid" && then === "NotFound") return 1;
-  if (now !== then) return 2;
-  return then === "Invalid" ? 3 : 4;
+/** Asks which day the desk has, by whether it takes a create that ends on a day. */
+async function askDay({ after, before }, routes) {
+  const [{ asn, ...terms }] = [...after, ...before];
+  const [{ prefix, max }] = entriesOf(terms);
+  const isPast = async (until) => {
+    const create = { do: "create", asn, prefix, max, from: "1970-01-01", until };
+    const { rule, isClear } = await question(underHolder("whatif"), { changes: [create], routes: routes.slice(0, 1) });
+    if (!isClear || rule === "grant" || rule === "scope") throw new Error("The desk did not say");
+    return rule === "dates";
+  };
+  try {
+    const found = await findDay(isPast, deskDay);
+    if ($("day").value === deskDay) showAsOf(found);
+    deskDay = found;
+  } catch {
+    // What keeps the desk from saying it is the fault of the report, too.
+  }
 }
 
-const worsened = (number) => count(number, "route becomes", "routes become");
-
-function offerChange(verb, worse) {
-  offer(`${verb}: ${worse ? worsened(worse) : "no route becomes"} Invalid`, worse > 0);
+/** What a change does to routes, on each day from which it shows; or the desk's fault. */
+async function askEffects(made, routes) {
+  await askDay(made, routes);
+  const { moments, isCut } = momentsOf(deskDay, made.before, made.after);
+  const { questions, places } = questionsOf(made, moments);
+  const reports = [];
+  for (const changes of questions) {
+    const { reply, fault, row, rule } = await question(underHolder("whatif"), { changes, routes });
+    if (fault) return { fault, row, rule };
+    reports.push(reply.report);
+  }
+  return { effects: effectsOf(routes, deskDay, moments, places, reports), moments, isCut };
 }
 
-const reportRow = ({ prefix, origin, now, then }) =>
-  rowOf(badge(then, `${now === then ? "stays" : "becomes"} ${then}`), prefix, showOrigin(origin), now, then);
+function sentencesOn({ effects, moments, isCut }) {
+  const sentences = sentencesOf(effects, deskDay, moments);
+  if (isCut) sentences.push("It begins and ends on more days than the page asks about: the last ones are not in this report.");
+  if (moments.length > 1) sentences.push(THEN_UNKNOWN);
+  return sentences.join(" ");
+}
+
+function offerChange(verb, { effects, isCut }) {
+  const { number, words } = worstOf(effects, deskDay);
+  offer(isCut ? `${verb} without a whole report: ${words}` : `${verb}: ${words}`, number > 0 || isCut);
+}
+
+function reportRow(effect) {
+  const { route, day, then } = effect;
+  const when = isStill(effect) ? "" : day === deskDay ? "today" : day;
+  return rowOf(badge(then, outcomeOf(effect)), route.prefix, showOrigin(route.origin), when, statesOf(effect));
+}
 
 /** Shows what becomes of the routes to report on, or else of the authorization's own. */
 async function reportRoutes(made) {
@@ -426,23 +489,16 @@ async function reportRoutes(made) {
   if (asked.length > ASKED_AT_MOST) {
     return sayOfChange(`${SENTENCES.malformed[12]} Report on those covered by a prefix.`, "fault");
   }
-  const { reply, fault, row, rule } = await question(underHolder("whatif"), { changes: made.changes, routes: asked });
+  const found = await askEffects(made, asked);
   if (plan !== made) return;
-  if (fault) return deny(fault, row, rule);
-  const found = asked.map((route, at) => ({ ...route, now: reply.report[at][0], then: reply.report[at][1] }))
-    .sort((one, other) => rank(one) - rank(other));
-  const worse = found.filter((route) => rank(route) === 0).length;
-  const stay = found.filter(({ now, then }) => now === then).length;
-  const others = found.length - worse - stay;
-  const sums = `${worsened(worse)} Invalid, ${others} change otherwise, ${stay} stay as they are.`;
-  const which = routes.length ? count(routes.length, "watched route")
-    : "You watch no route there, so the authorization's own is shown";
-  const later = made.from > $("day").value
-    ? ` The report is for the desk's day; the authorization begins on ${made.from}.` : "";
-  sayOfChange(`${which}: ${sums}${later}${cutOf(found.length)}`, worse ? "fault" : "done");
-  heads("What happens", "Prefix", "Origin", "Now", "Afterwards");
-  fill($("report"), found.slice(0, SHOWN_AT_MOST), reportRow);
-  offerChange(made.verb, worse);
+  if (found.fault) return deny(found.fault, found.row, found.rule);
+  const { number } = worstOf(found.effects, deskDay);
+  const which = routes.length ? `${count(routes.length, "watched route")}.`
+    : "You watch no route there, so the report is on the authorization's own.";
+  sayOfChange(`${sentencesOn(found)} ${which}${cutOf(found.effects.length)}`, number ? "fault" : "done");
+  heads("What happens", "Prefix", "Origin", "From", "State");
+  fill($("report"), found.effects.slice(0, SHOWN_AT_MOST), reportRow);
+  offerChange(made.verb, found);
 }
 
 /** A report or a change that was denied. Numbers that are used up do not hold an amendment back. */
@@ -454,59 +510,224 @@ function deny(fault, row, rule) {
 }
 
 async function confirmChange() {
+  const made = plan;
   $("confirm").disabled = true;
-  const { reply, fault, row, isUnclear } = await ask(...plan.request);
+  if (made.check && !await made.check()) return;
+  const { reply, fault, row, isUnclear } = await ask(...made.request);
+  if (isUnclear) return leaveOpen(made, fault);
   if (fault) {
     $("confirm").disabled = false;
-    if (isUnclear && holder) openHolder(holder);
-    return plan.mark && row ? deny(fault, row) : sayOfChange(fault, "fault");
+    return made.mark && row ? deny(fault, row) : sayOfChange(fault, "fault");
   }
   $("change").close();
-  say(plan.said ?? $("notice"), plan.done(reply), "done");
+  say(made.said ?? $("notice"), made.done(reply), "done");
   if (holder) await openHolder(holder);
   if (document.activeElement.matches("body, #auths *")) $("main").focus();
 }
 
-function termsGiven() {
-  const prefix = prefixIn("terms-prefix");
-  const max = $("terms-max").value.trim();
-  return {
-    asn: asOf($("terms-asn").value), prefix, max: max ? wholeOr(max) : readPrefix(prefix)?.length ?? max,
-    from: $("terms-from").value, until: $("terms-until").value,
+// An end that is not clear stays on the screen until the user has looked
+
+// What is unclear of the change in the dialog.
+let open = null;
+
+/** Puts an end that is not clear on the page, above all else, where it stays until the user has looked. */
+function leaveOpen(made, fault) {
+  const said = element("output");
+  const lookButton = element("button", { type: "button", className: "look primary", textContent: "Look whether it was made" });
+  const closeButton = element("button", { type: "button", className: "looked", textContent: "I have looked" });
+  const item = element("div", {}, said, element("div", { className: "fields" }, lookButton, closeButton));
+  const left = { made, holder, title: change.title, said, lookButton, closeButton };
+  lookButton.hidden = !made.find;
+  lookButton.addEventListener("click", () => look(left));
+  closeButton.addEventListener("click", () => {
+    item.remove();
+    $("main").focus();
+  });
+  say(said, `${left.title}: ${fault}`, "fault");
+  $("unclear").append(item);
+  open = left;
+  sayOfChange(fault, "fault");
+  $("confirm").hidden = true;
+  $("look-here").hidden = !made.find;
+}
+
+/** Looks whether the change was made, by the holder's list. Until that is known, the question stays. */
+async function look(left) {
+  const { made, title } = left;
+  const sayBoth = (text, kind) => {
+    say(left.said, text, kind);
+    if (plan === made) sayOfChange(text, kind);
   };
+  const { reply, fault } = await ask("GET", pathOf("holders", left.holder, "auths"));
+  if (fault) return sayBoth(`${title}: the change may have been made, and the list that would show it did not come. ${fault}`, "fault");
+  const found = made.find(reply.listed);
+  sayBoth(found ? `${title}: it was made. ${found}`
+    : `${title}: it is not in the list, so it was not made, unless the desk is still at it.`, found ? "done" : "fault");
+  left.lookButton.hidden = true;
+  left.closeButton.textContent = "Close";
+  if (left.holder === holder) showListed(reply.listed);
+  if (plan !== made) return;
+  $("look-here").hidden = true;
+  $("confirm").disabled = false;
+  $("confirm").hidden = Boolean(found);
+}
+
+// The fields of a change
+
+/** Puts the entries into the dialog, one row of fields for each. */
+function showEntries(entries) {
+  $("terms-entries").replaceChildren();
+  for (const entry of entries) addEntry(entry);
+  numberEntries();
+}
+
+function addEntry({ prefix = "", max = "" } = {}) {
+  const isFixed = Boolean(change.terms?.isFixed);
+  const prefixField = element("input", { required: true, value: prefix, disabled: isFixed });
+  const maxField = element("input", { className: "number", inputMode: "numeric", placeholder: "its length", value: max });
+  const remove = element("button", { type: "button", textContent: "Remove", hidden: isFixed });
+  const row = element("div", { className: "fields entry" },
+    element("label", {}, element("span"), prefixField), element("label", {}, element("span"), maxField), remove,
+    element("p", { className: "loose" }));
+  prefixField.addEventListener("paste", (event) => pasteEntries(event, row));
+  remove.addEventListener("click", () => {
+    row.remove();
+    numberEntries();
+    forgetReport();
+    $("terms-entries").querySelector("input").focus();
+  });
+  $("terms-entries").append(row);
+  return row;
+}
+
+/** Names the fields by their place. Those of the first prefix have no number. */
+function numberEntries() {
+  const rows = [...$("terms-entries").children];
+  rows.forEach((row, at) => {
+    const number = rows.length > 1 ? ` ${at + 1}` : "";
+    const [prefixName, maxName] = row.querySelectorAll("label > span");
+    prefixName.textContent = `Prefix${number} `;
+    maxName.textContent = `maxLength${number} `;
+    const [prefixField, maxField] = row.querySelectorAll("input");
+    prefixField.id = at ? `terms-prefix-${at + 1}` : "terms-prefix";
+    maxField.id = at ? `terms-max-${at + 1}` : "terms-max";
+    const remove = row.querySelector("button");
+    remove.hidden = rows.length === 1 || Boolean(change.terms?.isFixed);
+    remove.ariaLabel = `Remove prefix ${at + 1}`;
+  });
+  $("add-entry").hidden = Boolean(change.terms?.isFixed) || rows.length >= MOST_ENTRIES;
+  markLoose();
+}
+
+/** A list of prefixes that is pasted fills a row for each. */
+function pasteEntries(event, row) {
+  const text = event.clipboardData?.getData("text/plain") ?? "";
+  const entries = readEntries(text);
+  if (entries.length < 2 && !entries[0]?.max) return;
+  event.preventDefault();
+  takeEntries(entries, row);
+}
+
+function takeEntries(entries, row) {
+  const [first, ...others] = entries;
+  const [prefixField, maxField] = row.querySelectorAll("input");
+  prefixField.value = first.prefix;
+  maxField.value = first.max;
+  for (const entry of others) addEntry(entry);
+  numberEntries();
+  forgetReport();
+}
+
+const fieldsOfEntries = () => [...$("terms-entries").children].map((row) => {
+  const [prefix, max] = row.querySelectorAll("input");
+  return { row, prefix: prefix.value, max: max.value };
+});
+
+/** Says beside each entry that is looser than its prefix why that is worth a thought. */
+function markLoose() {
+  for (const { row, prefix, max } of fieldsOfEntries()) {
+    const place = readPrefix(prefix);
+    const isLoose = place && /^\d+$/.test(max.trim()) && Number(max) > place.length;
+    row.lastChild.textContent = isLoose ? `Loose: it also authorizes each prefix in ${place.text} up to /${max.trim()}. ${LOOSE}` : "";
+  }
+}
+
+function termsGiven() {
+  return {
+    asn: asOf($("terms-asn").value), entries: entriesGiven(fieldsOfEntries()),
+    from: $("terms-from").value.trim(), until: $("terms-until").value.trim(),
+  };
+}
+
+/** The terms as one text, whichever way their entries are written. */
+const sameText = (auth) => `${auth.asn} ${entriesOf(auth).map(({ prefix, max }) => `${prefix}-${max}`).join(" ")} ${daysOf(auth)}`;
+
+/** The terms of the fields, unless what is wrong with them can be said better here than by the desk's number. */
+function termsToSend() {
+  const given = termsGiven();
+  const days = [given.from, given.until].find((day) => !isDay(day));
+  const fault = faultOfEntries(given.entries) || (days === undefined ? "" : `${days || "An empty field"}: ${SENTENCES.malformed[8]}`);
+  if (fault) return void sayOfChange(fault, "fault");
+  return termsOf(given);
 }
 
 function create() {
   const day = $("day").value;
   openChange({
     title: `Create an authorization for ${holder}`,
-    terms: { from: day, until: `${day.slice(0, 4)}-12-31` },
+    terms: { prefix: "", max: "", from: day, until: `${day.slice(0, 4)}-12-31` },
     reports: true,
     plan() {
-      const terms = termsGiven();
-      return {
-        verb: "Create", changes: [{ do: "create", ...terms }],
-        prefixes: prefixesOf(terms), own: ownRoutes(terms), from: terms.from,
+      const terms = termsToSend();
+      return terms && {
+        verb: "Create", changes: [{ do: "create", ...terms }], before: [], after: [terms],
+        prefixes: prefixesOf(terms), own: ownRoutes(terms),
         request: ["POST", underHolder("auths"), terms], done: ({ done }) => `Authorization ${done} is created.`,
+        find(listed) {
+          const found = listed.find((auth) => sameText(auth) === sameText(terms));
+          return found && `Authorization ${found.number} is there.`;
+        },
       };
     },
   });
 }
 
+/**
+ * Whether the authorization is still as the dialog was filled from it. Another user's change is shown instead, and the
+ * report asked for anew.
+ */
+async function isUnchanged(auth) {
+  const { reply, fault } = await ask("GET", underHolder("auths", auth.number));
+  if (fault) {
+    sayOfChange(`${fault} Nothing was sent.`, "fault");
+    return false;
+  }
+  if (sameText(reply.shown) === sameText(auth)) return true;
+  $("confirm").hidden = true;
+  sayOfChange(`Nothing was sent: someone else changed authorization ${auth.number} meanwhile. It was ${describe(auth)}, and `
+    + `is now ${describe(reply.shown)}. Close this and open it again.`, "fault");
+  lines = lines.map((line) => (line.auth.number === auth.number ? toLine(reply.shown) : line));
+  showList();
+  return false;
+}
+
 function amend(auth) {
   openChange({
     title: `Amend authorization ${auth.number} of ${holder}`,
-    facts: "maxLength and the last day can be amended. The report is that of a withdrawal and a create.",
+    facts: "Each maxLength and the last day can be amended. The report is that of a withdrawal and a create.",
     terms: { ...auth, asn: `AS${auth.asn}`, isFixed: true },
     reports: true,
     plan() {
-      const terms = termsGiven();
-      return {
-        verb: "Amend", isAmendment: true,
-        changes: [{ do: "withdraw", number: auth.number }, { do: "create", ...terms }],
-        prefixes: prefixesOf(terms), own: ownRoutes(terms), from: terms.from,
-        request: ["PATCH", underHolder("auths", auth.number), { max: terms.max, until: terms.until }],
+      const terms = termsToSend();
+      const withdrawals = [{ do: "withdraw", number: auth.number }];
+      return terms && {
+        verb: "Amend", isAmendment: true, withdrawals, before: [auth], after: [terms],
+        changes: [...withdrawals, { do: "create", ...terms }],
+        prefixes: prefixesOf(terms), own: ownRoutes(terms), check: () => isUnchanged(auth),
+        request: ["PATCH", underHolder("auths", auth.number), amendmentOf(entriesOf(terms), terms.until)],
         done: () => `Authorization ${auth.number} is amended.`,
+        find: (listed) => listed.some((other) => other.number === auth.number && sameText(other) === sameText(terms))
+          && `Authorization ${auth.number} is as amended.`,
       };
     },
   });
@@ -516,12 +737,14 @@ function withdraw(auth) {
   openChange({
     title: `Withdraw authorization ${auth.number} of ${holder}`,
     facts: describe(auth),
-    reports: true,
+    reports: true, isDangerous: true,
     plan: () => ({
-      verb: "Withdraw", changes: [{ do: "withdraw", number: auth.number }],
-      prefixes: prefixesOf(auth), own: ownRoutes(auth),
+      verb: "Withdraw", changes: [{ do: "withdraw", number: auth.number }], before: [auth], after: [],
+      withdrawals: [{ do: "withdraw", number: auth.number }],
+      prefixes: prefixesOf(auth), own: ownRoutes(auth), check: () => isUnchanged(auth),
       request: ["DELETE", underHolder("auths", auth.number)],
       done: () => `Authorization ${auth.number} is withdrawn.`,
+      find: (listed) => !listed.some(({ number }) => number === auth.number) && `Authorization ${auth.number} is gone.`,
     }),
   });
 }
@@ -591,6 +814,10 @@ async function planImport() {
     done: ({ made: number, present }) =>
       `${count(number, "authorization")} made; ${count(present, "row was", "rows were")} already authorized.`,
     mark,
+    find(listed) {
+      const present = new Set(listed.map(sameText));
+      return rows.every(({ terms }) => present.has(sameText(terms))) && "Every row is authorized.";
+    },
     show: () => reportImport(rows, made),
   };
 }
@@ -612,16 +839,18 @@ async function reportImport(records, made) {
   const routes = reach({ prefixes: made.map(({ terms }) => readPrefix(terms.prefix)).filter(Boolean) });
   if (!routes) return sayOfChange(SENTENCES.malformed[5], "fault");
   const asked = asRoutes(routes.length ? routes : ownRoutes(made[0].terms)).slice(0, ASKED_AT_MOST);
-  const changes = made.map(({ terms }) => ({ do: "create", ...terms }));
-  const { reply, fault, row } = await question(underHolder("whatif"), { changes, routes: asked });
+  const terms = made.map((row) => row.terms);
+  importing.before = [];
+  importing.after = terms;
+  importing.changes = terms.map((each) => ({ do: "create", ...each }));
+  const found = await askEffects(importing, asked);
   if (plan !== importing) return;
-  if (fault) return row ? importing.mark(made[row - 1].place, fault) : sayOfChange(fault, "fault");
-  const worse = asked.filter((_, at) => rank({ now: reply.report[at][0], then: reply.report[at][1] }) === 0);
-  const names = worse.slice(0, 20).map(({ prefix, origin }) => `${prefix} ${showOrigin(origin)}`).join(", ");
-  const sum = count(worse.length, "watched route becomes", "watched routes become");
-  const sums = `${sum} Invalid${names && `: ${names}`}`;
-  sayOfChange(`${what}. ${routes.length ? sums : "You watch no route there"}.${cut}`, worse.length ? "fault" : "done");
-  offerChange("Import", worse.length);
+  const { fault, row } = found;
+  if (fault) return row && row <= made.length ? importing.mark(made[row - 1].place, fault) : sayOfChange(fault, "fault");
+  const { number } = worstOf(found.effects, deskDay);
+  const sums = routes.length ? sentencesOn(found) : "You watch no route there.";
+  sayOfChange(`${what}. ${sums}${cut}`, number ? "fault" : "done");
+  offerChange("Import", found);
 }
 
 function importFile() {
@@ -748,6 +977,12 @@ const FORMS = {
 for (const task of Object.keys(HOLDER_TASKS)) FORMS[task] = () => doHolderTask(task);
 
 const CLICKS = {
+  "look-here": () => look(open),
+  "add-entry": () => {
+    addEntry().querySelector("input").focus();
+    numberEntries();
+    forgetReport();
+  },
   create, import: importFile, export: exportList, confirm: confirmChange, "payloads-ask": askPayloads,
   "show-content": showContent, "save-content": saveContent,
   cancel: () => $("change").close(),
@@ -780,7 +1015,8 @@ async function meet() {
     say($("notice"), SENTENCES.status.question, "fault");
   }
   $("caller").textContent = caller || "unknown";
-  $("day").value = now.toISOString().slice(0, 10);
+  deskDay = now.toISOString().slice(0, 10);
+  $("day").value = deskDay;
   $("grant-until").value = `${$("day").value.slice(0, 4)}-12-31`;
   watched = readRoutes(recall("routes")).routes;
   $("watched").value = routeText();
@@ -793,16 +1029,16 @@ function listen() {
   $("filter").addEventListener("input", inNextFrame(showList));
   $("filter-state").addEventListener("change", showList);
   $("payload-filter").addEventListener("input", inNextFrame(showPayloads));
-  $("change-form").addEventListener("input", forgetReport);
+  $("change-form").addEventListener("input", () => {
+    forgetReport();
+    markLoose();
+  });
   $("import-file").addEventListener("change", () => $("import-file").files.length && report());
   $("auths").addEventListener("click", ({ target }) => {
     const { auth } = lines.find((line) => String(line.auth.number) === target.dataset.number) ?? {};
     if (auth) showDetails(auth);
   });
-  $("day").addEventListener("change", () => {
-    lines = lines.map(({ auth }) => toLine(auth));
-    showList();
-  });
+  $("day").addEventListener("change", () => showAsOf($("day").value));
   window.addEventListener("hashchange", showPage);
 }
 

@@ -66,7 +66,7 @@ export const SENTENCES = {
     503: `The desk's memory or database failed. ${KEPT}, unless the desk stops now. ${AGAIN}`,
     504: `The desk did not reply in time. The change may have been made, or may still be. ${AGAIN}`,
     lost: `The connection was lost. The change may have been made. ${AGAIN}`,
-    question: `There was no answer from the desk. ${KEPT}: ask again.`,
+    question: "There was no answer from the desk. Asking changes nothing: ask again.",
   },
 };
 

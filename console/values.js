@@ -2,7 +2,7 @@
 
 import { placeOf, readPrefix } from "./prefixes.js";
 
-const MOST_ENTRIES = 64;
+export const MOST_ENTRIES = 64;
 
 export function count(number, one, many = `${one}s`) {
   return `${number.toLocaleString("en")} ${number === 1 ? one : many}`;
