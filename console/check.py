@@ -30,6 +30,10 @@ DESK, FRONT = int(sys.argv[4]), int(sys.argv[5])
 ORIGIN = f"https://localhost:{FRONT}"
 DAY = "2026-03-01"
 MARKUP = "<img src=x onerror=alert(1)>"
+# What is only text or layout.
+PLAIN_ROLES = {"StaticText", "InlineTextBox", "generic", "none", "LabelText", "ListMarker", "LineBreak", "paragraph", "code",
+               "strong", "MenuListPopup", "option", "LayoutTable", "LayoutTableRow", "LayoutTableCell", "rowgroup", "row",
+               "cell", "gridcell", "columnheader"}
 PAGES = ["authorizations", "routes", "payloads", "grants", "registry"]
 failed = False
 # What was started, to be ended however the run ends.
@@ -184,7 +188,7 @@ class Page:
             raise SystemExit(f"#{name} does not say: {words}\nbut: {self.text(name)}") from None
 
     def page(self, name):
-        self.driver.find_element(By.CSS_SELECTOR, f'nav a[href="#{name}"]').click()
+        self.driver.find_element(By.CSS_SELECTOR, f'nav a[href$="/{name}"]').click()
 
     def put(self, **fields):
         for name, text in fields.items():
@@ -192,7 +196,10 @@ class Page:
             if field.tag_name == "select":
                 Select(field).select_by_visible_text(text)
                 continue
-            if field.get_attribute("type") != "file":
+            if field.get_attribute("type") == "file":
+                # A driver adds to the files that were chosen.
+                self.run("arguments[0].value = ''", field)
+            else:
                 field.clear()
             field.send_keys(text)
 
@@ -236,7 +243,9 @@ class Page:
         self.wait("authorizations-title", f"Authorizations of {holder}")
 
     def open_auth(self, number):
-        self.driver.find_element(By.CSS_SELECTOR, f'button[data-number="{number}"]').click()
+        place = (By.CSS_SELECTOR, f'button[data-number="{number}"]')
+        WebDriverWait(self.driver, 20).until(lambda driver: driver.find_elements(*place))
+        self.driver.find_element(*place).click()
 
     def width(self, width, height=800):
         metrics = {"width": width, "height": height, "deviceScaleFactor": 1, "mobile": False}
@@ -247,9 +256,24 @@ class Page:
         self.driver.execute_cdp_cmd("Emulation.setEmulatedMedia", {"features": features})
 
     def picture(self, name):
-        self.run("scrollTo(0, 0)")
-        time.sleep(0.5)
-        self.driver.save_screenshot(str(WORK / "pictures" / f"{name}.png"))
+        """The page as it is, wide and narrow, light and dark."""
+        for width in [390, 1280]:
+            for scheme in ["dark", "light"]:
+                self.width(width)
+                self.scheme(scheme)
+                self.run("scrollTo(0, 0)")
+                time.sleep(0.5)
+                kind = ("" if width == 1280 else f"-{width}") + ("" if scheme == "light" else f"-{scheme}")
+                self.driver.save_screenshot(str(WORK / "pictures" / f"{name}{kind}.png"))
+
+    def tree(self):
+        """The accessibility tree, as a line of role and name for each node that a user meets."""
+        lines = []
+        for node in self.driver.execute_cdp_cmd("Accessibility.getFullAXTree", {})["nodes"]:
+            role, name = [node.get(member, {}).get("value", "") for member in ["role", "name"]]
+            if not node["ignored"] and role not in PLAIN_ROLES:
+                lines.append(f"{role}: {name}".rstrip(": "))
+        return lines
 
     def check_log(self):
         """Since the last time nothing was asked of another host, and the log is empty but for provoked statuses."""
@@ -492,6 +516,7 @@ def check_several(page):
     expect("a loose maxLength is marked with why", "RFC 9319" in page.text("terms-entries"), True)
     page.click("ask-report")
     page.confirm("Authorization 7 is created")
+    page.wait("count", "6 authorizations")
     row = page.rows("auths")[-1]
     texts = ["192.0.2.0/26", "192.0.2.64/26-27 loose", "2001:db8:9::/48-56 loose"]
     expect("its prefixes are listed", [text in row for text in texts], [True, True, True])
@@ -511,11 +536,13 @@ def check_several(page):
     page.put(terms_max="27")
     page.click("ask-report")
     page.confirm("Authorization 7 is amended")
+    page.wait("auths", "2001:db8:9::/48-64")
     shown = json.loads(curl("ann", "/holders/alpha/auths/7"))["shown"]
     expect("the maxLengths that were amended", [entry["max"] for entry in shown["entries"]], [27, 26, 64])
     page.open_auth(7)
     page.click("withdraw")
     page.confirm("Authorization 7 is withdrawn")
+    page.wait("count", "5 authorizations")
 
 
 def check_filter(page):
@@ -562,7 +589,8 @@ def check_import(page):
                                 ("day", 137, "no such day")]:
         page.put(import_file=str(WORK / f"{name}.csv"))
         page.wait("change-said", f"Row {place} is faulty")
-        marked = page.run("return [...document.querySelectorAll('#report tr.denied')].map((row) => row.innerText)")
+        marked = WebDriverWait(page.driver, 20).until(lambda _: page.run(
+            "return [...document.querySelectorAll('#report tr.denied')].map((row) => row.innerText)"))
         expect(f"{name}.csv: the row is marked", [len(marked), reason in marked[0]], [1, True])
         expect(f"{name}.csv: nothing is offered", page.get("confirm").is_displayed(), False)
     page.put(import_file=str(WORK / "good.csv"))
@@ -577,6 +605,8 @@ def check_questions(page):
     page.page("payloads")
     page.wait("payload-count", "VRPs")
     expect("the VRPs", page.text("payload-count"), f"{len(curl('ann', '/payloads').splitlines()) - 1} VRPs")
+    page.put(payload_filter="192.0.2.200")
+    page.wait("payload-count", "2 of")
     page.put(payload_filter="2001:db8")
     page.wait("payload-count", "4 of")
     page.get("payload-filter").clear()
@@ -752,7 +782,7 @@ def check_looks(page):
     """No page is wider than the screen; texts stand out; each control has a name."""
     for scheme in ["light", "dark"]:
         page.scheme(scheme)
-        for width in [320, 1280, 1920]:
+        for width in [320, 390, 1280, 1920]:
             page.width(width)
             for name in PAGES:
                 page.page(name)
@@ -778,8 +808,111 @@ def check_looks(page):
         expect(f"{name}: controls without a name", unnamed, [])
 
 
+def check_tree(page):
+    """The accessibility trees are those of tests/accessibility.txt. What is found is written beside the pictures."""
+    page.open()
+    found = []
+    for name in PAGES:
+        page.page(name)
+        time.sleep(0.2)
+        found += [f"# {name}", *page.tree(), ""]
+    page.page("authorizations")
+    page.click("create")
+    found += ["# create", *page.tree(), ""]
+    page.click("cancel")
+    # Each row has its button, which would be many lines.
+    found = [line for line in found if not re.match(r"button: Open authorization \d+$", line)]
+    (WORK / "accessibility.txt").write_text("\n".join(found))
+    expected = (TOP / "console/tests/accessibility.txt").read_text().split("\n")
+    expect("the accessibility trees", [line for line in found if line not in expected]
+           + [line for line in expected if line not in found] + [len(found) - len(expected)], [0])
+
+
+def tell_first_paint(page):
+    """The size of the page and the time to its first paint, which GUIDE has. A browser may have the files already."""
+    sizes = sum(path.stat().st_size for path in (TOP / "console").glob("*.*") if path.suffix in {".html", ".css", ".js"})
+    page.driver.execute_cdp_cmd("Network.enable", {})
+    page.driver.execute_cdp_cmd("Network.setCacheDisabled", {"cacheDisabled": True})
+    times = []
+    for _ in range(5):
+        page.driver.get("about:blank")
+        page.driver.get(f"{ORIGIN}/console/")
+        page.wait("caller", page.user)
+        times.append(page.run("return Math.round(performance.getEntriesByName('first-contentful-paint')[0]?.startTime ?? -1)"))
+        time.sleep(1)
+    page.driver.execute_cdp_cmd("Network.setCacheDisabled", {"cacheDisabled": False})
+    page.day("day", DAY)
+    print(f"the page has {sizes} bytes, and paints first after {sorted(times)} ms")
+
+
+def check_address(page):
+    """The address names the page and the holder, so reload, Back and a bookmark lead to what was shown."""
+    page.open()
+    expect("the address", page.driver.current_url, f"{ORIGIN}/console/#/alpha/authorizations")
+    page.page("routes")
+    expect("the title", page.driver.title, "alpha: Routes – roadesk")
+    page.driver.back()
+    expect("Back", [page.get("authorizations").is_displayed(), page.get("routes").is_displayed()], [True, False])
+    page.driver.get("about:blank")
+    page.driver.get(f"{ORIGIN}/console/#/alpha/authorizations")
+    page.wait("authorizations-title", "Authorizations of alpha")
+    page.driver.get("about:blank")
+    page.driver.get(f"{ORIGIN}/console/")
+    page.wait("authorizations-title", "Authorizations of alpha")
+    expect("the last holders", page.run(
+        "return [...document.querySelectorAll('#last-holders option')].map((option) => option.value)"), ["alpha"])
+    expect("a day is written as days are", page.run("return document.getElementById('grant-until').value.length"), 10)
+    page.day("day", DAY)
+    page.driver.find_element(By.CSS_SELECTOR, "#session summary").click()
+    page.wait("session", "HTTP Basic has no log-out")
+    page.driver.find_element(By.CSS_SELECTOR, "#session summary").click()
+
+
+def check_offer(page):
+    """Beside a route that becomes Invalid the page offers to authorize it too, and then makes both."""
+    page.click("create")
+    page.put(terms_asn="AS64777", terms_prefix="2001:db8:1::/48")
+    page.click("ask-report")
+    page.wait("confirm", "Create: 1 route becomes Invalid")
+    row = page.run("return document.querySelector('#report tbody tr').innerText")
+    expect("both states are in one cell", "NotFound → Invalid" in row, True)
+    button = WebDriverWait(page.driver, 20).until(lambda driver: driver.find_element(By.CSS_SELECTOR, "#report td button"))
+    expect("the offer has a name", button.accessible_name, "Authorize 2001:db8:1::/48 from AS64499 too")
+    button.click()
+    page.wait("confirm", "Create, with 1 further authorization: no route becomes Invalid")
+    expect("the report with it", page.text("change-said").startswith("Today: 1 becomes Valid."), True)
+    before = listed()
+    page.confirm("is created")
+    made = listed()[len(before):]
+    expect("both were created", [line.split(" ", 1)[1] for line in made],
+           ["64499 2001:db8:1::/48 48 2026-12-31", "64777 2001:db8:1::/48 48 2026-12-31"])
+    for line in made:
+        curl("ann", f"/holders/alpha/auths/{line.split()[0]}", "-X", "DELETE")
+    page.open()
+
+
+def check_slurm_sets(page):
+    """Several files are one set, which replaces the one before; the page tells what was sent last."""
+    page.page("registry")
+    one = json.loads((TOP / "examples/slurm.json").read_text())
+    one["validationOutputFilters"]["prefixFilters"] = []
+    one["locallyAddedAssertions"]["prefixAssertions"] = [{"asn": 64501, "prefix": "203.0.113.0/24"}]
+    (WORK / "Customer 7.json").write_text(json.dumps(one))
+    names = "\n".join(str(path) for path in [TOP / "examples/slurm.json", WORK / "Customer 7.json"])
+    page.send("slurm", "slurm.json, Customer 7.json are in force, and no others", slurm_file=names)
+    payloads = curl("ann", "/payloads")
+    expect("both files are in force", ["AS64500,198.51.100.0/24,25" in payloads, "AS64501,203.0.113.0/24,24" in payloads],
+           [True, True])
+    page.send("slurm", "no-exceptions.json are in force", slurm_file=str(TOP / "examples/no-exceptions.json"))
+    expect("what was sent last", "Last put in force from this browser: no-exceptions.json" in page.text("slurm-last"), True)
+    page.page("authorizations")
+    page.put(holder="beta")
+    page.get("holder").send_keys(Keys.ENTER)
+    page.wait("notice", "You have no current grant")
+
+
 def check_pauses(page):
-    """1000 authorizations are listed, filtered, sorted and opened three times, each without a task of over 100 ms."""
+    """1000 authorizations are listed, filtered, sorted and opened three times, mostly without a task of over 50 ms."""
     rows = "".join(f"AS{65000 + at % 7},2001:db8:{at:x}::/48,48,2026-03-01,2026-12-31\n"
                    for at in range(1000, 2000 - len(listed())))
     (WORK / "many.csv").write_text("asn,prefix,maxlength,from,until\n" + rows)
@@ -816,7 +949,7 @@ def check_pauses(page):
         longest()
     print(f"the longest tasks of each round: {rounds} ms")
     for task in rounds[0]:
-        expect(f"{task}: no pause over 100 ms", max(each[task] for each in rounds) <= 100, True)
+        expect(f"{task}: no pause over 50 ms", sorted(each[task] for each in rounds)[1] <= 50, True)
 
 
 def main():
@@ -830,10 +963,13 @@ def main():
         manager = Page("ann")
         check_changes(manager)
         check_list(manager)
+        tell_first_paint(manager)
+        check_address(manager)
         check_later_days(manager)
         check_filter(manager)
         check_several(manager)
         check_import(manager)
+        check_offer(manager)
         manager.open()
         manager.picture("authorizations")
         check_questions(manager)
@@ -842,8 +978,10 @@ def main():
         by_keyboard(manager)
         check_other_origin(manager)
         manager.open()
+        check_tree(manager)
         check_looks(manager)
         check_operators_moves(operator)
+        check_slurm_sets(operator)
         check_pauses(manager)
         operator.check_log()
         manager.check_log()

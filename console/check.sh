@@ -21,8 +21,16 @@ clicks=
 trap '[ -z "$clicks" ] || { kill "$clicks" && wait "$clicks"; } 2>/dev/null; rm -rf "$work"' EXIT
 trap 'exit 1' HUP INT TERM
 
-tests=$(node --test "$top"/console/tests/*.test.js 2>&1)
+tests=$(node --test --test-reporter tap "$top"/console/tests/*.test.js 2>&1)
 expect 'the tests of the modules' "$(grep -E '^not ok|^# fail [1-9]' <<<"$tests"; grep -cE '^# pass [1-9]' <<<"$tests")" 1
+
+mkdir "$work/agreement"
+node "$top/console/tests/agreement.js" "$program" "$work/agreement" "$(free_port)" >"$work/agreement/said" &
+clicks=$!
+wait "$clicks" && verdict=same || verdict=$(cat "$work/agreement/said")
+clicks=
+cat "$work/agreement/said"
+expect 'what the page and the desk read' "$verdict" same
 
 mkdir "$work/front" "$work/pictures" "$work/downloads"
 cp -r "$top/console" "$work/front/"
@@ -48,4 +56,5 @@ expect 'each picture is below 150 KB' "$(find "$work/pictures" -name '*.png' -si
 if [ -d "$pictures" ]; then
     cp "$work"/pictures/*.png "$pictures"
 fi
+[ "$failed" = 0 ] || [ ! -f "$work/accessibility.txt" ] || cat "$work/accessibility.txt"
 exit "$failed"

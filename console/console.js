@@ -7,14 +7,17 @@ import {
 } from "./reports.js";
 import { SENTENCES, faultOf } from "./sentences.js";
 import {
-  LOOSE, MOST_ENTRIES, amendmentOf, asOf, count, daysOf, describe, entriesGiven, entriesOf, faultOfEntries, isDay, isExact,
-  isName, originOf, ownRoutes, prefixesOf, readEntries, showEntry, showOrigin, stateOn, termsOf,
+  LOOSE, MOST_ENTRIES, amendmentOf, asOf, count, daysOf, describe, entriesGiven, entriesOf, faultOfEntries, isDay,
+  isExact, isName, originOf, ownRoutes, prefixesOf, readEntries, showEntry, showOrigin, stateOn, termsOf,
 } from "./values.js";
 
 const SIGNS = { Valid: "✓", Invalid: "✗", NotFound: "?" };
 const KINDS = { Valid: "good", Invalid: "bad", NotFound: "open" };
 const SHOWN_AT_MOST = 500;
 const ASKED_AT_MOST = 10000;
+const OFFERED_AT_MOST = 8;
+const KEPT_HOLDERS = 8;
+const SEARCHED_IN_A_FRAME = 1000;
 
 // Elements
 
@@ -182,12 +185,14 @@ function listRow({ auth, state }) {
   return row;
 }
 
-/** A test of lines by a word: an address or a prefix in any spelling finds what covers it or lies in it. */
-function filterOf(word) {
+/** A test by a word: an address or a prefix in any spelling finds what covers it or lies in it. */
+function testOf(word, wordsOf, placesOf) {
   const place = readPlace(word);
-  if (!place) return (line) => line.words.includes(word);
-  return (line) => (line.places ??= prefixesOf(line.auth)).some((other) => overlap(other, place));
+  if (!place) return (item) => wordsOf(item).includes(word);
+  return (item) => placesOf(item).some((other) => overlap(other, place));
 }
+
+const filterOf = (word) => testOf(word, (line) => line.words, (line) => (line.places ??= prefixesOf(line.auth)));
 
 function showList() {
   const words = $("filter").value.toLowerCase().split(/\s+/).filter(Boolean);
@@ -204,6 +209,9 @@ function showList() {
   });
   const all = count(lines.length, "authorization");
   say($("count"), found.length === lines.length ? all : `${found.length.toLocaleString("en")} of ${all}`);
+  const nothing = lines.length ? "Nothing matches the filter."
+    : `${holder} has no authorization that you may see. Create one, or import those that you have elsewhere as CSV.`;
+  $("list-hint").textContent = found.length ? "" : nothing;
   fill($("auths"), found, (line) => (line.row ??= listRow(line)));
 }
 
@@ -230,8 +238,16 @@ async function openHolder(name) {
   $("holder-hint").hidden = !fault;
   if (fault) return say($("notice"), `${name}: ${fault}`, "fault");
   holder = name;
-  keep("holder", holder);
+  goToHolder();
   $("authorizations-title").textContent = `Authorizations of ${holder}`;
+  $("open").querySelector("button").className = "";
+  showListed(reply.listed);
+}
+
+/** Lists the holder's authorizations after what was done, which stays said if that fails. */
+async function listAnew(done) {
+  const { reply, fault } = await ask("GET", underHolder("auths"));
+  if (fault) return say($("notice"), `${done} The list below is from before, since it did not come again: ${fault}`, "done");
   showListed(reply.listed);
 }
 
@@ -385,6 +401,8 @@ function openChange(given) {
     field.disabled = !change.terms || (change.terms.isFixed && name !== "until");
   }
   showEntries(change.terms ? entriesOf(change.terms) : []);
+  extras = [];
+  showExtras();
   $("import-fields").hidden = !change.isImport;
   $("import-file").value = "";
   $("reach").hidden = !change.reports;
@@ -408,7 +426,7 @@ function heads(...names) {
 
 function offer(words, isDangerous) {
   $("confirm").textContent = words;
-  $("confirm").className = isDangerous ? "primary danger" : "primary";
+  $("confirm").className = isDangerous || change.isDangerous ? "primary danger" : "primary";
   $("confirm").disabled = false;
   $("confirm").hidden = false;
   $("ask-report").className = "";
@@ -416,10 +434,62 @@ function offer(words, isDangerous) {
 
 async function report() {
   forgetReport();
-  const made = await change.plan();
+  const planned = await change.plan();
+  const made = planned && withExtras(planned);
   plan = made;
   if (made?.show) await made.show();
   else if (made) await reportRoutes(made);
+}
+
+// Further authorizations that are to be made before the change, so that it makes no route Invalid.
+let extras = [];
+
+/** The change with these, as one what-if, and what is sent for it, one after the other. */
+function withExtras(made) {
+  const steps = extras.map((terms) => ({
+    request: ["POST", underHolder("auths"), terms], done: ({ done }) => `Authorization ${done} is created.`,
+    find: findTerms(terms),
+  }));
+  return {
+    ...made, steps: [...steps, made],
+    changes: made.changes && [...extras.map((terms) => ({ do: "create", ...terms })), ...made.changes],
+    after: made.after && [...extras, ...made.after],
+  };
+}
+
+function showExtras() {
+  $("extras").replaceChildren(...extras.map((terms) => {
+    const remove = element("button", { type: "button", textContent: "Leave out" });
+    remove.addEventListener("click", () => {
+      extras = extras.filter((other) => other !== terms);
+      showExtras();
+      report();
+    });
+    return element("li", {}, `First create ${describe(terms)} `, remove);
+  }));
+}
+
+/** Offers to authorize the routes that become Invalid too, where the desk would take that and they stay Valid by it. */
+async function offerExtras(made, { effects }) {
+  const until = [...made.before, ...made.after].map((terms) => terms.until).sort().at(-1);
+  const worst = effects.map((effect, at) => ({ ...effect, at }))
+    .filter(({ rank, route, at }) => rank === 0 && route.origin && at < SHOWN_AT_MOST).slice(0, OFFERED_AT_MOST);
+  for (const { route, at } of worst) {
+    const { length: max } = readPrefix(route.prefix);
+    const terms = { asn: route.origin, prefix: route.prefix, max, from: deskDay, until };
+    const changes = [{ do: "create", ...terms }, ...made.changes];
+    const { reply } = await question(underHolder("whatif"), { changes, routes: [route] });
+    if (plan !== made) return;
+    if (reply?.report[0][1] !== "Valid") continue;
+    const also = element("button", { type: "button", textContent: "Authorize it too" });
+    also.ariaLabel = `Authorize ${route.prefix} from ${showOrigin(route.origin)} too`;
+    also.addEventListener("click", () => {
+      extras.push(terms);
+      showExtras();
+      report();
+    });
+    $("report").querySelectorAll("tbody tr")[at]?.lastChild.append(" ", also);
+  }
 }
 
 /** The routes to report on, or null where the fields say none. */
@@ -465,14 +535,15 @@ async function askEffects(made, routes) {
 
 function sentencesOn({ effects, moments, isCut }) {
   const sentences = sentencesOf(effects, deskDay, moments);
-  if (isCut) sentences.push("It begins and ends on more days than the page asks about: the last ones are not in this report.");
+  if (isCut) sentences.push("It begins and ends on more days than the page asks about: the last are not in this report.");
   if (moments.length > 1) sentences.push(THEN_UNKNOWN);
   return sentences.join(" ");
 }
 
 function offerChange(verb, { effects, isCut }) {
   const { number, words } = worstOf(effects, deskDay);
-  offer(isCut ? `${verb} without a whole report: ${words}` : `${verb}: ${words}`, number > 0 || isCut);
+  const what = extras.length ? `${verb}, with ${count(extras.length, "further authorization")}` : verb;
+  offer(isCut ? `${what} without a whole report: ${words}` : `${what}: ${words}`, number > 0 || isCut);
 }
 
 function reportRow(effect) {
@@ -499,6 +570,7 @@ async function reportRoutes(made) {
   heads("What happens", "Prefix", "Origin", "From", "State");
   fill($("report"), found.effects.slice(0, SHOWN_AT_MOST), reportRow);
   offerChange(made.verb, found);
+  await offerExtras(made, found);
 }
 
 /** A report or a change that was denied. Numbers that are used up do not hold an amendment back. */
@@ -509,19 +581,26 @@ function deny(fault, row, rule) {
   if (rule === "room" && plan.isAmendment) offer("Amend without a report", true);
 }
 
+/** Sends what is not made yet, one after the other. */
 async function confirmChange() {
   const made = plan;
   $("confirm").disabled = true;
   if (made.check && !await made.check()) return;
-  const { reply, fault, row, isUnclear } = await ask(...made.request);
-  if (isUnclear) return leaveOpen(made, fault);
-  if (fault) {
-    $("confirm").disabled = false;
-    return made.mark && row ? deny(fault, row) : sayOfChange(fault, "fault");
+  const words = [];
+  for (const step of made.steps.filter(({ isMade }) => !isMade)) {
+    const { reply, fault, row, isUnclear } = await ask(...step.request);
+    if (isUnclear) return leaveOpen(made, step, [...words, fault].join(" "));
+    if (fault) {
+      $("confirm").disabled = false;
+      return made.mark && row ? deny(fault, row) : sayOfChange([...words, fault].join(" "), "fault");
+    }
+    step.isMade = true;
+    words.push(step.done(reply));
   }
   $("change").close();
-  say(made.said ?? $("notice"), made.done(reply), "done");
-  if (holder) await openHolder(holder);
+  const done = words.join(" ");
+  say(made.said ?? $("notice"), done, "done");
+  if (holder) await listAnew(done);
   if (document.activeElement.matches("body, #auths *")) $("main").focus();
 }
 
@@ -531,13 +610,13 @@ async function confirmChange() {
 let open = null;
 
 /** Puts an end that is not clear on the page, above all else, where it stays until the user has looked. */
-function leaveOpen(made, fault) {
+function leaveOpen(made, step, fault) {
   const said = element("output");
-  const lookButton = element("button", { type: "button", className: "look primary", textContent: "Look whether it was made" });
-  const closeButton = element("button", { type: "button", className: "looked", textContent: "I have looked" });
+  const lookButton = element("button", { type: "button", className: "look primary" }, "Look whether it was made");
+  const closeButton = element("button", { type: "button", className: "looked" }, "I have looked");
   const item = element("div", {}, said, element("div", { className: "fields" }, lookButton, closeButton));
-  const left = { made, holder, title: change.title, said, lookButton, closeButton };
-  lookButton.hidden = !made.find;
+  const left = { made, step, holder, title: change.title, said, lookButton, closeButton };
+  lookButton.hidden = !step.find;
   lookButton.addEventListener("click", () => look(left));
   closeButton.addEventListener("click", () => {
     item.remove();
@@ -548,19 +627,23 @@ function leaveOpen(made, fault) {
   open = left;
   sayOfChange(fault, "fault");
   $("confirm").hidden = true;
-  $("look-here").hidden = !made.find;
+  $("look-here").hidden = !step.find;
 }
 
 /** Looks whether the change was made, by the holder's list. Until that is known, the question stays. */
 async function look(left) {
-  const { made, title } = left;
+  const { made, step, title } = left;
   const sayBoth = (text, kind) => {
     say(left.said, text, kind);
     if (plan === made) sayOfChange(text, kind);
   };
   const { reply, fault } = await ask("GET", pathOf("holders", left.holder, "auths"));
-  if (fault) return sayBoth(`${title}: the change may have been made, and the list that would show it did not come. ${fault}`, "fault");
-  const found = made.find(reply.listed);
+  if (fault) {
+    const still = "the change may have been made, and the list that would show it did not come.";
+    return sayBoth(`${title}: ${still} ${fault}`, "fault");
+  }
+  const found = step.find(reply.listed);
+  step.isMade = Boolean(found);
   sayBoth(found ? `${title}: it was made. ${found}`
     : `${title}: it is not in the list, so it was not made, unless the desk is still at it.`, found ? "done" : "fault");
   left.lookButton.hidden = true;
@@ -569,7 +652,7 @@ async function look(left) {
   if (plan !== made) return;
   $("look-here").hidden = true;
   $("confirm").disabled = false;
-  $("confirm").hidden = Boolean(found);
+  $("confirm").hidden = made.steps.every(({ isMade }) => isMade);
 }
 
 // The fields of a change
@@ -584,7 +667,7 @@ function showEntries(entries) {
 function addEntry({ prefix = "", max = "" } = {}) {
   const isFixed = Boolean(change.terms?.isFixed);
   const prefixField = element("input", { required: true, value: prefix, disabled: isFixed });
-  const maxField = element("input", { className: "number", inputMode: "numeric", placeholder: "its length", value: max });
+  const maxField = element("input", { className: "number", inputMode: "numeric", value: max, placeholder: "its length" });
   const remove = element("button", { type: "button", textContent: "Remove", hidden: isFixed });
   const row = element("div", { className: "fields entry" },
     element("label", {}, element("span"), prefixField), element("label", {}, element("span"), maxField), remove,
@@ -615,7 +698,7 @@ function numberEntries() {
     remove.hidden = rows.length === 1 || Boolean(change.terms?.isFixed);
     remove.ariaLabel = `Remove prefix ${at + 1}`;
   });
-  $("add-entry").hidden = Boolean(change.terms?.isFixed) || rows.length >= MOST_ENTRIES;
+  $("more-entries").hidden = Boolean(change.terms?.isFixed) || rows.length >= MOST_ENTRIES;
   markLoose();
 }
 
@@ -648,7 +731,8 @@ function markLoose() {
   for (const { row, prefix, max } of fieldsOfEntries()) {
     const place = readPrefix(prefix);
     const isLoose = place && /^\d+$/.test(max.trim()) && Number(max) > place.length;
-    row.lastChild.textContent = isLoose ? `Loose: it also authorizes each prefix in ${place.text} up to /${max.trim()}. ${LOOSE}` : "";
+    const words = `Loose: it also authorizes each prefix in ${place?.text} up to /${max.trim()}. ${LOOSE}`;
+    row.lastChild.textContent = isLoose ? words : "";
   }
 }
 
@@ -660,13 +744,21 @@ function termsGiven() {
 }
 
 /** The terms as one text, whichever way their entries are written. */
-const sameText = (auth) => `${auth.asn} ${entriesOf(auth).map(({ prefix, max }) => `${prefix}-${max}`).join(" ")} ${daysOf(auth)}`;
+function sameText(auth) {
+  return [auth.asn, ...entriesOf(auth).map(({ prefix, max }) => `${prefix}-${max}`), daysOf(auth)].join(" ");
+}
+
+const findTerms = (terms) => (listed) => {
+  const found = listed.find((auth) => sameText(auth) === sameText(terms));
+  return found && `Authorization ${found.number} is there.`;
+};
 
 /** The terms of the fields, unless what is wrong with them can be said better here than by the desk's number. */
 function termsToSend() {
   const given = termsGiven();
-  const days = [given.from, given.until].find((day) => !isDay(day));
-  const fault = faultOfEntries(given.entries) || (days === undefined ? "" : `${days || "An empty field"}: ${SENTENCES.malformed[8]}`);
+  const none = [given.from, given.until].find((day) => !isDay(day));
+  const faultOfDays = none === undefined ? "" : `${none || "An empty field"}: ${SENTENCES.malformed[8]}`;
+  const fault = faultOfEntries(given.entries) || faultOfDays;
   if (fault) return void sayOfChange(fault, "fault");
   return termsOf(given);
 }
@@ -683,10 +775,7 @@ function create() {
         verb: "Create", changes: [{ do: "create", ...terms }], before: [], after: [terms],
         prefixes: prefixesOf(terms), own: ownRoutes(terms),
         request: ["POST", underHolder("auths"), terms], done: ({ done }) => `Authorization ${done} is created.`,
-        find(listed) {
-          const found = listed.find((auth) => sameText(auth) === sameText(terms));
-          return found && `Authorization ${found.number} is there.`;
-        },
+        find: findTerms(terms),
       };
     },
   });
@@ -704,8 +793,8 @@ async function isUnchanged(auth) {
   }
   if (sameText(reply.shown) === sameText(auth)) return true;
   $("confirm").hidden = true;
-  sayOfChange(`Nothing was sent: someone else changed authorization ${auth.number} meanwhile. It was ${describe(auth)}, and `
-    + `is now ${describe(reply.shown)}. Close this and open it again.`, "fault");
+  sayOfChange(`Nothing was sent: someone else changed authorization ${auth.number} meanwhile. It was ${describe(auth)}, `
+    + `and is now ${describe(reply.shown)}. Close this and open it again.`, "fault");
   lines = lines.map((line) => (line.auth.number === auth.number ? toLine(reply.shown) : line));
   showList();
   return false;
@@ -789,7 +878,8 @@ function showRows(rows, marks = []) {
 /** What is wrong with the rows of a file: how many are faulty, and the first of them. */
 function sayFaulty(faulty) {
   const [{ place, faults: [{ reason }] }] = faulty;
-  const which = faulty.length === 1 ? `Row ${place} is faulty` : `${count(faulty.length, "row")} are faulty, first row ${place}`;
+  const which = faulty.length === 1 ? `Row ${place} is faulty`
+    : `${count(faulty.length, "row")} are faulty, first row ${place}`;
   sayOfChange(`${which}: ${reason} Nothing was sent.`, "fault");
 }
 
@@ -891,7 +981,7 @@ function openMove(form, verb, name, prefix, path, body) {
   if (!isName(name)) return say(said, SENTENCES.malformed[3], "fault");
   openChange({
     title: `${verb} ${prefix}`,
-    facts: body.taker === undefined ? `From ${name}.` : `From ${name} to ${body.taker}.`,
+    facts: body.taker === undefined ? `From ${name}.` : `From ${name} to ${body.taker}.`, isDangerous: true,
     plan: () => ({
       request: ["POST", path, body], show: () => showEnded(name, prefix, verb),
       done: () => `${verb} ${prefix}: done.`, said,
@@ -921,22 +1011,72 @@ async function doHolderTask(task) {
   say(said, fault ? fault + again : words(reply), fault ? "fault" : "done");
 }
 
+/** The name that a file has in a set: that of the file, in the form of a holder's. */
+function slurmName({ name }) {
+  return name.toLowerCase().replace(/\.json$/, "").replace(/[^a-z0-9-]+/g, "-").replace(/^-+/, "").slice(0, 32);
+}
+
+/** What was put in force last from this browser: the desk does not tell what is. */
+function showSlurm() {
+  const last = recall("slurm");
+  $("slurm-last").textContent = last ? `Last put in force from this browser: ${last}.`
+    : "From this browser none was put in force yet.";
+}
+
 async function putSlurm() {
   const said = statusOf($("slurm"));
-  const [file] = $("slurm-file").files;
-  const { fault } = await ask("PUT", "/slurm", file);
-  say(said, fault ?? `The exceptions of ${file.name} are in force.`, fault ? "fault" : "done");
+  const files = [...$("slurm-file").files];
+  const names = files.map(slurmName);
+  const twice = names.find((name, at) => !isName(name) || names.indexOf(name) < at);
+  if (files.length > 1 && twice !== undefined) {
+    return say(said, `Each file needs a name of its own, of a to z, 0 to 9 and -: ${twice || "one"} is not.`, "fault");
+  }
+  const texts = await Promise.all(files.map((file) => file.text()));
+  for (const [at, text] of texts.entries()) {
+    try {
+      JSON.parse(text);
+    } catch {
+      if (files.length > 1) return say(said, `${files[at].name}: ${SENTENCES.slurm[1]} Nothing was sent.`, "fault");
+    }
+  }
+  const set = texts.map((text, at) => `{"name":"${names[at]}","file":${text}}`);
+  const { fault } = files.length > 1 ? await ask("PUT", "/slurms", new Blob([`{"files":[${set.join()}]}`]))
+    : await ask("PUT", "/slurm", files[0]);
+  const which = files.map(({ name }) => name).join(", ");
+  if (fault) return say(said, fault, "fault");
+  keep("slurm", `${which}, at ${new Date().toISOString().slice(0, 16).replace("T", " ")} UTC`);
+  showSlurm();
+  say(said, `The exceptions of ${which} are in force, and no others.`, "done");
 }
 
 // The VRPs of the day
 
 let payloads = [];
+let searching = {};
 
 const payloadRow = (line) => rowOf(...line.split(","));
 
-function showPayloads() {
+const payloadFilterOf = (word) =>
+  testOf(word, (line) => line.toLowerCase(), (line) => [readPrefix(line.split(",")[1])]);
+
+/** The lines that pass all tests, some in each frame, or null where another search began meanwhile. */
+async function searchPayloads(tests) {
+  if (!tests.length) return payloads;
+  const [search, all] = [searching, payloads];
+  const found = [];
+  for (let at = 0; at < all.length; at += SEARCHED_IN_A_FRAME) {
+    if (at) await new Promise(requestAnimationFrame);
+    if (searching !== search) return null;
+    found.push(...all.slice(at, at + SEARCHED_IN_A_FRAME).filter((line) => tests.every((test) => test(line))));
+  }
+  return found;
+}
+
+async function showPayloads() {
+  searching = {};
   const words = $("payload-filter").value.toLowerCase().split(/\s+/).filter(Boolean);
-  const found = payloads.filter((line) => words.every((word) => line.toLowerCase().includes(word)));
+  const found = await searchPayloads(words.map(payloadFilterOf));
+  if (!found) return;
   const cut = cutOf(found.length);
   const all = count(payloads.length, "VRP");
   const sum = words.length ? `${found.length.toLocaleString("en")} of ${all}` : all;
@@ -953,16 +1093,55 @@ async function askPayloads() {
 
 // The page
 
-function showPage() {
-  const wanted = location.hash.slice(1);
-  const pages = [...document.querySelectorAll(".page")];
-  const page = pages.find(({ id }) => id === wanted) ?? pages.find(({ hidden }) => !hidden);
-  for (const other of pages) other.hidden = other !== page;
+const PAGES = [...document.querySelectorAll(".page")];
+
+/** What the address names: `#/alpha/routes`, or without a holder `#/routes`. */
+function readAddress() {
+  const parts = location.hash.replace(/^#\/?/, "").split("/").filter(Boolean);
+  const page = PAGES.find(({ id }) => id === parts.at(-1));
+  return { page, name: parts.length === 2 && isName(parts[0]) ? parts[0] : "" };
+}
+
+const addressOf = (page) => (holder ? `#/${holder}/${page.id}` : `#/${page.id}`);
+
+const shownPage = () => PAGES.find(({ hidden }) => !hidden);
+
+/** Names the page and the holder in the title and the links, and in the address. */
+function namePage() {
+  const page = shownPage();
   for (const link of document.querySelectorAll("nav a")) {
-    link.ariaCurrent = link.hash === `#${page.id}` ? "page" : null;
+    const linked = PAGES.find(({ id }) => link.hash.endsWith(`/${id}`));
+    link.href = addressOf(linked);
+    link.ariaCurrent = linked === page ? "page" : null;
   }
-  say($("notice"), "");
+  document.title = `${holder ? `${holder}: ` : ""}${page.dataset.title} – roadesk`;
+}
+
+async function showPage() {
+  const { page: wanted, name } = readAddress();
+  const page = wanted ?? shownPage();
+  if (page !== shownPage()) say($("notice"), "");
+  for (const other of PAGES) other.hidden = other !== page;
+  namePage();
   if (page.id === "payloads") askPayloads();
+  if (name && name !== holder) await openHolder(name);
+}
+
+/** The page of a holder gets an address of its own, so that Back leads to the one before. */
+function goToHolder() {
+  const address = addressOf(shownPage());
+  if (location.hash !== address) history.pushState(null, "", address);
+  namePage();
+  const last = [holder, ...lastHolders().filter((name) => name !== holder)].slice(0, KEPT_HOLDERS);
+  keep("holders", last.join("\n"));
+  showLastHolders();
+  $("holder").value = holder;
+}
+
+const lastHolders = () => recall("holders").split("\n").filter(isName);
+
+function showLastHolders() {
+  $("last-holders").replaceChildren(...lastHolders().map((name) => element("option", { value: name })));
 }
 
 const FORMS = {
@@ -1020,7 +1199,13 @@ async function meet() {
   $("grant-until").value = `${$("day").value.slice(0, 4)}-12-31`;
   watched = readRoutes(recall("routes")).routes;
   $("watched").value = routeText();
-  $("holder").value = recall("holder");
+  showLastHolders();
+  showSlurm();
+  const [last] = lastHolders();
+  if (last && !readAddress().name) {
+    $("holder").value = last;
+    await openHolder(last);
+  }
 }
 
 function listen() {
@@ -1039,7 +1224,7 @@ function listen() {
     if (auth) showDetails(auth);
   });
   $("day").addEventListener("change", () => showAsOf($("day").value));
-  window.addEventListener("hashchange", showPage);
+  window.addEventListener("popstate", showPage);
 }
 
 makeSorts();

@@ -148,7 +148,8 @@ export function sentencesOf(effects, today, moments) {
     const when = isToday ? "Today" : `From ${day}`;
     if (!found.length) return `${when}: nothing changes.`;
     if (!isToday && found.length <= NAMED_AT_MOST) return `${when}: ${found.map(nameOf).join("; ")}.`;
-    return `${when}: ${[...outcomes(found), ...(still ? [`${still} ${still === 1 ? "stays" : "stay"}`] : [])].join(", ")}.`;
+    const stays = still ? [`${still} ${still === 1 ? "stays" : "stay"}`] : [];
+    return `${when}: ${[...outcomes(found), ...stays].join(", ")}.`;
   });
 }
 

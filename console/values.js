@@ -62,8 +62,8 @@ export const showEntry = ({ prefix, max }) => (isExact({ prefix, max }) ? prefix
 
 export const isExact = ({ prefix, max }) => `${prefix}`.endsWith(`/${max}`);
 
-export const LOOSE = "A maxLength over the length of the prefix also authorizes routes that nobody announces, and whoever "
-  + "forges the origin of one gets its traffic. Authorize just the prefixes that are announced (RFC 9319).";
+export const LOOSE = "A maxLength over the length of the prefix also authorizes routes that nobody announces, and "
+  + "whoever forges the origin of one gets its traffic. Authorize just the prefixes that are announced (RFC 9319).";
 
 export const describe = (auth) => `AS${auth.asn} for ${entriesOf(auth).map(showEntry).join(", ")}, ${daysOf(auth)}`;
 
@@ -95,7 +95,9 @@ export function entriesGiven(fields) {
 
 /** What is wrong with the entries as a list, as the desk would say by a number alone. */
 export function faultOfEntries(entries) {
-  if (entries.length > MOST_ENTRIES) return `An authorization has at most ${MOST_ENTRIES} prefixes: these are ${entries.length}.`;
+  if (entries.length > MOST_ENTRIES) {
+    return `An authorization has at most ${MOST_ENTRIES} prefixes, and these are ${entries.length}.`;
+  }
   const twice = entries.find(({ prefix }, at) => entries.findIndex((other) => other.prefix === prefix) < at);
   if (twice) return `${twice.prefix} stands twice.`;
   const none = entries.find(({ prefix }) => !readPrefix(`${prefix}`));
