@@ -3,6 +3,7 @@ pub mod HttpLemmas
 pub mod LineSplits
 pub mod PieceLemmas
 pub mod ReplyLemmas
+pub mod RepliesAlong
 pub mod ScriptAlong
 pub mod ScriptLemmas
 pub mod SessionLemmas

@@ -1,7 +1,10 @@
 -- A script over states is a script over what the states represent, as histories: where each answer is
 -- one there, so are the replies to all lines. Of an answer something is known only where the state after it
 -- is sound, and then the state before it was so too.
-use Rattle.std.proofs.Common.{ℕ, List, [], ◌∷◌, Option, refl}
+use Rattle.std.proofs.Common.{ℕ, List, [], ◌∷◌, Option, Some, None, refl, inl, inr}
+use Rattle.registry.specs.declared.asked.Asked.{Asked}
+use Rattle.desk.specs.declared.reply.Reply.{Reply}
+use Rattle.web.specs.ScriptAnswer.{AnswersLine}
 use Rattle.web.specs.ScriptLines.{within_limit}
 use Rattle.web.specs.Script.{Replies, AnswersEach, BreaksOff}
 
@@ -67,3 +70,24 @@ module _ {State History : Type 0}
         represents_later,
         (before, after, line, text, reply, between, are, script_there, acted_there, written),
       )
+
+-- so is the answer to a line, where each reply is one there
+module _ {State History : Type 0}
+    (replies : State → Asked → Reply → State → Type 0)
+    (IsSound : State → Type 0)
+    (Represents : State → History → Type 0)
+    (replies_there : History → Asked → Reply → History → Type 0)
+    (each : (state next : State) (request : Asked) (reply : Reply) (history : History)
+    → IsSound next → Represents state history → replies state request reply next
+    → (later : History) × Represents next later × replies_there history request reply later) where
+  pub AnswersLine-along : (state next : State) (line : Option (List ℕ)) (text : List ℕ) (history : History)
+      → IsSound next → Represents state history → AnswersLine replies state line text next
+      → (later : History) × Represents next later × AnswersLine replies_there history line text later
+  AnswersLine-along state next None text history sound represents (is, same) = (history, rw same represents, (is, refl))
+  AnswersLine-along state next (Some line) text history sound represents (inl (refused, same)) =
+      (history, rw same represents, inl (refused, refl))
+  AnswersLine-along state next (Some line) text history sound represents (inr (inr (is, same))) =
+      (history, rw same represents, inr (inr (is, refl)))
+  AnswersLine-along state next (Some line) text history sound represents (inr (inl (request, reply, reads, replied, is))) =
+      let (later, represents_later, replied_there) = each state next request reply history sound represents replied in
+      (later, represents_later, inr (inl (request, reply, reads, replied_there, is)))

@@ -1,22 +1,21 @@
 -- A script over a desk is a script over the histories that the desk represents.
-use Rattle.std.proofs.Common.{◌≡◌, ◌≢◌, ◌∙◌, ℕ, Bool, true, false, List, [], ◌∷◌, ◌++◌, Option, Some, None, Result, Ok, Err, OnOk, refl, sym, ap, subst, append_assoc, inl, inr}
+use Rattle.std.proofs.Common.{◌≡◌, ◌≢◌, ◌∙◌, ℕ, Bool, true, false, List, [], ◌∷◌, ◌++◌, Option, Some, None, Result, Ok, Err, OnOk, refl, sym, ap, append_assoc, inl, inr}
 use Rattle.std.specs.Io.{appended_bytes}
 use Rattle.sqlite.specs.Store.{Ghosts}
 use Rattle.registry.specs.History.{History}
-use Rattle.registry.specs.Values.{HistoryFits}
 use Rattle.charters.specs.declared.charter.Charter.{Charter}
 use Rattle.desk.specs.Answer.{is_accepted}
-use Rattle.desk.specs.Desk.{charter_of, IsOnCleanDisk, KeepsRows, Represents}
+use Rattle.desk.specs.Desk.{charter_of, IsOnCleanDisk, KeepsRows}
 use Rattle.streams.proofs.StreamLemmas.{appended_bytes-append}
 use Rattle.web.specs.ReplyText.{line_text}
 use Rattle.web.specs.Script.{AnswersEach, BreaksOff, Replies}
-use Rattle.web.specs.ScriptAnswer.{AnswersLineAt, AnswersLineOn, AnswersLines, BreaksOffLines, IsLaterDesk, RepliesOn, SaysAccepted}
+use Rattle.web.specs.ScriptAnswer.{AnswersLineAt, AnswersLineLeaving, AnswersLineOn, AnswersLines, BreaksOffLines, IsLaterDesk, RepliesAt, RepliesLeaving, RepliesOn, SaysAccepted, Standing}
 use Rattle.web.specs.ScriptLines.{within_limit}
-use Rattle.desk.specs.CrashOutcomes.{LeavesAlong, pending_after}
 use Rattle.desk.specs.declared.desk.Desk.{Desk}
 use Rattle.web.specs.declared.script.ScriptFault.{ScriptFault}
 use Rattle.web.specs.declared.script.ScriptFault.TheVariants as script
-use Rattle.web.proofs.ScriptAlong.{AnswersEach-along, AnswersEach-sound, BreaksOff-along, BreaksOff-sound, Replies-sound}
+use Rattle.web.proofs.RepliesAlong.{replied_leaving, replied_on, RepresentsFrom, StandsFrom}
+use Rattle.web.proofs.ScriptAlong.{AnswersEach-along, AnswersEach-sound, AnswersLine-along, BreaksOff-along, BreaksOff-sound, Replies-sound}
 
 -- what holds where a script was answered, or nothing was read
 pub unless_broken : {T P : Type 0} → (result : Result T ScriptFault) → OnOk result P → (result ≡ Err script.Read → P) → (result ≡ Err script.Memory → P) → result ≢ Err script.Write → P
@@ -60,34 +59,36 @@ module _ {S : Type 0} (g : Ghosts S) where
   later_broken old new lines w w' broken =
       BreaksOff-sound (AnswersLineAt g) (λ state. IsLaterDesk g state new) (later_before new) old new lines w w' broken (same_desk new)
 
-  -- the desk represents a history that goes on from a first one
-  abbrev RepresentsFrom : Charter → History → Desk S → History → Type 0
-  RepresentsFrom charter first desk history = Represents g charter desk history × (HistoryFits first → HistoryFits history)
-
   -- a line answered by the desk is answered on each history that the desk represents
-  line_along : (charter : Charter) (first : History) (state next : Desk S) (line : Option (List ℕ)) (text : List ℕ) (history : History) → IsOnCleanDisk g next → RepresentsFrom charter first state history → AnswersLineAt g state line text next → (later : History) × RepresentsFrom charter first next later × AnswersLineOn charter history line text later
-  line_along charter first state next None text history clean from (is, same) = (history, rw same from, (is, refl))
-  line_along charter first state next (Some line) text history clean from (inl (refused, same)) = (history, rw same from, inl (refused, refl))
-  line_along charter first state next (Some line) text history clean from (inr (inr (is, same))) = (history, rw same from, inr (inr (is, refl)))
-  line_along charter first state next (Some line) text history clean (represents, values) (inr (inl (request, reply, reads, at, is))) =
-      let P : Charter → Type 0 = λ k. Represents g k state history → (later : History) × Represents g k next later × (HistoryFits history → HistoryFits later) × (RepliesOn k history request reply later × LeavesAlong g k state history (pending_after request reply) next later) in
-      let (later, represents_later, values_later, (replied, left)) = subst P represents.chartered (at.replies clean history) represents in
-      (later, (represents_later, λ fits. values_later (values fits)), inr (inl (request, reply, reads, replied, is)))
+  line_on : (charter : Charter) (first : History) (state next : Desk S) (line : Option (List ℕ)) (text : List ℕ) (history : History) → IsOnCleanDisk g next → RepresentsFrom g charter first state history → AnswersLineAt g state line text next → (later : History) × RepresentsFrom g charter first next later × AnswersLineOn charter history line text later
+  line_on charter first =
+      AnswersLine-along (RepliesAt g) (IsOnCleanDisk g) (RepresentsFrom g charter first) (RepliesOn charter) (replied_on g charter first)
+
+  -- and a crash leaves no more than the answer allows
+  line_leaving : (charter : Charter) (first : History) (state next : Desk S) (line : Option (List ℕ)) (text : List ℕ) (standing : Standing) → IsOnCleanDisk g next → StandsFrom g charter first state standing → AnswersLineAt g state line text next → (later : Standing) × StandsFrom g charter first next later × AnswersLineLeaving charter standing line text later
+  line_leaving charter first =
+      AnswersLine-along (RepliesAt g) (IsOnCleanDisk g) (StandsFrom g charter first) (RepliesLeaving charter) (replied_leaving g charter first)
 
   pub each_along : (old new : Desk S) (lines : List (List ℕ)) (w w' : List ℕ) → AnswersEach (AnswersLineAt g) old new lines w w' → AnswersLines g old new lines w w'
   each_along old new lines w w' each = (
     each,
-    λ clean history represents.
-        let (later, (represents_later, values), answered) = AnswersEach-along (AnswersLineAt g) (IsOnCleanDisk g) clean_before (RepresentsFrom (charter_of old) history) (AnswersLineOn (charter_of old)) (line_along (charter_of old) history) old new lines w w' history clean (represents, λ fits. fits) each in
-        (later, represents_later, values, answered),
+    (λ clean before represents.
+        let (after, (represents_after, values), answered) = AnswersEach-along (AnswersLineAt g) (IsOnCleanDisk g) clean_before (RepresentsFrom g (charter_of old) before) (AnswersLineOn (charter_of old)) (line_on (charter_of old) before) old new lines w w' before clean (represents, λ fits. fits) each in
+        (after, represents_after, values, answered)),
+    λ clean charter before represents leaves.
+        let (after, ((represents_after, values), left), answered) = AnswersEach-along (AnswersLineAt g) (IsOnCleanDisk g) clean_before (StandsFrom g charter before.history) (AnswersLineLeaving charter) (line_leaving charter before.history) old new lines w w' before clean ((represents, λ fits. fits), leaves) each in
+        (after, answered, represents_after, values, left),
   )
 
   pub broken_along : (old new : Desk S) (lines : List (List ℕ)) (w w' : List ℕ) → BreaksOff (AnswersLineAt g) old new lines w w' → BreaksOffLines g old new lines w w'
   broken_along old new lines w w' broken = (
     broken,
-    λ clean history represents.
-        let (later, (represents_later, values), answered) = BreaksOff-along (AnswersLineAt g) (IsOnCleanDisk g) clean_before (RepresentsFrom (charter_of old) history) (AnswersLineOn (charter_of old)) (line_along (charter_of old) history) old new lines w w' history clean (represents, λ fits. fits) broken in
-        (later, represents_later, values, answered),
+    (λ clean before represents.
+        let (after, (represents_after, values), answered) = BreaksOff-along (AnswersLineAt g) (IsOnCleanDisk g) clean_before (RepresentsFrom g (charter_of old) before) (AnswersLineOn (charter_of old)) (line_on (charter_of old) before) old new lines w w' before clean (represents, λ fits. fits) broken in
+        (after, represents_after, values, answered)),
+    λ clean charter before represents leaves.
+        let (after, ((represents_after, values), left), answered) = BreaksOff-along (AnswersLineAt g) (IsOnCleanDisk g) clean_before (StandsFrom g charter before.history) (AnswersLineLeaving charter) (line_leaving charter before.history) old new lines w w' before clean ((represents, λ fits. fits), leaves) broken in
+        (after, answered, represents_after, values, left),
   )
 
   -- ---- rows

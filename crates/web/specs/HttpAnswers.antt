@@ -21,13 +21,19 @@ KeepsAll g old new =
     × OnHistories g old new (λ before after. (after ≡ before)
     × LeavesAlong g (charter_of old) old before (λ pending. pending) new after)
 
--- the response to the request that the bytes are, a list in the form that it asks for; what is refused or malformed
--- does not reach the desk
+-- The response to the request that the bytes are, a list in the form that it asks for, by what `replies state request
+-- reply next` says may be replied to a request, and which state that leaves. What is refused or malformed leaves the
+-- state.
+abbrev pub AnswersHttpBy : {State : Type 0} → (State → Asked → Reply → State → Type 0)
+    → State → HttpRequest → List ℕ → State → Type 0
+AnswersHttpBy replies old (refused refusal) text new = (text ≡ refusal_response refusal) × (new ≡ old)
+AnswersHttpBy replies old (malformed fault) text new = (text ≡ malformed_response fault) × (new ≡ old)
+AnswersHttpBy replies old (asked form request) text new =
+    (reply : Reply) × (text ≡ reply_response form reply) × replies old request reply new
+
+-- the response of a desk to a request
 abbrev pub AnswersHttp : {S : Type 0} → Ghosts S → Desk S → HttpRequest → List ℕ → Desk S → Type 0
-AnswersHttp g old (refused refusal) text new = (text ≡ refusal_response refusal) × (new ≡ old)
-AnswersHttp g old (malformed fault) text new = (text ≡ malformed_response fault) × (new ≡ old)
-AnswersHttp g old (asked form request) text new =
-    (reply : Reply) × (text ≡ reply_response form reply) × RepliesAt g old request reply new
+AnswersHttp g = AnswersHttpBy (RepliesAt g)
 
 -- the day whose VRPs the desk keeps is what the request makes of it, with a reply that shows something
 abbrev pub LeavesShownDay : {S : Type 0} → Asked → Desk S → Desk S → Type 0

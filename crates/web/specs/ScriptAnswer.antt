@@ -7,7 +7,7 @@ use Rattle.registry.specs.History.{History}
 use Rattle.registry.specs.Values.{HistoryFits}
 use Rattle.charters.specs.declared.charter.Charter.{Charter}
 use Rattle.desk.specs.Answer.{AnswersRequest, is_accepted}
-use Rattle.desk.specs.CrashOutcomes.{LeavesAlong, pending_after}
+use Rattle.desk.specs.CrashOutcomes.{LeavesAlong, LeavesAtMost, pending_after}
 use Rattle.desk.specs.DayAfter.{DayAfter}
 use Rattle.desk.specs.Desk.{charter_of, store_of, IsOnCleanDisk, KeepsRows, Represents}
 use Rattle.desk.specs.Prepared.{day_of}
@@ -37,6 +37,30 @@ OnHistories g old new goes_on =
     × Represents g (charter_of old) new after
     × (HistoryFits before → HistoryFits after)
     × goes_on before after
+
+-- A history, and the requests that a crash may leave applied.
+pub record Standing : Type 0 where
+  pub history : History
+  pub pending : List Asked
+
+-- the reply to a request on a history, and what a crash may leave applied then
+abbrev pub RepliesLeaving : Charter → Standing → Asked → Reply → Standing → Type 0
+RepliesLeaving charter before request reply after =
+    RepliesOn charter before.history request reply after.history
+    × (after.pending ≡ pending_after request reply before.pending)
+
+-- As OnHistories, with what a crash may leave: where it leaves of the old desk at most the history, or that with one of
+-- the pending requests, it leaves of the new desk at most the history and the requests to which these go on.
+abbrev pub OnStandings : {S : Type 0} → Ghosts S → Desk S → Desk S → (Charter → Standing → Standing → Type 0) → Type 0
+OnStandings g old new goes_on =
+    IsOnCleanDisk g new → (charter : Charter) (before : Standing)
+    → Represents g charter old before.history
+    → LeavesAtMost g charter old before.history before.pending
+    → (after : Standing)
+    × goes_on charter before after
+    × Represents g charter new after.history
+    × (HistoryFits before.history → HistoryFits after.history)
+    × LeavesAtMost g charter new after.history after.pending
 
 -- The desk at a later time: its charter and the limit of its steps are the same, and a disk that returns what was
 -- written did so before.
@@ -88,13 +112,19 @@ AnswersLineAt g = AnswersLine (RepliesAt g)
 abbrev pub AnswersLineOn : Charter → History → Option (List ℕ) → List ℕ → History → Type 0
 AnswersLineOn charter = AnswersLine (RepliesOn charter)
 
--- the answers to the lines were written, each by the desk that the one before it left, and they are those on each
--- history that the first desk represents
+-- the answer to a line on a history, and what a crash may leave applied then
+abbrev pub AnswersLineLeaving : Charter → Standing → Option (List ℕ) → List ℕ → Standing → Type 0
+AnswersLineLeaving charter = AnswersLine (RepliesLeaving charter)
+
+-- the answers to the lines were written, each by the desk that the one before it left; they are those on each history
+-- that the first desk represents, and a crash leaves no more than they allow
 abbrev pub AnswersLines : {S : Type 0} → Ghosts S → Desk S → Desk S → List (List ℕ) → List ℕ → List ℕ → Type 0
 AnswersLines g old new lines written_old written_new =
     AnswersEach (AnswersLineAt g) old new lines written_old written_new
     × OnHistories g old new (λ before after.
     AnswersEach (AnswersLineOn (charter_of old)) before after lines written_old written_new)
+    × OnStandings g old new (λ charter before after.
+    AnswersEach (AnswersLineLeaving charter) before after lines written_old written_new)
 
 -- they were written up to within the one to some line, the last that was acted on
 abbrev pub BreaksOffLines : {S : Type 0} → Ghosts S → Desk S → Desk S → List (List ℕ) → List ℕ → List ℕ → Type 0
@@ -102,6 +132,8 @@ BreaksOffLines g old new lines written_old written_new =
     BreaksOff (AnswersLineAt g) old new lines written_old written_new
     × OnHistories g old new (λ before after.
     BreaksOff (AnswersLineOn (charter_of old)) before after lines written_old written_new)
+    × OnStandings g old new (λ charter before after.
+    BreaksOff (AnswersLineLeaving charter) before after lines written_old written_new)
 
 -- the reply to an accepted command is somewhere in the text
 abbrev pub SaysAccepted : List ℕ → Type 0
