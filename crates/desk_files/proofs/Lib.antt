@@ -1,2 +1,3 @@
 pub mod DeskFileLemmas
 pub mod LifeLemmas
+pub mod RefusedLemmas

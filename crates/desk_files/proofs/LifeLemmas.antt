@@ -1,5 +1,5 @@
 -- What a desk has after a crash, and after lives with a crash after each.
-use Rattle.std.proofs.Common.{◌≡◌, ℕ, ◌+◌, ◌<◌, List, [], ◌∷◌, ◌++◌, length, get_or, map, take, refl, sym, ap, ◌∙◌, subst}
+use Rattle.std.proofs.Common.{◌≡◌, ℕ, ◌+◌, ◌<◌, IsTrue, List, [], ◌∷◌, ◌++◌, length, get_or, map, take, inl, refl, sym, ap, ◌∙◌, subst}
 use Rattle.std.specs.Borrow.{Bor}
 use Rattle.std.specs.Global.{Vec}
 use Rattle.std.proofs.lemmas.List.{map-append, take_more}
@@ -10,14 +10,14 @@ use Rattle.charters.specs.declared.charter.Charter.{Charter}
 use Rattle.registry.specs.History.{History}
 use Rattle.registry.specs.Verdict.{IsLegal}
 use Rattle.registry.specs.declared.asked.Asked.{Asked}
-use Rattle.desk.specs.CrashOutcomes.{pending_after_all, AreKept}
+use Rattle.desk.specs.CrashOutcomes.{pending_after_all, AreKept, LeavesAtMost, MayBeLeft}
 use Rattle.desk.specs.Desk.{charter_of, HoldsHistory}
-use Rattle.desk.specs.Resumed.{IsAtMostOneMore, MayBeFound, ResumesHistories}
+use Rattle.desk.specs.Resumed.{FindsLeft, IsAtMostOneMore, ResumesHistories}
 use Rattle.desk.specs.Run.{Runs}
 use Rattle.desk.specs.declared.desk.Desk.{Desk}
 use Rattle.desk.specs.declared.reply.Reply.{Reply}
 use Rattle.desk.proofs.ResumedLemmas.{left_found}
-use Rattle.desk_files.specs.Lives.{Lives, LivesOn, ResumesAfter}
+use Rattle.desk_files.specs.Lives.{LeavesLegal, Lives, LivesOn, ResumesAfter}
 
 abbrev requests : Bor (List Asked) → List Asked
 requests asked = asked.now
@@ -44,19 +44,37 @@ Lives-append charter before middle left next (a ∷ lives) (r ∷ replies) asked
 )
 
 module _ {S : Type 0} (g : Ghosts S) where
-  -- The desk resumes what the desk before the crash may leave: that one's connection was given back as a store, the store
-  -- crashed and was opened again, and the desk was opened over a connection to it.
-  pub crash_resumes : (desk again : Desk S) (closed : Held S) (back fresh : S) (conn : Held S)
-      → closed ≡ desk.store.connection
-      → IsQuiet g.view g.faults g.recovers g.is_shielded closed.store back
-      → g.recovers back (g.view fresh).committed → (g.view fresh).trees ≡ (g.view fresh).committed
-      → (state g conn).now.trees ≡ (g.view fresh).trees
-      → ResumesHistories g (state g conn) again → ResumesAfter g desk again
-  crash_resumes desk again closed back fresh conn same quiet found settled shown resumes charter before pending is legal left =
-      let committed = (g.view fresh).committed in
-      let may = subst (λ (h : Held S). (state g h).may_leave committed) same (quiet.outcomes committed found) in
-      resumes charter before pending is legal
-      (subst (MayBeFound charter before pending) (sym (shown ∙ settled)) (left_found charter before pending committed (left committed may)))
+  -- The desk before the crash was given back as a store, the store crashed and was opened again, and the connection over it
+  -- shows what the crash left.
+  module _ (desk : Desk S) (closed : Held S) (back fresh : S) (conn : Held S) (same : closed ≡ desk.store.connection)
+      (quiet : IsQuiet g.view g.faults g.recovers g.is_shielded closed.store back)
+      (found : g.recovers back (g.view fresh).committed) (settled : (g.view fresh).trees ≡ (g.view fresh).committed)
+      (shown : (state g conn).now.trees ≡ (g.view fresh).trees) where
+    pub crash_left : (charter : Charter) (before : History) (pending : List Asked)
+        → LeavesAtMost g charter desk before pending → MayBeLeft charter before pending (state g conn).now.trees
+    crash_left charter before pending left =
+        let committed = (g.view fresh).committed in
+        let may = subst (λ (h : Held S). (state g h).may_leave committed) same (quiet.outcomes committed found) in
+        subst (MayBeLeft charter before pending) (sym (shown ∙ settled)) (left committed may)
+
+    -- a desk that was opened over the connection resumes what the desk before the crash may leave
+    pub crash_resumes : (again : Desk S) → ResumesHistories g (state g conn) again → ResumesAfter g desk again
+    crash_resumes again resumes charter before pending is legal left =
+        resumes charter before pending is legal (left_found charter before pending _ (crash_left charter before pending left))
+
+    -- where that was a legal history, it is what the connection found
+    pub crash_finds : IsTrue (state g conn).is_open → LeavesLegal g desk → FindsLeft (state g conn)
+    crash_finds is_open it = record {
+      charter = it.charter;
+      before = it.before;
+      pending = it.pending;
+      is_open = is_open;
+      chartered = it.chartered;
+      named = it.named;
+      legal = it.legal;
+      fits = it.fits;
+      left = inl (crash_left it.charter it.before it.pending it.left);
+    }
 
   -- one more list, then a crash
   one_more_life : (start old ran new : Desk S) (lives : List (List Asked)) (replies : List (List Reply)) (asked : List Asked) (list : List Reply)

@@ -1,13 +1,20 @@
 -- The lives of a desk over a disk that may crash: lists of requests, with a crash after each.
-use Rattle.std.specs.Prelude.{◌≡◌, List, [], ◌∷◌}
+use Rattle.std.specs.Prelude.{◌≡◌, List, [], ◌∷◌, IsTrue}
+use Rattle.std.specs.List.{AllByRecursion}
 use Rattle.sqlite.specs.Store.{Ghosts}
+use Rattle.sqlite_trees.specs.Tree.{Trees}
+use Rattle.sqlite_trees.specs.View.{IsClean}
+use Rattle.addr.specs.Name.{is_name}
 use Rattle.charters.specs.CharterSets.{IsCharter}
 use Rattle.charters.specs.declared.charter.Charter.{Charter}
 use Rattle.registry.specs.History.{History}
+use Rattle.registry.specs.Values.{HistoryFits}
 use Rattle.registry.specs.Verdict.{IsLegal}
 use Rattle.registry.specs.declared.asked.Asked.{Asked}
-use Rattle.desk.specs.CrashOutcomes.{pending_after_all, LeavesAtMost}
-use Rattle.desk.specs.Desk.{Represents}
+use Rattle.transactions.specs.declared.fault.StoreFault.{StoreFault}
+use Rattle.transactions.specs.declared.fault.StoreFault.TheVariants.{Schema}
+use Rattle.desk.specs.CrashOutcomes.{pending_after_all, LeavesAtMost, MayBeLeft}
+use Rattle.desk.specs.Desk.{IsOnCleanDisk, Represents}
 use Rattle.desk.specs.Resumed.{IsAtMostOneMore, Resumes}
 use Rattle.desk.specs.Run.{Runs}
 use Rattle.desk.specs.declared.desk.Desk.{Desk}
@@ -20,6 +27,33 @@ ResumesAfter g desk again =
     (charter : Charter) (before : History) (pending : List Asked)
     → IsCharter charter → IsLegal charter before → LeavesAtMost g charter desk before pending
     → Resumes g charter before pending again
+
+-- a crash of the store leaves the tables of the history, or of the history with one of the pending requests
+abbrev pub StoreLeavesAtMost : {S : Type 0} → Ghosts S → Charter → S → History → List Asked → Type 0
+StoreLeavesAtMost g charter store history pending =
+    (trees : Trees) → g.recovers store trees → MayBeLeft charter history pending trees
+
+-- A crash of the desk leaves at most a legal history with requests pending. The operators of the charter have names, and
+-- whichever request is accepted, the values of the history are those of their types.
+pub record LeavesLegal {S : Type 0} (g : Ghosts S) (desk : Desk S) : Type 0 where
+  pub charter : Charter
+  pub before : History
+  pub pending : List Asked
+  pub chartered : IsCharter charter
+  pub named : AllByRecursion (λ name. IsTrue (is_name name)) charter.operators
+  pub legal : IsLegal charter before
+  pub fits : (after : History) → IsAtMostOneMore charter before pending after → HistoryFits after
+  pub left : LeavesAtMost g charter desk before pending
+
+-- A desk was crashed and not opened again, and the store is what is left. Where the disk returned what was written, what
+-- a crash leaves of a legal history is not refused as a database of another schema, and a crash of the store leaves no
+-- more than one of the desk did.
+pub record RefusesAfter {S : Type 0} (g : Ghosts S) (desk : Desk S) (fault : StoreFault) (store : S) : Type 0 where
+  pub clean : IsClean (g.view store) → IsOnCleanDisk g desk
+  pub not_schema : IsClean (g.view store) → fault ≡ Schema → ¬ LeavesLegal g desk
+  pub left :
+      IsClean (g.view store) → (charter : Charter) (history : History) (pending : List Asked)
+      → LeavesAtMost g charter desk history pending → StoreLeavesAtMost g charter store history pending
 
 -- A life is a list of requests, each of which has one reply. It begins with the history that the life before it left,
 -- or with that history and one more request of that life, which was answered Unavailable after the last one there that

@@ -1,7 +1,7 @@
 //! A desk over a disk that may crash, and its lives: lists of requests, with a crash after each.
-ghost use Rattle.std.specs.Prelude.{IfOk, map};
+ghost use Rattle.std.specs.Prelude.{IfErr, IfOk, map};
 ghost use Rattle.desk.specs.Desk.{IsOnCleanDisk};
-ghost use Rattle.desk_files.specs.Lives.{LivesOn, ResumesAfter};
+ghost use Rattle.desk_files.specs.Lives.{LivesOn, RefusesAfter, ResumesAfter};
 
 use desk::{Asked, Desk, Reply};
 use sqlite::{Alter, Connection};
@@ -16,25 +16,30 @@ pub struct Lived<S: Alter> {
     pub replies: Vec<Vec<Reply>>,
 }
 
-/// Crashes the disk of the desk, and opens the desk over what that left.
+/// Crashes the disk of the desk, and opens the desk over what that left. If it is refused, the store
+/// is returned, so that a contract can say what is left there.
 pub fn restart<S: Alter + Reopen + Drop>(
     alloc: Global,
     desk: Desk<S>,
-) -> Result<Desk<S>, StoreFault>
+) -> Result<Desk<S>, (StoreFault, S)>
     ensures clean { IfOk result (λ again. IsOnCleanDisk S.Store again
         → IsOnCleanDisk S.Store desk) }
     ensures resumed { IfOk result (λ again. IsOnCleanDisk S.Store again
         → ResumesAfter S.Store desk again) }
+    ensures err { IfErr result (λ refused. RefusesAfter S.Store desk refused.0 refused.1) }
 {
     let mut store = desk.close().into_store();
     let Ok(()) = store.crash_and_reopen() else {
-        return Err(StoreFault::Database);
+        return Err((StoreFault::Database, store));
     };
-    let Ok(conn) = Connection::over(alloc, store) else {
-        return Err(StoreFault::Database);
+    let conn = match Connection::over(alloc, store) {
+        Ok(conn) => conn,
+        Err((_, store)) => return Err((StoreFault::Database, store)),
     };
-    let again = Desk::open_from(alloc, conn)?;
-    Ok(again)
+    match Desk::open_or_return(alloc, conn) {
+        Ok(again) => Ok(again),
+        Err((fault, conn)) => Err((fault, conn.into_store())),
+    }
 }
 
 /// Runs each list of requests on the desk, and crashes and opens it again after each.
@@ -53,7 +58,10 @@ pub fn live<S: Alter + Reopen + Drop>(
     for asked in lives {
         let list = desk.run(asked)?;
         replies.push(list).unwrap();
-        desk = restart(alloc, desk)?;
+        desk = match restart(alloc, desk) {
+            Ok(again) => again,
+            Err((fault, _)) => return Err(fault),
+        };
     }
     Ok(Lived { desk, replies })
 }

@@ -18,12 +18,12 @@ loop-asked-preserved g c =
     record {
       room = omega (arith, so_far.room, c.push.ensures.capacity);
       count = (rw pushed at c.push.ensures.len) ∙ rw so_far.count refl;
-      clean = λ clean. so_far.clean (c.in_ok-list.ensures.clean (c.in_ok-desk.ensures.clean clean));
+      clean = λ clean. so_far.clean (c.in_ok-list.ensures.clean (c.in-Ok.ensures.clean clean));
       lived = λ clean.
-          let ran = c.in_ok-desk.ensures.clean clean in
-          live_more g.S.Store c.args.desk c.loop-asked.desk c.run.new.self c.in_ok-desk.desk c.args.lives.now c.loop-asked.asked-index c.asked-item.result
+          let ran = c.in-Ok.ensures.clean clean in
+          live_more g.S.Store c.args.desk c.loop-asked.desk c.run.new.self c.in-Ok.again c.args.lives.now c.loop-asked.asked-index c.asked-item.result
           c.loop-asked.replies.items c.push.new.self.items c.in_ok-list.list c.loop-asked-test.true c.asked-item.is (rw pushed at c.push.ensures.items)
-          (so_far.lived (c.in_ok-list.ensures.clean ran)) (c.in_ok-list.ensures.left ran) (c.in_ok-desk.ensures.resumed clean);
+          (so_far.lived (c.in_ok-list.ensures.clean ran)) (c.in_ok-list.ensures.left ran) (c.in-Ok.ensures.resumed clean);
     }
 
 pub returns-clause-lived : goal.returns-clause-lived
