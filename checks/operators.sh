@@ -1,0 +1,182 @@
+#!/usr/bin/env bash
+# Whether what operators use beside the program does as the guide says: routes.sh on tables that BIRD wrote, normalize.py
+# on SLURM files of others, and krill-delta.py on exports.
+#
+#     operators.sh [ROUTES]      (1,000,000 where left out)
+#
+# Two neighbours announce to a BIRD on loopback: paths that end with an AS, with an AS_SET, and empty ones of the router's
+# own AS. Both of its tables, `show route all` and a dump in MRT, have to give the same routes, which the program judges.
+# Then it judges so many routes of another dump; how long that takes is printed.
+#
+# Needs bird, birdc, bgpdump, jq and python3, and is skipped without them. PROGRAM names the program, else it is that of
+# the repository; skipped where it is not built. Takes a minute. Ends with 1 where something else is found, with 2 where
+# something could not be run.
+set -u
+. "$(dirname "${BASH_SOURCE[0]}")/common.sh"
+PATH=$PATH:/usr/sbin
+need bird birdc bgpdump jq python3
+find_program
+count=${1:-1000000}
+work=$(mktemp -d) || exit 2
+trap 'kill $(jobs -p) 2>/dev/null; rm -rf "$work"' EXIT
+cd "$work" || exit 2
+examples=$top/examples
+
+# start_bird PORT: with a static route, which is not of BGP.
+start_bird() {
+    cat >bird.conf <<END
+router id 192.0.2.1;
+protocol device { }
+protocol static { ipv4; route 203.0.113.0/24 blackhole; }
+template bgp neighbour {
+    local 127.0.0.1 port $1 as 64496;
+    multihop;
+    passive;
+    ipv4 { import all; export none; };
+    ipv6 { import all; export none; };
+}
+protocol bgp outer from neighbour { neighbor 127.0.0.2 as 64500; }
+protocol bgp inner from neighbour { neighbor 127.0.0.3 as 64496; }
+END
+    bird -f -c bird.conf -s bird.ctl -P bird.pid >bird.log 2>&1 &
+    until birdc -s bird.ctl show status >status.log 2>&1 || ! kill -0 $!; do sleep 0.1; done
+}
+
+# announce LOCAL AS PORT: the routes that are read.
+announce() {
+    python3 -B "$top/checks/speaker.py" "$1" "$2" 127.0.0.1 "$3" <"$1.routes" &
+}
+
+# Both neighbours announce one route with the same origin.
+announce_all() {
+    printf '%s\n' '192.0.2.0/24 64500 64501' '192.0.2.0/25 64500 64501 {64502,64503}' '198.51.100.0/24 64500' \
+        '2001:db8::/32 64500 4294967294' '2001:db8:1::/48 64500 {64501}' >127.0.0.2.routes
+    printf '%s\n' '198.51.100.0/24 64500' '203.0.113.128/25' '2001:db8:2::/48' >127.0.0.3.routes
+    announce 127.0.0.2 64500 "$1"
+    announce 127.0.0.3 64496 "$1"
+    for _ in $(seq 300); do
+        [ "$(birdc -s bird.ctl show route all | grep -c BGP.as_path)" != 8 ] || return
+        sleep 0.1
+    done
+    cat bird.log && exit 2
+}
+
+tables_of_bird() {
+    local port routes
+    port=$(free_port)
+    start_bird "$port"
+    announce_all "$port"
+    routes='prefix,origin
+192.0.2.0/24,AS64501
+192.0.2.0/25,NONE
+198.51.100.0/24,AS64500
+2001:db8:1::/48,NONE
+2001:db8:2::/48,AS64496
+2001:db8::/32,AS4294967294
+203.0.113.128/25,AS64496'
+    expect 'show route all' "$(birdc -s bird.ctl show route all | "$examples/routes.sh" bird 64496)" "$routes"
+    birdc -s bird.ctl 'mrt dump table "master*" to "dump.mrt"' >mrt.log || exit 2
+    expect 'a dump in MRT' "$(bgpdump -m dump.mrt 2>>mrt.log | "$examples/routes.sh" mrt 64496)" "$routes"
+    printf '%s\n' asn,prefix,maxlength AS64501,192.0.2.0/24,25 AS64496,2001:db8::/32,48 >vrps.csv
+    expect 'their states' "$("$program" check vrps.csv <(echo "$routes"))" '192.0.2.0/24,AS64501,Valid
+192.0.2.0/25,NONE,Invalid
+198.51.100.0/24,AS64500,NotFound
+2001:db8:1::/48,NONE,Invalid
+2001:db8:2::/48,AS64496,Valid
+2001:db8::/32,AS4294967294,Invalid
+203.0.113.128/25,AS64496,NotFound'
+}
+
+many_routes() {
+    python3 -B "$top/checks/mrt.py" "$count" >many.mrt || exit 2
+    SECONDS=0
+    bgpdump -m many.mrt 2>>mrt.log | "$examples/routes.sh" mrt 64496 >many.csv
+    expect "routes of a dump" "$(wc -l <many.csv)" $((count + 1))
+    echo "made in $SECONDS s"
+    SECONDS=0
+    expect 'judged' "$("$program" check vrps.csv many.csv | grep -cE ',(Valid|Invalid|NotFound)$')" "$count"
+    echo "judged in $SECONDS s"
+}
+
+# put FILE: what a desk answers to the SLURM file.
+put() {
+    jq -c '{day: "2026-03-01", caller: "reg", do: "slurm", file: .}' "$1" |
+        "$program" script --charter "$examples/charter.csv"
+}
+
+# A file whose every member is spelled otherwise than the desk has it, and what is then reported.
+other_spellings() {
+    cat >other.json <<'END'
+{"slurmVersion": "1",
+ "validationOutputFilters": {"prefixFilters": [{"prefix": "2001:0DB8:0::/48", "asn": "AS64496"}],
+                             "bgpsecFilters": [{"asn": 64496}]},
+ "locallyAddedAssertions": {"prefixAssertions": [
+    {"asn": "64496", "prefix": "2001:DB8::/32", "maxPrefixLength": 48.0, "comment": "de-aggregated"},
+    {"asn": 64497, "prefix": "::ffff:192.0.2.0/120"}]}}
+END
+    expect 'another spelling: the desk' "$(put other.json)" '{"malformed":11,"slurm":3}'
+    "$examples/slurm/normalize.py" other.json >spelled.json 2>report
+    expect 'its spelling' "$?, $(jq -c . spelled.json)" "0, $(tr -d '\n' <<'END'
+{"slurmVersion":1,"validationOutputFilters":{"prefixFilters":[{"prefix":"2001:db8::/48","asn":64496}],
+"bgpsecFilters":[]},"locallyAddedAssertions":{"prefixAssertions":[
+{"asn":64496,"prefix":"2001:db8::/32","maxPrefixLength":48,"comment":"de-aggregated"},
+{"asn":64497,"prefix":"::ffff:c000:200/120"}],"bgpsecAssertions":[]}}
+END
+)"
+    expect 'its report' "$(sed 's/^normalize.py: //' report)" 'slurmVersion: "1" is now 1
+bgpsecFilters: 1 taken out
+prefixFilters 1 prefix: "2001:0DB8:0::/48" is now "2001:db8::/48"
+prefixFilters 1 asn: "AS64496" is now 64496
+bgpsecAssertions: is now an empty array
+prefixAssertions 1 prefix: "2001:DB8::/32" is now "2001:db8::/32"
+prefixAssertions 1 asn: "64496" is now 64496
+prefixAssertions 1 maxPrefixLength: 48.0 is now 48
+prefixAssertions 2 prefix: "::ffff:192.0.2.0/120" is now "::ffff:c000:200/120"'
+    expect 'its spelling: the desk' "$(put spelled.json)" '{"done":null}'
+    expect 'spelled again' "$("$examples/slurm/normalize.py" spelled.json 2>&1)" "$(cat spelled.json)"
+}
+
+# A file of the desk's own examples with one member changed by jq, and what is reported of it.
+refused_file() {
+    jq "$1" "$examples/slurm.json" >refused.json
+    expect "refused: $1" "$("$examples/slurm/normalize.py" refused.json 2>&1; echo "$?")" "normalize.py: $2
+1"
+}
+
+refused_files() {
+    local filter=.validationOutputFilters.prefixFilters[0] assertion=.locallyAddedAssertions.prefixAssertions[1]
+    refused_file '.slurmVersion = 2' 'slurmVersion: 2 is no number from 1 to 1'
+    refused_file "$filter = {}" 'prefixFilters 1: lacks prefix or asn'
+    refused_file "$filter.prefix = \"192.0.2.1/24\"" 'prefixFilters 1 prefix: 192.0.2.1/24 has host bits set'
+    refused_file "$filter.max = 25" 'prefixFilters 1: unknown member max'
+    refused_file "$assertion.maxPrefixLength = 33" 'prefixAssertions 2 maxPrefixLength: 33 is no number from 24 to 32'
+    refused_file "$assertion.asn = 64500.5" 'prefixAssertions 2 asn: 64500.5 is no number from 0 to 4294967295'
+    refused_file "del($assertion.asn)" 'prefixAssertions 2: lacks prefix or asn'
+    refused_file '.aspaFilters = []' 'the file: unknown member aspaFilters'
+    echo '{"slurmVersion": 1, "slurmVersion": 1}' >refused.json
+    expect 'refused: a repeated member' "$("$examples/slurm/normalize.py" refused.json 2>&1)" \
+        'normalize.py: a member is repeated'
+}
+
+deltas() {
+    local header=number,asn,prefix,maxlength,from,until
+    printf '%s\n' $header 1,AS64496,192.0.2.0/24,24,2026-01-01,2026-12-31 \
+        2,AS64497,192.0.2.0/25,25,2026-03-02,2026-12-31 3,AS64498,2001:db8::/32,48,2026-01-01,2026-03-01 >old.csv
+    printf '%s\n' $header 1,AS64496,192.0.2.0/24,26,2026-01-01,2026-12-31 \
+        2,AS64497,192.0.2.0/25,25,2026-03-02,2026-12-31 3,AS64498,2001:db8::/32,48,2026-01-01,2026-03-01 >new.csv
+    expect 'a delta' "$("$examples/krill-delta.py" old.csv 2026-03-01 new.csv 2026-03-02 | jq -c '.[]')" \
+'[{"asn":64496,"prefix":"192.0.2.0/24","max_length":26},{"asn":64497,"prefix":"192.0.2.0/25","max_length":25}]
+[{"asn":64496,"prefix":"192.0.2.0/24","max_length":24},{"asn":64498,"prefix":"2001:db8::/32","max_length":48}]'
+    expect 'no delta' "$("$examples/krill-delta.py" new.csv 2026-03-02 new.csv 2026-03-03 | jq -c .)" \
+        '{"added":[],"removed":[]}'
+    expect 'no export' "$("$examples/krill-delta.py" vrps.csv 2026-03-01 new.csv 2026-03-02 2>&1; echo $?)" \
+        'krill-delta.py: vrps.csv is no export
+1'
+}
+
+tables_of_bird
+many_routes
+other_spellings
+refused_files
+deltas
+exit "$failed"

@@ -1,0 +1,31 @@
+#!/bin/sh
+# Makes the file of routes that `roadesk check` judges, out of a router's table.
+#
+#     birdc show route all | routes.sh bird AS >routes.csv     # BIRD 2
+#     bgpdump -m DUMP | routes.sh mrt AS >routes.csv           # a dump in MRT (RFC 6396)
+#
+# The origin is that of RFC 6811 section 2: the last AS of the path; NONE where the path ends with an AS_SET; AS, the
+# number of the router's own AS, where the path is empty or ends with a confederation. Routes that are not of BGP are
+# left out. A route that several neighbours announce with one origin is there once, in the order of `sort`.
+#
+# Ends with 2 where the words are others.
+set -eu
+case "$*" in
+    "bird "[0-9]* | "mrt "[0-9]*) ;;
+    *) sed -n '2,/^set/s/^# \{0,1\}//p' "$0" >&2; exit 2 ;;
+esac
+export LC_ALL=C
+awk -v own="$2" -v form="$1" '
+    function route(prefix, path) {
+        sub(/ +$/, "", path)
+        if (path ~ /}$/ && path !~ /}\)$/) origin = "NONE"
+        else if (path == "" || path ~ /[])]$/) origin = "AS" own
+        else { sub(/.* /, "", path); origin = "AS" path }
+        print prefix "," origin
+    }
+    # A table: prefix, then for each route its attributes.
+    form == "bird" && /^[0-9a-fA-F.:]+\/[0-9]+ / { prefix = $1 }
+    form == "bird" && /^\t(BGP\.as_path|bgp_path):/ { sub(/^[^:]*: */, ""); route(prefix, $0) }
+    # A line of a dump: kind, time, B, address and AS of the neighbour, prefix, path. Other routes are of AS 0 in it.
+    form == "mrt" { split($0, fields, "|"); if (fields[3] == "B" && fields[5] > 0) route(fields[6], fields[7]) }
+' | sort -u | { echo prefix,origin; cat; }
