@@ -54,10 +54,12 @@ put 644 etc/logrotate etc/logrotate.d/roadesk
 for file in "$top"/console/*.html "$top"/console/*.css "$top"/console/*.js; do
     install -D -m 644 "$file" "$root/usr/share/roadesk/console/${file##*/}"
 done
+install -D -m 644 "$top/docs/openapi.json" "$root/usr/share/roadesk/openapi.json"
 install -D -m 644 "$top/examples/wait.conf" "$root/usr/share/roadesk/wait.conf"
 install -D -m 644 "$top/examples/nginx.conf" "$root/usr/share/roadesk/nginx-site"
 install -d "$root/usr/share/man/man8" "$root/usr/share/doc/roadesk"
 sed "s/@VERSION@/$(cat "$top/VERSION")/" "$here/roadesk.8" | gzip -9n >"$root/usr/share/man/man8/roadesk.8.gz"
 chmod 644 "$root/usr/share/man/man8/roadesk.8.gz"
-install -m 644 "$top"/docs/{GUIDE,FORMATS,DEFINITIONS,ROA-CONTENT}.md "$top/CHANGELOG.md" "$root/usr/share/doc/roadesk"
+install -m 644 "$top"/docs/{GUIDE,FORMATS,DEFINITIONS,ROA-CONTENT}.md "$top"/docs/{openapi,lines.schema}.json \
+    "$top/CHANGELOG.md" "$root/usr/share/doc/roadesk"
 cp -r --no-preserve=mode,ownership "$top/examples" "$root/usr/share/doc/roadesk"
