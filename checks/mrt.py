@@ -22,8 +22,8 @@ def attributes(place):
 
 def rib(place):
     """RIB_IPV4_UNICAST or RIB_IPV6_UNICAST, with the one entry of the peer."""
-    kind, prefix = (2, b"\x18" + struct.pack(">I", 0x01000000 + place // 2 << 8 & 0xFFFFFFFF)[:3]) if place % 2 == 0 else (
-        4, b"\x30\x20\x01" + struct.pack(">I", place // 2))
+    number = struct.pack(">I", place // 2)
+    kind, prefix = (4, b"\x30\x20\x01" + number) if place % 2 else (2, b"\x18" + number[1:])
     made = attributes(place)
     return record(kind, struct.pack(">I", place) + prefix + struct.pack(">HHIH", 1, 0, 0, len(made)) + made)
 

@@ -1,12 +1,12 @@
 #!/usr/bin/env bash
-# Whether what operators use beside the program does as the guide says: routes.sh on tables that BIRD wrote, normalize.py
-# on SLURM files of others, and krill-delta.py on exports.
+# Whether what operators use beside the program does as the guide says: routes.sh on tables that BIRD wrote,
+# normalize.py on SLURM files of others, and krill-delta.py on exports.
 #
 #     operators.sh [ROUTES]      (1,000,000 where left out)
 #
-# Two neighbours announce to a BIRD on loopback: paths that end with an AS, with an AS_SET, and empty ones of the router's
-# own AS. Both of its tables, `show route all` and a dump in MRT, have to give the same routes, which the program judges.
-# Then it judges so many routes of another dump; how long that takes is printed.
+# Two neighbours announce to a BIRD on loopback: paths that end with an AS, with an AS_SET, and empty ones of the
+# router's own AS. Both of its tables, `show route all` and a dump in MRT, have to give the same routes, which the
+# program judges. Then it judges so many routes of another dump; how long that takes is printed.
 #
 # Needs bird, birdc, bgpdump, jq and python3, and is skipped without them. PROGRAM names the program, else it is that of
 # the repository; skipped where it is not built. Takes a minute. Ends with 1 where something else is found, with 2 where

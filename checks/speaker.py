@@ -2,8 +2,8 @@
 
     speaker.py LOCAL AS REMOTE PORT <ROUTES
 
-LOCAL and REMOTE are IPv4 addresses. A route is a line: a prefix and its path, such as `192.0.2.0/24 64500 {64501,64502}`,
-where braces hold an AS_SET. Of one AS with its neighbour, it adds LOCAL_PREF, and the path may be empty.
+LOCAL and REMOTE are IPv4 addresses. A route is a line: a prefix and its path, where braces hold an AS_SET, such as
+`192.0.2.0/24 64500 {64501,64502}`. Of one AS with its neighbour, it adds LOCAL_PREF, and the path may be empty.
 """
 import ipaddress
 import socket

@@ -4,9 +4,9 @@
     krill-delta.py OLD.csv OLD-DAY NEW.csv NEW-DAY >delta.json
 
 The file has the form that Krill's manual gives under "Krill API", for POST /api/v1/cas/{ca}/routes: an object with the
-arrays `added` and `removed`, of objects with `asn`, `prefix` and `max_length`. What it does there was not tried. Krill has
-no days, so a row counts if it is in force on the day of its export: run this each day, with what was sent on the day
-before as OLD.csv, or only the header of an export the first time. Ends with 1 where a file is no export.
+arrays `added` and `removed`, of objects with `asn`, `prefix` and `max_length`. What it does there was not tried. Krill
+has no days, so a row counts if it is in force on the day of its export: run this each day, with what was sent on the
+day before as OLD.csv, or only the header of an export the first time. Ends with 1 where a file is no export.
 """
 import csv
 import ipaddress
@@ -22,7 +22,8 @@ def in_force(path, day):
         header, *rows = list(csv.reader(file)) or [[]]
     if header != HEADER or any(len(row) != len(HEADER) for row in rows):
         sys.exit(f"krill-delta.py: {path} is no export")
-    return {(int(asn[2:]), prefix, int(longest)) for _, asn, prefix, longest, first, last in rows if first <= day <= last}
+    return {(int(asn[2:]), prefix, int(longest))
+            for _, asn, prefix, longest, first, last in rows if first <= day <= last}
 
 
 def order(vrp):

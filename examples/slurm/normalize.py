@@ -7,8 +7,9 @@ The desk reads one spelling. This changes what can mean one thing alone: prefixe
 written as text, with `AS` or with a fraction of zeros, and arrays that are left out, to empty ones. It takes out BGPsec
 entries, which change no VRP: the desk has no router keys. Each change is a line on standard error.
 
-A prefix with bits past its length, a filter of nothing, another version, an unknown or repeated member and whatever else
-may be a mistake is for its author to mend: each is a line on standard error too, nothing is written, and the status is 1.
+A prefix with bits past its length, a filter of nothing, another version, an unknown or repeated member and whatever
+else may be a mistake is for its author to mend: each is a line on standard error too, nothing is written, and the
+status is 1.
 """
 import ipaddress
 import json

@@ -1,0 +1,149 @@
+#!/usr/bin/env bash
+# Whether BIRD and FRR, which get the VRPs of a desk from StayRTR by RTR, find a hijacked route invalid that the other
+# announces by BGP, and whether OpenBGPD reads them as a roa-set.
+#
+#     routers.sh
+#
+# Each of the two announces a route whose origin is authorized and one whose origin is not: BIRD a whole prefix of
+# another AS, FRR a part of one. BIRD leaves the invalid route out, FRR marks it. They run in a network namespace.
+#
+# Needs the rights of root, stayrtr, rtrdump, bird, birdc, vtysh, FRR's bgpd with its module rpki, OpenBGPD's bgpd,
+# curl, jq and ip, and is skipped without them. PROGRAM names the program, else it is that of the repository; skipped
+# where it is not built. Takes half a minute. Ends with 1 where something else is found, with 2 where something could
+# not be run.
+set -u
+. "$(dirname "${BASH_SOURCE[0]}")/common.sh"
+PATH=$PATH:/usr/sbin:/sbin
+frr=/usr/lib/frr/bgpd
+need stayrtr rtrdump bird birdc vtysh "$frr" bgpd curl jq ip unshare
+find_program
+if [ -z "${IN_NAMESPACE:-}" ]; then
+    unshare -n true 2>/dev/null || skip 'no right to make a network namespace'
+    IN_NAMESPACE=yes PROGRAM=$program exec unshare -n "$0"
+fi
+work=$(mktemp -d) || exit 2
+trap 'kill $(jobs -p) 2>/dev/null; rm -rf "$work"' EXIT
+cd "$work" && mkdir vty || exit 2
+ip link set lo up && ip address add 10.0.0.2/24 dev lo && ip address add 10.0.0.3/24 dev lo || exit 2
+
+# until_done COMMAND...: waits until the command succeeds, half a minute at most.
+until_done() {
+    for _ in $(seq 150); do
+        "$@" >until.log 2>&1 && return
+        sleep 0.2
+    done
+    echo "never: $*" && cat until.log *.log && exit 2
+}
+
+# ask CALLER METHOD PATH [BODY]
+ask() {
+    curl -sf -X "$2" -H "Desk-Caller: $1" ${4:+-d "$4"} "http://127.0.0.1:8080$3"
+}
+
+# authorize AS PREFIX
+authorize() {
+    ask ann POST /holders/alpha/auths \
+        "{\"asn\":$1,\"prefix\":\"$2\",\"max\":24,\"from\":\"2026-01-01\",\"until\":\"2026-12-31\"}"
+}
+
+make_vrps() {
+    printf '%s\n' kind,value operator,reg pool,192.0.2.0/24 pool,198.51.100.0/24 pool,203.0.113.0/24 >charter.csv
+    "$program" init --db desk.db --charter charter.csv || exit 2
+    "$program" serve --db desk.db --listen 127.0.0.1:8080 --count 1000000 --day 2026-03-01 2>desk.log &
+    until_done ask noc GET /payloads
+    {
+        ask reg PUT /holders/alpha
+        for prefix in 192.0.2.0/24 198.51.100.0/24 203.0.113.0/24; do
+            ask reg POST /holders/alpha/delegations "{\"prefix\":\"$prefix\"}"
+        done
+        ask reg POST /holders/alpha/grants '{"name":"ann","role":"manager","scope":"all","until":"2026-12-31"}'
+        authorize 64496 192.0.2.0/24 && authorize 64500 198.51.100.0/24 && authorize 64497 203.0.113.0/24
+    } >asked.log || exit 2
+    ask noc GET /payloads >vrps.csv || exit 2
+    jq -R -n -c '{roas: [inputs | select(startswith("AS")) | split(",")
+        | {asn: .[0], prefix: .[1], maxLength: (.[2] | tonumber)}]}' vrps.csv >vrps.json
+    stayrtr -cache vrps.json -bind 127.0.0.1:8282 -metrics.addr '' -checktime=false 2>stayrtr.log &
+    until_done rtrdump -connect 127.0.0.1:8282 -file routers.json
+}
+
+start_bird() {
+    cat >bird.conf <<'END'
+router id 192.0.2.2;
+roa4 table r4;
+protocol device { }
+protocol rpki desk { roa4 { table r4; }; remote 127.0.0.1 port 8282; }
+protocol static { ipv4; route 192.0.2.0/24 blackhole; route 198.51.100.0/24 blackhole; }
+filter judged {
+    if roa_check(r4, net, bgp_path.last) = ROA_INVALID then reject;
+    accept;
+}
+protocol bgp beside {
+    local 10.0.0.2 port 17901 as 64500;
+    neighbor 10.0.0.3 port 17902 as 64497;
+    multihop;
+    ipv4 { import keep filtered; import filter judged; export where source = RTS_STATIC; };
+}
+END
+    bird -f -c bird.conf -s bird.ctl -P bird.pid >bird.log 2>&1 &
+    until_done bash -c 'birdc -s bird.ctl show route table r4 | grep AS64497'
+}
+
+start_frr() {
+    cat >frr.conf <<'END'
+rpki
+ rpki polling_period 10
+ rpki cache 127.0.0.1 8282 preference 1
+ exit
+router bgp 64497
+ bgp router-id 192.0.2.3
+ no bgp ebgp-requires-policy
+ no bgp network import-check
+ neighbor 10.0.0.2 remote-as 64500
+ neighbor 10.0.0.2 port 17901
+ neighbor 10.0.0.2 ebgp-multihop 2
+ neighbor 10.0.0.2 update-source 10.0.0.3
+ address-family ipv4 unicast
+  network 203.0.113.0/24
+  network 198.51.100.128/25
+ exit-address-family
+END
+    "$frr" -S -n -M rpki -f "$work/frr.conf" -i "$work/frr.pid" -z "$work/zserv" --vty_socket "$work/vty" -p 17902 \
+        -l 10.0.0.3 -P 0 >frr.log 2>&1 &
+}
+
+# What FRR has of each route of the other router: its state and prefix.
+of_frr() {
+    vtysh --vty_socket "$work/vty" -c 'show bgp ipv4 unicast' 2>/dev/null |
+        awk '/10[.]0[.]0[.]2 / { print substr($1, 1, 1), $2 }'
+}
+
+# The prefixes that BIRD has of the other router; with `filtered`, those that it left out.
+of_bird() {
+    birdc -s bird.ctl "show route ${1:-} protocol beside" | awk '/AS64497/ { print $1 }' | sort
+}
+
+have_exchanged() {
+    [ "$(of_frr | wc -l)" = 2 ] && [ -n "$(of_bird)" ] && [ -n "$(of_bird filtered)" ]
+}
+
+roa_set() {
+    printf '%s\n' 'AS 64496' 'router-id 192.0.2.1' 'roa-set {'
+    awk -F, 'NR > 1 { print "    " $2 " maxlen " $3 " source-as " substr($1, 3) }' vrps.csv
+    printf '%s\n' '}' 'deny from any ovs invalid'
+}
+
+make_vrps
+start_bird
+start_frr
+until_done have_exchanged
+expect 'FRR' "$(of_frr)" 'I 192.0.2.0/24
+V 198.51.100.0/24'
+expect 'BIRD' "$(of_bird)" 203.0.113.0/24
+expect 'BIRD leaves out' "$(of_bird filtered)" 198.51.100.128/25
+roa_set >openbgpd.conf && chmod 600 openbgpd.conf
+expect 'OpenBGPD' "$(bgpd -n -f openbgpd.conf 2>&1)" 'configuration OK'
+expect 'the set that it reads' "$(bgpd -n -v -f openbgpd.conf 2>&1 | sed -n '/^roa-set/,/^}/s/^\t//p')" \
+    '192.0.2.0/24 source-as 64496
+198.51.100.0/24 source-as 64500
+203.0.113.0/24 source-as 64497'
+exit "$failed"
