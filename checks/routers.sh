@@ -32,7 +32,7 @@ until_done() {
         "$@" >until.log 2>&1 && return
         sleep 0.2
     done
-    echo "never: $*" && cat until.log *.log && exit 2
+    echo "never: $*" && cat ./*.log && exit 2
 }
 
 # ask CALLER METHOD PATH [BODY]
