@@ -11,7 +11,7 @@ use std::net::TcpStream;
 use std::time::{Clock, Duration, Instant};
 
 /// What a connection is read from and written to. A call that may wait is made only under a timeout
-/// that ends within the connection's time, by a reading of the clock since the last call.
+/// of all that is left of the connection's time, by a reading of the clock since the last call.
 pub trait Peer {
     // The bytes that reads will give from here on, where they are known.
     ghost remaining: { Self → Option (List ℕ) } = { λ _. None };
