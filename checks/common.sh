@@ -39,10 +39,12 @@ place_of() {
     local package=$1
     case $1 in
         rt) echo 'of the Rattle toolchain, which Debian does not have' && return ;;
+        bgpd) package=openbgpd ;;
         bird | birdc) package=bird2 ;;
         chromedriver) package=chromium-driver ;;
         dpkg-deb) package=dpkg ;;
         drbdadm) package=drbd-utils ;;
+        fort) package=fort-validator ;;
         iconv) package=libc-bin ;;
         ip | ss) package=iproute2 ;;
         journalctl | systemctl | systemd-analyze) package=systemd ;;
@@ -51,6 +53,7 @@ place_of() {
         nsenter | prlimit | runuser | setpriv | unshare) package=util-linux ;;
         readelf | strip) package=binutils ;;
         rtrdump) package=stayrtr ;;
+        vtysh | /usr/lib/frr/bgpd) package=frr ;;
         */python3) package=python3 ;;
         apt-get) package=apt ;;
     esac
@@ -83,9 +86,10 @@ need_python() {
     python3 -c 'import sqlite3' 2>/dev/null || skip 'python3 has no module sqlite3 (Debian: libpython3-stdlib)'
 }
 
-# run_python SCRIPT WORD...: runs a part of the check that is in Python, which ends as a check does.
+# run_python SCRIPT WORD...: runs a part of the check that is in Python, which ends as a check does. `python` may name
+# another than python3.
 run_python() {
-    python3 -B "$@"
+    "${python:-python3}" -B "$@"
     case $? in
         0) ;;
         77) left_out=1 ;;

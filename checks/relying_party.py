@@ -16,6 +16,9 @@ import time
 import urllib.error
 import urllib.request
 
+sys.path.insert(0, str(pathlib.Path(__file__).resolve().parent.parent / "examples/signer"))
+import sign
+
 # The first and the last AS number of each count of octets, in DER too, where a first bit takes an octet of its own.
 NUMBERS = [0, 1, 127, 128, 255, 256, 32767, 32768, 65535, 65536, 2**23 - 1, 2**23, 2**24 - 1, 2**24, 2**31 - 1, 2**31,
            2**32 - 1]
@@ -45,7 +48,7 @@ def run(*words, **options):
     ended = subprocess.run(list(map(str, words)), capture_output=True, text=True, timeout=1800, check=False, **options)
     if ended.returncode:
         print(f"{words[0]} ended with {ended.returncode}:\n{ended.stdout[-500:]}{ended.stderr[-2000:]}")
-        sys.exit(2)
+        sys.exit(1)
     return ended.stdout
 
 
@@ -77,7 +80,7 @@ class Desk:
                 return socket.create_connection(("127.0.0.1", port), timeout=60).close()
             except ConnectionRefusedError:
                 time.sleep(0.05)
-        sys.exit(2)
+        sys.exit(1)
 
     def ask(self, caller, method, path, body=None):
         """The body of a response, which has to be of status 200."""
@@ -88,7 +91,7 @@ class Desk:
                 return response.read().decode()
         except urllib.error.HTTPError as error:
             print(f"{method} {path} {octets}: {error.code} {error.read().decode()}")
-            sys.exit(2)
+            sys.exit(1)
 
     def create(self, holder, asn, entries, first, last):
         """The number of a new authorization; entries are pairs of prefix and maxLength."""
@@ -111,7 +114,7 @@ class Relying:
     """The way from a desk to what the validators find."""
 
     def __init__(self, top, work, day):
-        self.top, self.work, self.day, self.failed = top, work, day, False
+        self.top, self.work, self.day, self.failed, self.said = top, work, day, False, ""
 
     def snapshot(self, desk):
         """What fetch.py makes of the desk, whose files are copied while it is stopped."""
@@ -127,29 +130,31 @@ class Relying:
         fetch = self.top / "examples/signer/fetch.py"
         return json.loads(run("python3", "-B", fetch, desk.address, "ann", self.work / "registry.csv"))
 
-    def sign(self, snapshot, tree, day=None):
+    def sign(self, snapshot, tree):
         """Signs it, and tells how many ROAs were signed and revoked."""
         file = self.work / "snapshot.json"
         file.write_text(json.dumps(snapshot), encoding="ascii")
         began = time.time()
-        lines = run("python3", "-B", self.top / "examples/signer/sign.py", file, tree, day or self.day).splitlines()
+        lines = run("python3", "-B", self.top / "examples/signer/sign.py", file, tree, self.day).splitlines()
         counts = {word: sum(line.endswith(f": {word}") for line in lines) for word in ("signed", "revoked")}
         print(f"{counts['signed']} signed, {counts['revoked']} revoked in {time.time() - began:.0f} s")
         return counts
 
     def validate(self, tree, slurm=None):
-        """The VRPs that rpki-client and fort write, which may write none; with SLURM files fort alone."""
+        """The VRPs that rpki-client and fort write, which may write none; with SLURM files fort alone. What they say
+        beside is in `said`."""
         cache, out, exported = self.work / "cache", self.work / "out", self.work / "fort.csv"
         run(self.top / "examples/signer/cache.sh", tree, cache)
         for file in [*out.iterdir(), exported]:
             file.unlink(missing_ok=True)
         tal = tree / "now/ta.tal"
-        words = ["fort", "--mode=standalone", "--work-offline", f"--tal={tal}", f"--local-repository={cache}",
-                 f"--output.roa={exported}", "--output.format=csv"] + ([f"--slurm={slurm}"] if slurm else [])
-        subprocess.run(words, capture_output=True, timeout=300, check=False)
-        if not slurm:
-            words = ["rpki-client", "-n", "-c", "-d", cache, "-t", tal, out]
-            subprocess.run(words, capture_output=True, timeout=300, check=False)
+        commands = [["fort", "--mode=standalone", "--work-offline", f"--tal={tal}", f"--local-repository={cache}",
+                     f"--output.roa={exported}", "--output.format=csv", "--validation-log.enabled=true",
+                     "--validation-log.output=console"] + ([f"--slurm={slurm}"] if slurm else [])]
+        commands += [] if slurm else [["rpki-client", "-n", "-c", "-d", cache, "-t", tal, out]]
+        self.said = "".join(
+            subprocess.run(words, stdout=subprocess.PIPE, stderr=subprocess.STDOUT, text=True, timeout=300, check=False)
+            .stdout for words in commands)
         files = [exported] if slurm else [out / "csv", exported]
         return [vrps(file.read_text(encoding="ascii")) if file.exists() else set() for file in files]
 
@@ -314,16 +319,23 @@ def refuse_beyond(relying, desk, snapshot, plain, tree):
     relying.expect("a ROA beyond its holder's space", relying.validate(copy), without(desk, "gamma", number, plain))
 
 
-def refuse_stale(relying, snapshot):
-    """One ROA, of which all is as before but for the day of the signer."""
-    number, terms = contents_of(snapshot, "gamma")[0]
-    small = {"gamma": {"space": snapshot["gamma"]["space"], "authorizations": {number: terms}}}
-    late = (datetime.date.fromisoformat(relying.day) - datetime.timedelta(5)).isoformat()
-    for name, day, count in (("signed today", relying.day, 1), ("not signed for five days", late, 0)):
-        tree = relying.work / f"signed-{day}"
-        relying.sign(small, tree, day)
-        found = relying.validate(tree)
-        relying.expect(name, found, found[0] if len(found[0]) == count else {"another number of VRPs"})
+def refuse_stale(relying, plain, tree):
+    """A manifest of one holder whose next update is past; its certificate, what is revoked and all ROAs are in date."""
+    day = datetime.datetime.fromisoformat(relying.day)
+    valid = [day + datetime.timedelta(offset) for offset in (-10, 2)]
+    spaces = {space.version: space for space in map(ipaddress.ip_network, SPACE["gamma"])}
+    beside = {vrp for vrp in plain if not vrp[1].subnet_of(spaces[vrp[1].version])}
+    for name, last, expected in (("a manifest in date", 2, plain), ("a stale manifest", -1, beside)):
+        copy = shutil.copytree(tree, relying.work / f"manifest{last}", symlinks=True)
+        now = copy / "now"
+        state = json.loads((now / "state.json").read_text(encoding="ascii"))["gamma"]
+        state["manifest"] += 1
+        sign.write_manifest(sign.Authority(now, "gamma", state), (valid[0], day + datetime.timedelta(last)), valid)
+        relying.expect(name, relying.validate(copy), expected)
+    for words in ("gamma.mft: mft expired on ", "gamma.mft: Manifest is stale. "):
+        if words not in relying.said:
+            relying.failed = True
+            print(f"nobody says {words}: {relying.said[-2000:]}")
 
 
 def system_day():
@@ -352,10 +364,11 @@ def main(program, top, work):
         relying.judge_changes(before, snapshot, counts)
         refuse_bit(relying, desk, snapshot, plain, tree)
         refuse_beyond(relying, desk, snapshot, plain, tree)
-        refuse_stale(relying, snapshot)
+        refuse_stale(relying, plain, tree)
     finally:
         desk.stop()
     sys.exit(relying.failed)
 
 
-main(*sys.argv[1:])
+if __name__ == "__main__":
+    main(*sys.argv[1:])

@@ -191,21 +191,32 @@ def certify_authority(authority, issuer, space, day):
     return {"serial": serial, "space": space, "until": stamp(until)}
 
 
-def write_lists(authority, moment):
-    """What it revoked, and then the manifest of its folder: the last of what it writes."""
-    state, until = authority.state, moment + datetime.timedelta(DAYS["lists"])
-    state["manifest"] += 1
+def write_revoked(authority, moment, until):
+    """The list of what it revoked."""
     with tempfile.TemporaryDirectory() as folder:
+        state = authority.state
         config = prepared(pathlib.Path(folder), number=state["manifest"], revoked=state["revoked"])
         text = openssl("ca", "-gencrl", "-config", config, "-cert", authority.pem, "-keyfile", authority.key,
                        "-crl_lastupdate", stamp(moment), "-crl_nextupdate", stamp(until))
     openssl("crl", "-outform", "DER", "-out", authority.folder / f"{authority.name}.crl", octets=text)
+
+
+def write_manifest(authority, updates, valid):
+    """What its folder has: with these two updates, and a certificate from the one moment to the other."""
     name = f"{authority.name}.mft"
     files = {file.name: file.read_bytes() for file in authority.folder.iterdir() if file.name != name}
-    content = der.manifest(state["manifest"], moment, until, files)
+    content = der.manifest(authority.state["manifest"], *updates, files)
     inherit = "sbgp-ipAddrBlock = critical,IPv4:inherit,IPv6:inherit\nsbgp-autonomousSysNum = critical,AS:inherit"
-    signed = sign(authority, name, authority.next_serial(), (moment, until), MANIFEST, inherit, content)
+    signed = sign(authority, name, authority.next_serial(), valid, MANIFEST, inherit, content)
     (authority.folder / name).write_bytes(signed)
+
+
+def write_lists(authority, moment):
+    """What it revoked, and then the manifest: the last of what it writes."""
+    authority.state["manifest"] += 1
+    days = moment, moment + datetime.timedelta(DAYS["lists"])
+    write_revoked(authority, *days)
+    write_manifest(authority, days, days)
 
 
 def next_moment(state, day):
