@@ -8,18 +8,21 @@
 # router's own AS. Both of its tables, `show route all` and a dump in MRT, have to give the same routes, which the
 # program judges. Then it judges so many routes of another dump; how long that takes is printed.
 #
-# Needs bird, birdc, bgpdump, jq and python3, and is skipped without them. PROGRAM names the program, else it is that of
-# the repository; skipped where it is not built. Takes a minute. Ends with 1 where something else is found, with 2 where
-# something could not be run.
+# Takes a minute.
+#
+# Needs the built program, which PROGRAM may name, python3 from 3.10 on, bird, birdc, bgpdump and jq.
+#
+# Ends with 0 where all ran and held, with 1 where something else is found or something failed, and with 77, after what is
+# missing, where it could not be run.
 set -u
 . "$(dirname "${BASH_SOURCE[0]}")/common.sh"
 PATH=$PATH:/usr/sbin
-need bird birdc bgpdump jq python3
+need_python
+need bird birdc bgpdump jq
 find_program
 count=${1:-1000000}
-work=$(mktemp -d) || exit 2
-trap 'kill $(jobs -p) 2>/dev/null; rm -rf "$work"' EXIT
-cd "$work" || exit 2
+make_work
+cd "$work" || exit 1
 examples=$top/examples
 
 # start_bird PORT: with a static route, which is not of BGP.
@@ -58,7 +61,7 @@ announce_all() {
         [ "$(birdc -s bird.ctl show route all | grep -c BGP.as_path)" != 8 ] || return
         sleep 0.1
     done
-    cat bird.log && exit 2
+    cat bird.log && exit 1
 }
 
 tables_of_bird() {
@@ -75,7 +78,7 @@ tables_of_bird() {
 2001:db8::/32,AS4294967294
 203.0.113.128/25,AS64496'
     expect 'show route all' "$(birdc -s bird.ctl show route all | "$examples/routes.sh" bird 64496)" "$routes"
-    birdc -s bird.ctl 'mrt dump table "master*" to "dump.mrt"' >mrt.log || exit 2
+    birdc -s bird.ctl 'mrt dump table "master*" to "dump.mrt"' >mrt.log || exit 1
     expect 'a dump in MRT' "$(bgpdump -m dump.mrt 2>>mrt.log | "$examples/routes.sh" mrt 64496)" "$routes"
     printf '%s\n' asn,prefix,maxlength AS64501,192.0.2.0/24,25 AS64496,2001:db8::/32,48 >vrps.csv
     expect 'their states' "$("$program" check vrps.csv <(echo "$routes"))" '192.0.2.0/24,AS64501,Valid
@@ -88,7 +91,7 @@ tables_of_bird() {
 }
 
 many_routes() {
-    python3 -B "$top/checks/mrt.py" "$count" >many.mrt || exit 2
+    python3 -B "$top/checks/mrt.py" "$count" >many.mrt || exit 1
     SECONDS=0
     bgpdump -m many.mrt 2>>mrt.log | "$examples/routes.sh" mrt 64496 >many.csv
     expect "routes of a dump" "$(wc -l <many.csv)" $((count + 1))
@@ -136,6 +139,34 @@ prefixAssertions 2 prefix: "::ffff:192.0.2.0/120" is now "::ffff:c000:200/120"'
     expect 'spelled again' "$("$examples/slurm/normalize.py" spelled.json 2>&1)" "$(cat spelled.json)"
 }
 
+# The file of RFC 8416 section 3.5, whose BGPsec entries the desk refuses first.
+example_of_the_standard() {
+    cat >standard.json <<'END'
+{"slurmVersion": 1,
+ "validationOutputFilters": {
+    "prefixFilters": [{"prefix": "192.0.2.0/24", "comment": "All VRPs encompassed by prefix"},
+        {"asn": 64496, "comment": "All VRPs matching ASN"},
+        {"prefix": "198.51.100.0/24", "asn": 64497, "comment": "All VRPs encompassed by prefix, matching ASN"}],
+    "bgpsecFilters": [{"asn": 64496, "comment": "All keys for ASN"},
+        {"SKI": "Zm9v", "comment": "Key matching Router SKI"},
+        {"asn": 64497, "SKI": "YmFy", "comment": "Key for ASN 64497 matching Router SKI"}]},
+ "locallyAddedAssertions": {
+    "prefixAssertions": [{"asn": 64496, "prefix": "198.51.100.0/24", "comment": "My other important route"},
+        {"asn": 64496, "prefix": "2001:DB8::/32", "maxPrefixLength": 48,
+            "comment": "My other important de-aggregated routes"}],
+    "bgpsecAssertions": [{"asn": 64496, "comment" : "My known key for my important ASN",
+        "SKI": "<some base64 SKI>", "routerPublicKey": "<some base64 public key>"}]}}
+END
+    jq '(.. | .bgpsecFilters?, .bgpsecAssertions? | arrays) = []' standard.json >emptied.json
+    expect 'the example of RFC 8416: the desk' "$(put standard.json)" '{"malformed":11,"slurm":5}'
+    expect 'without its BGPsec entries' "$(put emptied.json)" '{"malformed":11,"slurm":6}'
+    "$examples/slurm/normalize.py" standard.json >spelled.json 2>report
+    expect 'its report' "$(sed 's/^normalize.py: //' report)" 'bgpsecFilters: 3 taken out
+bgpsecAssertions: 1 taken out
+prefixAssertions 2 prefix: "2001:DB8::/32" is now "2001:db8::/32"'
+    expect 'its spelling: the desk' "$(put spelled.json)" '{"done":null}'
+}
+
 # A file of the desk's own examples with one member changed by jq, and what is reported of it.
 refused_file() {
     jq "$1" "$examples/slurm.json" >refused.json
@@ -144,7 +175,7 @@ refused_file() {
 }
 
 refused_files() {
-    local filter=.validationOutputFilters.prefixFilters[0] assertion=.locallyAddedAssertions.prefixAssertions[1]
+    local filter='.validationOutputFilters.prefixFilters[0]' assertion='.locallyAddedAssertions.prefixAssertions[1]'
     refused_file '.slurmVersion = 2' 'slurmVersion: 2 is no number from 1 to 1'
     refused_file "$filter = {}" 'prefixFilters 1: lacks prefix or asn'
     refused_file "$filter.prefix = \"192.0.2.1/24\"" 'prefixFilters 1 prefix: 192.0.2.1/24 has host bits set'
@@ -177,6 +208,7 @@ deltas() {
 tables_of_bird
 many_routes
 other_spellings
+example_of_the_standard
 refused_files
 deltas
-exit "$failed"
+end

@@ -7,24 +7,27 @@
 # Each of the two announces a route whose origin is authorized and one whose origin is not: BIRD a whole prefix of
 # another AS, FRR a part of one. BIRD leaves the invalid route out, FRR marks it. They run in a network namespace.
 #
-# Needs the rights of root, stayrtr, rtrdump, bird, birdc, vtysh, FRR's bgpd with its module rpki, OpenBGPD's bgpd,
-# curl, jq and ip, and is skipped without them. PROGRAM names the program, else it is that of the repository; skipped
-# where it is not built. Takes half a minute. Ends with 1 where something else is found, with 2 where something could
-# not be run.
+# Takes half a minute.
+#
+# Needs the built program, which PROGRAM may name, the rights of root, stayrtr, rtrdump, bird, birdc, vtysh, FRR's bgpd with
+# its module rpki, OpenBGPD's bgpd, curl, jq and ip.
+#
+# Ends with 0 where all ran and held, with 1 where something else is found or something failed, and with 77, after what is
+# missing, where it could not be run.
 set -u
 . "$(dirname "${BASH_SOURCE[0]}")/common.sh"
 PATH=$PATH:/usr/sbin:/sbin
 frr=/usr/lib/frr/bgpd
 need stayrtr rtrdump bird birdc vtysh "$frr" bgpd curl jq ip unshare
+compgen -G '/usr/lib/*/frr/modules/bgpd_rpki.so' >/dev/null || skip 'FRR has no module rpki (Debian: frr-rpki-rtrlib)'
+unshare -n true 2>/dev/null || skip 'no right to make a network namespace, as root has'
 find_program
 if [ -z "${IN_NAMESPACE:-}" ]; then
-    unshare -n true 2>/dev/null || skip 'no right to make a network namespace'
     IN_NAMESPACE=yes PROGRAM=$program exec unshare -n "$0"
 fi
-work=$(mktemp -d) || exit 2
-trap 'kill $(jobs -p) 2>/dev/null; rm -rf "$work"' EXIT
-cd "$work" && mkdir vty || exit 2
-ip link set lo up && ip address add 10.0.0.2/24 dev lo && ip address add 10.0.0.3/24 dev lo || exit 2
+make_work
+cd "$work" && mkdir vty || exit 1
+ip link set lo up && ip address add 10.0.0.2/24 dev lo && ip address add 10.0.0.3/24 dev lo || exit 1
 
 # until_done COMMAND...: waits until the command succeeds, half a minute at most.
 until_done() {
@@ -32,7 +35,7 @@ until_done() {
         "$@" >until.log 2>&1 && return
         sleep 0.2
     done
-    echo "never: $*" && cat ./*.log && exit 2
+    echo "never: $*" && cat ./*.log && exit 1
 }
 
 # ask CALLER METHOD PATH [BODY]
@@ -48,7 +51,7 @@ authorize() {
 
 make_vrps() {
     printf '%s\n' kind,value operator,reg pool,192.0.2.0/24 pool,198.51.100.0/24 pool,203.0.113.0/24 >charter.csv
-    "$program" init --db desk.db --charter charter.csv || exit 2
+    "$program" init --db desk.db --charter charter.csv || exit 1
     "$program" serve --db desk.db --listen 127.0.0.1:8080 --count 1000000 --day 2026-03-01 2>desk.log &
     until_done ask noc GET /payloads
     {
@@ -58,8 +61,8 @@ make_vrps() {
         done
         ask reg POST /holders/alpha/grants '{"name":"ann","role":"manager","scope":"all","until":"2026-12-31"}'
         authorize 64496 192.0.2.0/24 && authorize 64500 198.51.100.0/24 && authorize 64497 203.0.113.0/24
-    } >asked.log || exit 2
-    ask noc GET /payloads >vrps.csv || exit 2
+    } >asked.log || exit 1
+    ask noc GET /payloads >vrps.csv || exit 1
     jq -R -n -c '{roas: [inputs | select(startswith("AS")) | split(",")
         | {asn: .[0], prefix: .[1], maxLength: (.[2] | tonumber)}]}' vrps.csv >vrps.json
     stayrtr -cache vrps.json -bind 127.0.0.1:8282 -metrics.addr '' -checktime=false 2>stayrtr.log &
@@ -146,4 +149,4 @@ expect 'the set that it reads' "$(bgpd -n -v -f openbgpd.conf 2>&1 | sed -n '/^r
     '192.0.2.0/24 source-as 64496
 198.51.100.0/24 source-as 64500
 203.0.113.0/24 source-as 64497'
-exit "$failed"
+end
