@@ -347,7 +347,7 @@ def differ(seed, place, request, answers):
     sys.exit(1)
 
 
-def run_script(program, seed, charter_file, charter, requests):
+def run_script(program, seed, charter_file, charter, requests, heard):
     lines = requests.lines(seed)
     script = b"\n".join(lines) + requests.pick([b"", b"\n"])
     words = [program, "script", "--charter", charter_file]
@@ -359,12 +359,13 @@ def run_script(program, seed, charter_file, charter, requests):
         expected = desk.answer_line(line).encode()
         if reply != expected:
             differ(seed, f"line {place}", line, (reply, expected))
+        heard(line, reply)
     if len(replies) != len(asked) + 1 or replies[-1] or ended.returncode or ended.stderr:
         differ(seed, "the end", f"{len(asked)} lines".encode(), (f"{len(replies) - 1} lines, {ended}".encode(), b""))
     return len(asked), len(desk.history)
 
 
-def run_session(program, seed, charter_file, charter, requests):
+def run_session(program, seed, charter_file, charter, requests, heard):
     """Some days of one file, each served by a process of its own."""
     database = os.path.join(os.path.dirname(charter_file), f"{seed}.db")
     subprocess.run([program, "init", "--db", database, "--charter", charter_file], check=True, timeout=60)
@@ -388,7 +389,9 @@ def run_session(program, seed, charter_file, charter, requests):
                     sys.exit("model: no connection")
                 got, fault = exchanged(client, message, is_all=True)
                 # Bytes after a request are not read, so the connection may be reset before all of the response is there.
-                if got != expected and not (fault and expected.startswith(got)):
+                if got == expected:
+                    heard(message, got)
+                elif not (fault and expected.startswith(got)):
                     differ(seed, f"connection {place} of {day}", message, (got, expected))
             log = served.communicate(timeout=60)[1].decode()
         finally:
@@ -400,21 +403,27 @@ def run_session(program, seed, charter_file, charter, requests):
     return asked, len(desk.history)
 
 
+def run(program, work, seed, heard=lambda request, answer: None):
+    """How many requests the run of this seed made, and how many were accepted; `heard` gets each with its answer."""
+    requests = Requests(seed)
+    charter = requests.pick(CHARTERS)
+    charter_file = os.path.join(work, "charter.csv")
+    with open(charter_file, "w", encoding="utf-8") as file:
+        file.write(charter)
+    kind = run_session if seed % 5 == 0 else run_script
+    counts = kind(program, seed, charter_file, charter, requests, heard)
+    for function in (model.registered, model.moves, model.holds, model.grants, model.authorizations):
+        function.cache_clear()
+    return counts
+
+
 def main():
     program, work = sys.argv[1:3]
     runs, first, step = map(int, sys.argv[3:6])
     began, asked, accepted = time.time(), 0, 0
     for done, seed in enumerate(range(first, first + step * runs, step), 1):
-        requests = Requests(seed)
-        charter = requests.pick(CHARTERS)
-        charter_file = os.path.join(work, "charter.csv")
-        with open(charter_file, "w", encoding="utf-8") as file:
-            file.write(charter)
-        run = run_session if seed % 5 == 0 else run_script
-        counts = run(program, seed, charter_file, charter, requests)
+        counts = run(program, work, seed)
         asked, accepted = asked + counts[0], accepted + counts[1]
-        for function in (model.registered, model.moves, model.holds, model.grants, model.authorizations):
-            function.cache_clear()
         if time.time() - began > 3600:
             break
     print(f"model: {asked} requests of {done} runs from seed {first}, {accepted} accepted: as the program")

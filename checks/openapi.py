@@ -1,6 +1,6 @@
 """Judges examples, requests and replies by docs/openapi.json and docs/lines.schema.json: see openapi.sh.
 
-    openapi.py DOCS METASCHEMA RUNS SEED
+    openapi.py DOCS METASCHEMA RUNS SEED [PROGRAM WORK]    WORK is an empty folder
 """
 import collections
 import json
@@ -83,14 +83,21 @@ def body_faults(asked, octets, names):
     return faults
 
 
+def once(pairs):
+    """An object, whose members are there once each."""
+    if len(dict(pairs)) < len(pairs):
+        sys.exit(f"openapi: a member is repeated: {[name for name, _ in pairs]}")
+    return dict(pairs)
+
+
 class Judge:
     """What has to validate and what has not to, counted."""
 
     def __init__(self, docs):
         self.counts, self.failed = collections.Counter(), False
-        lines = json.loads((docs / "lines.schema.json").read_text(encoding="ascii"))
+        lines, self.api = [json.loads((docs / name).read_text(encoding="ascii"), object_pairs_hook=once)
+                           for name in ("lines.schema.json", "openapi.json")]
         self.lines = lines
-        self.api = json.loads((docs / "openapi.json").read_text(encoding="ascii"))
         self.components = nullable_types(self.api["components"])
         self.line, self.reply = Draft(lines), Draft({"$ref": "#/$defs/Reply", "$defs": lines["$defs"]})
         self.validators = {}
@@ -116,6 +123,8 @@ class Judge:
     # ---- Lines.
 
     def judge_line(self, octets, reply):
+        if len(octets) > model.LINE_LIMIT:
+            return
         try:
             value = model.read_json(octets)
         except ValueError:
@@ -168,6 +177,10 @@ class Judge:
         """A body of a request that was read to its end; whether path and caller are names is judged too."""
         methods, parameters = found
         head, _, body = octets.partition(b"\r\n\r\n")
+        for text in re.findall(rb"(?i)\r\ndesk-caller:[ \t]*(.*?)[ \t]*(?=\r\n|\Z)", head):
+            text = text.decode("latin-1")
+            self.expect("a caller", self.schema("caller", self.components["schemas"]["Name"]), text,
+                        model.read_name(text) is not None)
         for name, text in parameters.items():
             number = model.read_digits(text, 10**9)
             value = number if name == "number" and number is not None else text
@@ -181,8 +194,12 @@ class Judge:
         body, asked = body[:int(length[1])], methods[method]
         do = {"slurms": "slurm"}.get(asked, asked)
         names = [name for name in model.FURTHER[do] if name not in parameters]
+        schema = operation["requestBody"]["content"][kind]["schema"]
         if kind == "text/csv":
-            self.counts["a CSV body"] += 1
+            # By its header, and that a row follows.
+            records = model.csv_records(body)
+            self.expect("a CSV body", self.schema((template, method), schema), body.decode("utf-8", "replace"),
+                        records[:1] == [model.IMPORT_HEADER] and len(records) > 1)
             return
         try:
             value = json.loads(body)
@@ -192,7 +209,6 @@ class Judge:
             return
         strict = body_faults(asked, body, names)
         form = loosened(lambda: body_faults(asked, body, names)) if strict else []
-        schema = operation["requestBody"]["content"][kind]["schema"]
         valid = False if form else None if strict else True
         self.expect("a body", self.schema((template, method), schema), value, valid)
 
@@ -216,23 +232,30 @@ class Judge:
                 self.fail(f"the two have another {name}")
 
     def judge_tables(self, formats):
-        """Each path and method of FORMATS stands there, each status, and no other."""
+        """Each path and method of FORMATS stands there once, each status, no other, and a body where it has one."""
         section = formats.split("\n## HTTP\n")[1].split("\n## ")[0]
-        said, path = set(), None
-        for first, method in re.findall(r"^\| (?:`(/[^`]*)`)? ?\| ([A-Z]+) \|", section, re.MULTILINE):
+        said, path = [], None
+        rows = re.findall(r"^\| (?:`(/[^`]*)`)? ?\| ([A-Z]+) \| [^|]* \| (.*) \|$", section, re.MULTILINE)
+        for first, method, body in rows:
             path = first or path
-            said.add((path, method.lower()))
-        items = self.api["paths"].items()
-        there = {(path, method) for path, item in items for method in item if method != "parameters"}
-        statuses = set(re.findall(r"\b[1-5][0-9]{2}\b", " ".join(
-            re.findall(r"^\| ([0-9, ]+) \|", section, re.MULTILINE))))
+            said.append((path, method.lower(), body != "none"))
+        there = [(path, method, "requestBody" in operation) for path, item in self.api["paths"].items()
+                 for method, operation in item.items() if method != "parameters"]
+        listed = " ".join(re.findall(r"^\| ([0-9, ]+) \|", section, re.MULTILINE))
+        statuses = re.findall(r"\b[1-5][0-9]{2}\b", listed)
         named = {"NoRoute": "404", "NoMethod": "405"}
-        found = {status for path, method in there for status in self.api["paths"][path][method]["responses"]}
+        found = {status for path, method, _ in there for status in self.api["paths"][path][method]["responses"]}
         found |= {named[name] for name in self.api["components"]["responses"] if name in named}
-        for what, one, other in (("paths", said, there), ("statuses", statuses, found)):
+        for what, one, other in (("paths", said, there), ("statuses", statuses, list(found))):
             print(f"{what}: {len(one)}")
-            if one != other or not one:
-                self.fail(f"{what} differ:", sorted(one ^ other))
+            if sorted(one) != sorted(other) or not one:
+                self.fail(f"{what} differ:", sorted(one), sorted(other))
+        # The other statuses of an operation follow from whether it takes a body, and whether a rule may deny it.
+        for path, method, body in there:
+            possible = {"200", "400", "411", "503"} | ({"413"} if body else set())
+            declared = set(self.api["paths"][path][method]["responses"])
+            if declared - {"403"} != possible:
+                self.fail(f"{method} {path} has the statuses", sorted(declared))
 
     def judge_examples(self, formats):
         lines = re.search("```jsonl\n(.*?)```", formats, re.DOTALL)[1].splitlines()
@@ -244,14 +267,21 @@ class Judge:
             octets = head.replace("\n", "\r\n").encode() + b"\r\n\r\n" + body.rstrip("\n").encode()
             head, _, body = response.partition("\n\n")
             self.judge_message(octets, head.replace("\n", "\r\n").encode() + b"\r\n\r\n" + body.encode())
+        # That of status 503 is for any request.
+        head, _, body = re.search("```\n(HTTP/1.1 503 .*?)```", formats, re.DOTALL)[1].partition("\n\n")
+        kind = re.search(r"Content-Type: (\S+)", head)[1]
+        for template, item in self.api["paths"].items():
+            for method, operation in item.items():
+                if method != "parameters":
+                    self.judge_response(template, method, operation, "503", kind, body.encode())
 
     def judge_run(self, seed):
+        """A run in which the model answers."""
         requests = model_runs.Requests(seed)
         desk = model.Desk(requests.pick(model_runs.CHARTERS))
         if seed % 5:
             for line in requests.lines(seed):
-                if len(line) <= model.LINE_LIMIT:
-                    self.judge_line(line, desk.answer_line(line))
+                self.judge_line(line, desk.answer_line(line))
             return
         opening = requests.opening()
         for day in [requests.day() for _ in range(requests.pick([1, 2, 3]))]:
@@ -262,7 +292,7 @@ class Judge:
                 self.judge_message(message, model.answer_message(desk, day, message))
 
 
-def main(docs, metaschema, runs, seed):
+def main(docs, metaschema, runs, seed, program=None, work=None):
     judge = Judge(pathlib.Path(docs))
     formats = (pathlib.Path(docs) / "FORMATS.md").read_text(encoding="utf-8")
     judge.judge_documents(metaschema)
@@ -270,7 +300,11 @@ def main(docs, metaschema, runs, seed):
     judge.judge_examples(formats)
     print(", ".join(f"{count} x {what}" for what, count in judge.counts.items()))
     for place in range(int(seed), int(seed) + int(runs)):
-        judge.judge_run(place)
+        if program:
+            # The program's answers, which have to be the model's.
+            model_runs.run(program, work, place, judge.judge_line if place % 5 else judge.judge_message)
+        else:
+            judge.judge_run(place)
         if judge.failed:
             print(f"seed {place}")
             break
