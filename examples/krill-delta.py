@@ -3,10 +3,10 @@
 
     krill-delta.py OLD.csv OLD-DAY NEW.csv NEW-DAY >delta.json
 
-The file has the form that Krill's manual gives under "Krill API", for POST /api/v1/cas/{ca}/routes: an object with the
-arrays `added` and `removed`, of objects with `asn`, `prefix` and `max_length`. What it does there was not tried. Krill
-has no days, so a row counts if it is in force on the day of its export: run this each day, with what was sent on the
-day before as OLD.csv, or only the header of an export the first time. Ends with 1 where a file is no export.
+The form is that of Krill's manual ("Krill API", POST /api/v1/cas/{ca}/routes) as the writer knew it: an object with the
+arrays `added` and `removed`, of objects with `asn`, `prefix` and `max_length`. No Krill was run with it. Krill has
+no days, so a row counts if it is in force on the day of its export: run this each day, with what was sent on the day
+before as OLD.csv, or only the header of an export the first time. Ends with 1 where a file is no export.
 """
 import csv
 import ipaddress
