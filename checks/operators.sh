@@ -6,7 +6,8 @@
 #
 # Two neighbours announce to a BIRD on loopback: paths that end with an AS, with an AS_SET, and empty ones of the
 # router's own AS. Both of its tables, `show route all` and a dump in MRT, have to give the same routes, which the
-# program judges. Then it judges so many routes of another dump; how long that takes is printed.
+# program judges. Then it judges so many routes of another dump on two VRPs for three of them; how long both take is
+# printed.
 #
 # Takes a minute.
 #
@@ -90,15 +91,27 @@ tables_of_bird() {
 203.0.113.128/25,AS64496,NotFound'
 }
 
+# Of three routes in turn, one has a VRP of its origin, one a VRP of AS 64512, which is no origin, and one has none.
 many_routes() {
+    local status
     python3 -B "$top/checks/mrt.py" "$count" >many.mrt || exit 1
     SECONDS=0
     bgpdump -m many.mrt 2>>mrt.log | "$examples/routes.sh" mrt 64496 >many.csv
     expect "routes of a dump" "$(wc -l <many.csv)" $((count + 1))
     echo "made in $SECONDS s"
+    awk -F '[,/]' -v states=many.expected 'BEGIN { print "asn,prefix,maxlength" }
+        NR > 1 {
+            kind = NR % 3
+            if (kind) print (kind == 2 || $3 == "NONE" ? "AS64512" : $3) "," $1 "/" $2 "," $2
+            state = kind == 0 ? "NotFound" : kind == 2 || $3 == "NONE" ? "Invalid" : "Valid"
+            print $1 "/" $2 "," $3 "," state >states
+        }' many.csv >many-vrps.csv
     SECONDS=0
-    expect 'judged' "$("$program" check vrps.csv many.csv | grep -cE ',(Valid|Invalid|NotFound)$')" "$count"
-    echo "judged in $SECONDS s"
+    "$program" check many-vrps.csv many.csv >many.states
+    status=$?
+    echo "judged on $(($(wc -l <many-vrps.csv) - 1)) VRPs in $SECONDS s"
+    expect 'judged' "$status, $(cmp many.states many.expected 2>&1)" '0, '
+    expect 'each state' "$(cut -d , -f 3 many.states | sort -u | paste -sd ' ')" 'Invalid NotFound Valid'
 }
 
 # put FILE: what a desk answers to the SLURM file.
