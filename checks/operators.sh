@@ -13,8 +13,8 @@
 #
 # Needs the built program, which PROGRAM may name, python3 from 3.10 on, bird, birdc, bgpdump and jq.
 #
-# Ends with 0 where all ran and held, with 1 where something else is found or something failed, and with 77, after what is
-# missing, where it could not be run.
+# Ends with 0 where all ran and held, with 1 where something else is found or something failed, and with 77, after what
+# is missing, where it could not be run.
 set -u
 . "$(dirname "${BASH_SOURCE[0]}")/common.sh"
 PATH=$PATH:/usr/sbin

@@ -9,11 +9,11 @@
 #
 # Takes half a minute.
 #
-# Needs the built program, which PROGRAM may name, the rights of root, stayrtr, rtrdump, bird, birdc, vtysh, FRR's bgpd with
-# its module rpki, OpenBGPD's bgpd, curl, jq and ip.
+# Needs the built program, which PROGRAM may name, the rights of root, stayrtr, rtrdump, bird, birdc, vtysh, FRR's bgpd
+# with its module rpki, OpenBGPD's bgpd, curl, jq and ip.
 #
-# Ends with 0 where all ran and held, with 1 where something else is found or something failed, and with 77, after what is
-# missing, where it could not be run.
+# Ends with 0 where all ran and held, with 1 where something else is found or something failed, and with 77, after what
+# is missing, where it could not be run.
 set -u
 . "$(dirname "${BASH_SOURCE[0]}")/common.sh"
 PATH=$PATH:/usr/sbin:/sbin
