@@ -85,8 +85,9 @@ def body_faults(asked, octets, names):
 
 def once(pairs):
     """An object, whose members are there once each."""
-    if len(dict(pairs)) < len(pairs):
-        sys.exit(f"openapi: a member is repeated: {[name for name, _ in pairs]}")
+    repeated = [name for name, count in collections.Counter(name for name, _ in pairs).items() if count > 1]
+    if repeated:
+        sys.exit(f"openapi: repeated members: {repeated}")
     return dict(pairs)
 
 
@@ -248,8 +249,9 @@ class Judge:
         found |= {named[name] for name in self.api["components"]["responses"] if name in named}
         for what, one, other in (("paths", said, there), ("statuses", statuses, list(found))):
             print(f"{what}: {len(one)}")
-            if sorted(one) != sorted(other) or not one:
-                self.fail(f"{what} differ:", sorted(one), sorted(other))
+            one, other = collections.Counter(one), collections.Counter(other)
+            if one != other or not one:
+                self.fail(f"{what} differ:", list(one - other), list(other - one))
         # The other statuses of an operation follow from whether it takes a body, and whether a rule may deny it.
         for path, method, body in there:
             possible = {"200", "400", "411", "503"} | ({"413"} if body else set())
