@@ -39,7 +39,7 @@ place_of() {
     local package=$1
     case $1 in
         rt) echo 'of the Rattle toolchain, which Debian does not have' && return ;;
-        bgpd) package=openbgpd ;;
+        bgpctl | bgpd) package=openbgpd ;;
         bird | birdc) package=bird2 ;;
         chromedriver) package=chromium-driver ;;
         dpkg-deb) package=dpkg ;;

@@ -1,16 +1,17 @@
 #!/usr/bin/env bash
-# Whether BIRD and FRR, which get the VRPs of a desk from StayRTR by RTR, find a hijacked route invalid that the other
-# announces by BGP, and whether OpenBGPD reads them as a roa-set.
+# Whether BIRD, FRR and OpenBGPD find a hijacked route invalid that another of them announces by BGP: the first two get
+# the VRPs of a desk from StayRTR by RTR, the third reads them as a roa-set.
 #
 #     routers.sh
 #
-# Each of the two announces a route whose origin is authorized and one whose origin is not: BIRD a whole prefix of
-# another AS, FRR a part of one. BIRD leaves the invalid route out, FRR marks it. They run in a network namespace.
+# BIRD and FRR each announce a route whose origin is authorized and one whose origin is not: BIRD a whole prefix of
+# another AS, to FRR and OpenBGPD, FRR a part of one, to BIRD. BIRD and OpenBGPD leave the invalid route out, FRR marks
+# it. They run in a network namespace.
 #
 # Takes half a minute.
 #
 # Needs the built program, which PROGRAM may name, the rights of root, stayrtr, rtrdump, bird, birdc, vtysh, FRR's bgpd
-# with its module rpki, OpenBGPD's bgpd, curl, jq and ip.
+# with its module rpki, OpenBGPD's bgpd and bgpctl, curl, jq and ip.
 #
 # Ends with 0 where all ran and held, with 1 where something else is found or something failed, and with 77, after what
 # is missing, where it could not be run.
@@ -18,16 +19,19 @@ set -u
 . "$(dirname "${BASH_SOURCE[0]}")/common.sh"
 PATH=$PATH:/usr/sbin:/sbin
 frr=/usr/lib/frr/bgpd
-need stayrtr rtrdump bird birdc vtysh "$frr" bgpd curl jq ip unshare
+need stayrtr rtrdump bird birdc vtysh "$frr" bgpd bgpctl curl jq ip unshare
 compgen -G '/usr/lib/*/frr/modules/bgpd_rpki.so' >/dev/null || skip 'FRR has no module rpki (Debian: frr-rpki-rtrlib)'
-unshare -n true 2>/dev/null || skip 'no right to make a network namespace, as root has'
+unshare -n -m true 2>/dev/null || skip 'no right to make namespaces of the network and of mounts, as root has'
 find_program
 if [ -z "${IN_NAMESPACE:-}" ]; then
-    IN_NAMESPACE=yes PROGRAM=$program exec unshare -n "$0"
+    IN_NAMESPACE=yes PROGRAM=$program exec unshare -n -m "$0"
 fi
 make_work
 cd "$work" && mkdir vty || exit 1
-ip link set lo up && ip address add 10.0.0.2/24 dev lo && ip address add 10.0.0.3/24 dev lo || exit 1
+ip link set lo up && ip address add 10.0.0.2/24 dev lo && ip address add 10.0.0.3/24 dev lo &&
+    ip address add 10.0.0.4/24 dev lo || exit 1
+# OpenBGPD's own, where its parts go.
+mount -t tmpfs tmpfs /run && mkdir -m 755 /run/openbgpd || exit 1
 
 # until_done COMMAND...: waits until the command succeeds, half a minute at most.
 until_done() {
@@ -86,6 +90,12 @@ protocol bgp beside {
     multihop;
     ipv4 { import keep filtered; import filter judged; export where source = RTS_STATIC; };
 }
+protocol bgp third {
+    local 10.0.0.2 port 17901 as 64500;
+    neighbor 10.0.0.4 port 17903 as 64498;
+    multihop;
+    ipv4 { import none; export where source = RTS_STATIC; };
+}
 END
     bird -f -c bird.conf -s bird.ctl -P bird.pid >bird.log 2>&1 &
     until_done bash -c 'birdc -s bird.ctl show route table r4 | grep AS64497'
@@ -129,24 +139,39 @@ have_exchanged() {
     [ "$(of_frr | wc -l)" = 2 ] && [ -n "$(of_bird)" ] && [ -n "$(of_bird filtered)" ]
 }
 
-roa_set() {
-    printf '%s\n' 'AS 64496' 'router-id 192.0.2.1' 'roa-set {'
-    awk -F, 'NR > 1 { print "    " $2 " maxlen " $3 " source-as " substr($1, 3) }' vrps.csv
-    printf '%s\n' '}' 'deny from any ovs invalid'
+start_openbgpd() {
+    {
+        printf '%s\n' 'AS 64498' 'router-id 192.0.2.4' 'listen on 10.0.0.4 port 17903' "socket \"$work/bgpd.ctl\"" \
+            'fib-update no' 'roa-set {'
+        awk -F, 'NR > 1 { print "    " $2 " maxlen " $3 " source-as " substr($1, 3) }' vrps.csv
+        printf '%s\n' '}' 'neighbor 10.0.0.2 {' 'remote-as 64500' 'port 17901' 'multihop 2' 'local-address 10.0.0.4' \
+            '}' 'allow from any' 'deny from any ovs invalid'
+    } >openbgpd.conf
+    chmod 600 openbgpd.conf
+    bgpd -d -f openbgpd.conf >openbgpd.log 2>&1 &
+}
+
+# What OpenBGPD has of each route, with `in` before its filter: its state and prefix.
+of_openbgpd() {
+    # shellcheck disable=SC2086 # the word may be none
+    bgpctl -s bgpd.ctl show rib ${1:-} 2>/dev/null | sed -n 's#^[*> ]*\([NV!]\) \([0-9.]*/[0-9]*\) .*#\1 \2#p' | sort
+}
+
+have_filtered() {
+    [ "$(of_openbgpd in | wc -l)" = 2 ] && [ -n "$(of_openbgpd)" ]
 }
 
 make_vrps
 start_bird
 start_frr
+start_openbgpd
 until_done have_exchanged
 expect 'FRR' "$(of_frr)" 'I 192.0.2.0/24
 V 198.51.100.0/24'
 expect 'BIRD' "$(of_bird)" 203.0.113.0/24
 expect 'BIRD leaves out' "$(of_bird filtered)" 198.51.100.128/25
-roa_set >openbgpd.conf && chmod 600 openbgpd.conf
-expect 'OpenBGPD' "$(bgpd -n -f openbgpd.conf 2>&1)" 'configuration OK'
-expect 'the set that it reads' "$(bgpd -n -v -f openbgpd.conf 2>&1 | sed -n '/^roa-set/,/^}/s/^\t//p')" \
-    '192.0.2.0/24 source-as 64496
-198.51.100.0/24 source-as 64500
-203.0.113.0/24 source-as 64497'
+until_done have_filtered
+expect 'OpenBGPD' "$(of_openbgpd in)" '! 192.0.2.0/24
+V 198.51.100.0/24'
+expect 'OpenBGPD takes' "$(of_openbgpd)" 'V 198.51.100.0/24'
 end
