@@ -56,7 +56,7 @@ expect 'lines on standard error that the man page leaves out' "$(grep -v -x -F -
 # The site names what the package installs, and nginx finds its logs made.
 site=held/usr/share/roadesk/nginx-site
 expect 'console: the files that the site serves' "$(ls "held$(sed -n 's/^ *alias \(.*\/\);/\1/p' $site)")" \
-    "$(cd "$top/console" && ls ./*.css ./*.html ./*.js | sed 's#^\./##')"
+    "$(cd "$top/console" && printf '%s\n' *.css *.html *.js | sort)"
 expect 'the interface that the site serves' \
     "$(cmp "$top/docs/openapi.json" "held$(sed -n 's/^ *alias \(.*[.]json\);/\1/p' $site)" 2>&1)" ''
 expect 'logs: made before nginx starts' "$(sed -n 's/^f \([^ ]*\) 0640 www-data adm -$/\1/p' \
