@@ -49,6 +49,7 @@ place_of() {
         ip | ss) package=iproute2 ;;
         journalctl | systemctl | systemd-analyze) package=systemd ;;
         man) package=man-db ;;
+        node) package=nodejs ;;
         nft) package=nftables ;;
         nsenter | prlimit | runuser | setpriv | unshare) package=util-linux ;;
         readelf | strip) package=binutils ;;
