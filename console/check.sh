@@ -5,15 +5,18 @@
 #
 #     check.sh [FOLDER]
 #
-# FOLDER, as docs/pictures, gets the pictures. PROGRAM may name another program than that of the repository. Debian's
-# packages: chromium chromium-driver python3-selenium nodejs nginx openssl curl. Ends with 1 where a check failed.
+# FOLDER, as docs/pictures, gets the pictures. Needs the built program, which PROGRAM may name, and Debian's packages
+# chromium, chromium-driver, python3-selenium, nodejs, nginx, openssl and curl.
+#
+# Ends with 0 where all ran and held, with 1 where something failed, and with 77, after what is missing, where it could not
+# be run.
 set -u
 . "$(dirname "${BASH_SOURCE[0]}")/../checks/common.sh"
 need chromium chromedriver node nginx openssl curl /usr/bin/python3
-/usr/bin/python3 -c 'import selenium' 2>/dev/null || skip "no python3-selenium"
+/usr/bin/python3 -c 'import selenium' 2>/dev/null || skip 'python3 has no module selenium (Debian: python3-selenium)'
 find_program
 pictures=$(realpath "${1:-/nonexistent}" 2>/dev/null)
-work=$(mktemp -d) || exit 2
+work=$(mktemp -d) || fail 'no temporary folder'
 # The workers of an nginx that root starts are another user.
 chmod 711 "$work"
 clicks=
@@ -41,11 +44,11 @@ sed "s#/[a-z/]*/roadesk/##; s/127.0.0.1:8443/127.0.0.1:$front/; s/127.0.0.1:8080
     s/proxy_read_timeout 60s/proxy_read_timeout 2s/" "$top/examples/nginx.conf" >"$work/front/site.conf"
 cp "$top/examples/nginx-trial.conf" "$work/front/nginx.conf"
 openssl req -x509 -newkey ec -pkeyopt ec_paramgen_curve:prime256v1 -nodes -days 2 -subj /CN=localhost \
-    -addext subjectAltName=DNS:localhost -keyout "$work/front/key.pem" -out "$work/front/cert.pem" 2>/dev/null || exit 2
+    -addext subjectAltName=DNS:localhost -keyout "$work/front/key.pem" -out "$work/front/cert.pem" 2>/dev/null || fail 'no certificate was made'
 for user in reg ann; do
     printf '%s:%s\n' "$user" "$(openssl passwd -apr1 "secret-of-$user")"
 done >"$work/front/callers"
-"$program" init --db "$work/desk.db" --charter "$top/examples/charter.csv" || exit 2
+"$program" init --db "$work/desk.db" --charter "$top/examples/charter.csv" || fail 'no desk was made'
 
 # Browsers leave files in the folder for temporary ones.
 TMPDIR=$work /usr/bin/python3 "$top/console/check.py" "$top" "$work" "$program" "$desk" "$front" &
@@ -57,4 +60,4 @@ if [ -d "$pictures" ]; then
     cp "$work"/pictures/*.png "$pictures"
 fi
 [ "$failed" = 0 ] || [ ! -f "$work/accessibility.txt" ] || cat "$work/accessibility.txt"
-exit "$failed"
+end

@@ -116,7 +116,7 @@ async function ask(method, path, body, isQuestion = method === "GET") {
     status = "lost";
   }
   if (status === 200) return { text, reply, isClear: true };
-  const isUnclear = status === "lost" || status > 500;
+  const isUnclear = status === "lost" || status >= 500;
   const isClear = Boolean(reply?.denied);
   return { fault: faultOf(status, reply, isQuestion), rule: reply?.denied, row: reply?.row, isUnclear, isClear };
 }
@@ -242,6 +242,7 @@ async function openHolder(name) {
   $("authorizations-title").textContent = `Authorizations of ${holder}`;
   $("open").querySelector("button").className = "";
   showListed(reply.listed);
+  findingDay = askDay(lines[0]?.auth ?? ANY_TERMS);
 }
 
 /** Lists the holder's authorizations after what was done, which stays said if that fails. */
@@ -430,6 +431,8 @@ function offer(words, isDangerous) {
   $("confirm").disabled = false;
   $("confirm").hidden = false;
   $("ask-report").className = "";
+  // On a small screen the fields fill the dialog.
+  if ($("change").scrollHeight > $("change").clientHeight) $("change-said").scrollIntoView();
 }
 
 async function report() {
@@ -437,36 +440,60 @@ async function report() {
   const planned = await change.plan();
   const made = planned && withExtras(planned);
   plan = made;
+  showExtras(made?.isTogether);
   if (made?.show) await made.show();
   else if (made) await reportRoutes(made);
 }
 
-// Further authorizations that are to be made before the change, so that it makes no route Invalid.
+// Further authorizations, by which a change makes no route Invalid.
 let extras = [];
 
-/** The change with these, as one what-if, and what is sent for it, one after the other. */
+/**
+ * The change with these, as one what-if; and what is sent for it. Creates of one prefix each are sent as an import, which
+ * makes all or none. The desk has no such request for others, so these are sent one after the other.
+ */
 function withExtras(made) {
+  if (!extras.length) return { ...made, steps: [made] };
+  const created = [...extras, ...made.after];
+  const isTogether = made.verb === "Create" && !made.after[0].entries;
   const steps = extras.map((terms) => ({
     request: ["POST", underHolder("auths"), terms], done: ({ done }) => `Authorization ${done} is created.`,
-    find: findTerms(terms),
+    find: findTerms(terms), terms,
   }));
   return {
-    ...made, steps: [...steps, made],
-    changes: made.changes && [...extras.map((terms) => ({ do: "create", ...terms })), ...made.changes],
-    after: made.after && [...extras, ...made.after],
+    ...made, isTogether, after: created,
+    steps: isTogether ? [importOf(created)] : [...steps, made],
+    changes: [...extras.map((terms) => ({ do: "create", ...terms })), ...made.changes],
   };
 }
 
-function showExtras() {
-  $("extras").replaceChildren(...extras.map((terms) => {
+/** The fault of a change or of a row that is numbered, with which one it is where there are further ones. */
+function faultOfRow(fault, row) {
+  if (!extras.length || !row) return fault;
+  const terms = extras[row - 1];
+  return `${terms ? `The further authorization ${describe(terms)}` : change.title}: ${fault}`;
+}
+
+/** Says which further authorizations there are, how they are sent, and what then holds if one fails. */
+function showExtras(isTogether = false) {
+  const verb = change.title.split(" ")[0].toLowerCase();
+  const together = "They are sent as one request, so the desk makes all of them or none.";
+  const apart = `These are ${extras.length + 1} changes, which are sent one after the other. If one fails, those before `
+    + `it stay, and it and those after it are not made: what you came to ${verb} comes last.`;
+  const items = extras.map((terms) => {
     const remove = element("button", { type: "button", textContent: "Leave out" });
-    remove.addEventListener("click", () => {
-      extras = extras.filter((other) => other !== terms);
-      showExtras();
-      report();
-    });
-    return element("li", {}, `First create ${describe(terms)} `, remove);
-  }));
+    remove.ariaLabel = `Leave out ${describe(terms)}`;
+    remove.addEventListener("click", () => leaveOut(terms));
+    return element("li", {}, `${isTogether ? "Also" : "First"} create ${describe(terms)} `, remove);
+  });
+  if (items.length) items.push(element("li", {}, isTogether ? together : apart));
+  $("extras").replaceChildren(...items);
+}
+
+function leaveOut(terms) {
+  extras = extras.filter((other) => other !== terms);
+  showExtras();
+  report();
 }
 
 /** Offers to authorize the routes that become Invalid too, where the desk would take that and they stay Valid by it. */
@@ -485,7 +512,6 @@ async function offerExtras(made, { effects }) {
     also.ariaLabel = `Authorize ${route.prefix} from ${showOrigin(route.origin)} too`;
     also.addEventListener("click", () => {
       extras.push(terms);
-      showExtras();
       report();
     });
     $("report").querySelectorAll("tbody tr")[at]?.lastChild.append(" ", also);
@@ -500,13 +526,17 @@ function reach({ prefixes }) {
   return watched.filter((route) => isCovered(route.place));
 }
 
-/** Asks which day the desk has, by whether it takes a create that ends on a day. */
-async function askDay({ after, before }, routes) {
-  const [{ asn, ...terms }] = [...after, ...before];
+const ANY_TERMS = { asn: 0, prefix: "192.0.2.0/24", max: 24 };
+let findingDay = null;
+
+/** Asks which day the desk has, by whether it takes a create that ends on a day: one that the caller may make. */
+async function askDay(terms) {
   const [{ prefix, max }] = entriesOf(terms);
+  const path = underHolder("whatif");
   const isPast = async (until) => {
-    const create = { do: "create", asn, prefix, max, from: "1970-01-01", until };
-    const { rule, isClear } = await question(underHolder("whatif"), { changes: [create], routes: routes.slice(0, 1) });
+    const create = { do: "create", asn: terms.asn, prefix, max, from: "1970-01-01", until };
+    const routes = [{ prefix: "0.0.0.0/0", origin: null }];
+    const { rule, isClear } = await question(path, { changes: [create], routes });
     if (!isClear || rule === "grant" || rule === "scope") throw new Error("The desk did not say");
     return rule === "dates";
   };
@@ -515,13 +545,13 @@ async function askDay({ after, before }, routes) {
     if ($("day").value === deskDay) showAsOf(found);
     deskDay = found;
   } catch {
-    // What keeps the desk from saying it is the fault of the report, too.
+    // What keeps the desk from saying it is the fault of a report, too. Until then it is the day of the front's clock.
   }
 }
 
 /** What a change does to routes, on each day from which it shows; or the desk's fault. */
 async function askEffects(made, routes) {
-  await askDay(made, routes);
+  await askDay([...made.after, ...made.before][0]);
   const { moments, isCut } = momentsOf(deskDay, made.before, made.after);
   const { questions, places } = questionsOf(made, moments);
   const reports = [];
@@ -542,7 +572,9 @@ function sentencesOn({ effects, moments, isCut }) {
 
 function offerChange(verb, { effects, isCut }) {
   const { number, words } = worstOf(effects, deskDay);
-  const what = extras.length ? `${verb}, with ${count(extras.length, "further authorization")}` : verb;
+  const further = count(extras.length, "further authorization");
+  const all = plan.isTogether ? `${verb}, with ${further}` : `Create ${further}, then ${verb.toLowerCase()}`;
+  const what = extras.length ? all : verb;
   offer(isCut ? `${what} without a whole report: ${words}` : `${what}: ${words}`, number > 0 || isCut);
 }
 
@@ -552,21 +584,21 @@ function reportRow(effect) {
   return rowOf(badge(then, outcomeOf(effect)), route.prefix, showOrigin(route.origin), when, statesOf(effect));
 }
 
+const sayTooMany = () => sayOfChange(`${SENTENCES.malformed[12]} Report on those covered by a prefix.`, "fault");
+
 /** Shows what becomes of the routes to report on, or else of the authorization's own. */
 async function reportRoutes(made) {
   const routes = reach(made);
   if (!routes) return sayOfChange(SENTENCES.malformed[5], "fault");
   const asked = asRoutes(routes.length ? routes : made.own);
-  if (asked.length > ASKED_AT_MOST) {
-    return sayOfChange(`${SENTENCES.malformed[12]} Report on those covered by a prefix.`, "fault");
-  }
+  if (asked.length > ASKED_AT_MOST) return sayTooMany();
   const found = await askEffects(made, asked);
   if (plan !== made) return;
   if (found.fault) return deny(found.fault, found.row, found.rule);
   const { number } = worstOf(found.effects, deskDay);
   const which = routes.length ? `${count(routes.length, "watched route")}.`
     : "You watch no route there, so the report is on the authorization's own.";
-  sayOfChange(`${sentencesOn(found)} ${which}${cutOf(found.effects.length)}`, number ? "fault" : "done");
+  sayOfChange(`${which} ${sentencesOn(found)}${cutOf(found.effects.length)}`, number ? "fault" : "done");
   heads("What happens", "Prefix", "Origin", "From", "State");
   fill($("report"), found.effects.slice(0, SHOWN_AT_MOST), reportRow);
   offerChange(made.verb, found);
@@ -576,7 +608,7 @@ async function reportRoutes(made) {
 /** A report or a change that was denied. Numbers that are used up do not hold an amendment back. */
 function deny(fault, row, rule) {
   $("confirm").hidden = true;
-  sayOfChange(fault, "fault");
+  sayOfChange(faultOfRow(fault, row), "fault");
   if (row && plan.mark) plan.mark(row, fault);
   if (rule === "room" && plan.isAmendment) offer("Amend without a report", true);
 }
@@ -589,12 +621,15 @@ async function confirmChange() {
   const words = [];
   for (const step of made.steps.filter(({ isMade }) => !isMade)) {
     const { reply, fault, row, isUnclear } = await ask(...step.request);
-    if (isUnclear) return leaveOpen(made, step, [...words, fault].join(" "));
+    if (isUnclear) return leaveStepOpen(made, step, words, fault);
     if (fault) {
-      $("confirm").disabled = false;
-      return made.mark && row ? deny(fault, row) : sayOfChange([...words, fault].join(" "), "fault");
+      const which = step.terms ? `The further authorization ${describe(step.terms)}` : change.title;
+      const said = made.steps.length > 1 ? `${which} is not made: ${fault}` : faultOfRow(fault, row);
+      sayOfChange([...words, said].join(" "), "fault");
+      if (made.mark && row) deny(fault, row);
+      return endStep(made);
     }
-    step.isMade = true;
+    markMade(step);
     words.push(step.done(reply));
   }
   $("change").close();
@@ -604,55 +639,141 @@ async function confirmChange() {
   if (document.activeElement.matches("body, #auths *")) $("main").focus();
 }
 
+/** A further authorization that is made is none any more. */
+function markMade(step) {
+  step.isMade = true;
+  extras = extras.filter((terms) => terms !== step.terms);
+}
+
+/** After a step that was not made: the change is offered again, or a new report where a step before it was made. */
+async function endStep(made) {
+  $("confirm").disabled = false;
+  if (!made.steps.some(({ isMade }) => isMade)) return;
+  $("confirm").hidden = true;
+  $("ask-report").className = "primary";
+  showExtras();
+  const { reply } = await ask("GET", underHolder("auths"));
+  if (reply) showListed(reply.listed);
+}
+
 // An end that is not clear stays on the screen until the user has looked
 
-// What is unclear of the change in the dialog.
+// What is unclear of the change in the dialog, and all that is not looked at yet.
 let open = null;
+let unclear = [];
 
-/** Puts an end that is not clear on the page, above all else, where it stays until the user has looked. */
-function leaveOpen(made, step, fault) {
-  const said = element("output");
-  const lookButton = element("button", { type: "button", className: "look primary" }, "Look whether it was made");
+/** The tab keeps the words of these, so that they stay where the page is loaded anew. */
+function keepUnclear() {
+  const words = unclear.map(({ title, fault }) => ({ title, fault, caller }));
+  try {
+    sessionStorage.setItem("roadesk unclear", JSON.stringify(words));
+  } catch {
+    // Where a browser keeps nothing, they stay until the page is left.
+  }
+}
+
+function forgetUnclear(left) {
+  unclear = unclear.filter((other) => other !== left);
+  keepUnclear();
+}
+
+function recallUnclear() {
+  let kept = [];
+  try {
+    kept = JSON.parse(sessionStorage.getItem("roadesk unclear") ?? "[]");
+  } catch {
+    return;
+  }
+  const hint = "The page was loaded anew since, so it cannot look by itself. Look in the holder's list, if it shows it.";
+  for (const { title, fault } of kept.filter((each) => each.caller === caller)) leaveOpen({ title, fault, hint });
+}
+
+/**
+ * Puts an end that is not clear on the page, above all else, where it stays until the user has looked. `look` says by
+ * `isMade` and `words` what was found, or by `fault` why nothing was.
+ */
+function leaveOpen({ title, fault, look, lookWords = "Look whether it was made", hint = "", found = () => {} }) {
+  const said = element("p");
+  const lookButton = element("button", { type: "button", className: "look primary" }, lookWords);
   const closeButton = element("button", { type: "button", className: "looked" }, "I have looked");
-  const item = element("div", {}, said, element("div", { className: "fields" }, lookButton, closeButton));
-  const left = { made, step, holder, title: change.title, said, lookButton, closeButton };
-  lookButton.hidden = !step.find;
-  lookButton.addEventListener("click", () => look(left));
+  const item = element("div", { role: "group", ariaLabel: title }, said, element("p", { className: "hint" }, hint),
+    element("div", { className: "fields" }, lookButton, closeButton));
+  const left = { title, fault, lookWords, look, found, said, lookButton, closeButton };
+  unclear.push(left);
+  keepUnclear();
+  lookButton.hidden = !look;
+  lookButton.addEventListener("click", () => lookAt(left));
   closeButton.addEventListener("click", () => {
+    forgetUnclear(left);
     item.remove();
     $("main").focus();
   });
-  say(said, `${left.title}: ${fault}`, "fault");
   $("unclear").append(item);
-  open = left;
-  sayOfChange(fault, "fault");
-  $("confirm").hidden = true;
-  $("look-here").hidden = !step.find;
+  say(said, `${title}: ${fault}`, "fault");
+  return left;
 }
 
-/** Looks whether the change was made, by the holder's list. Until that is known, the question stays. */
-async function look(left) {
-  const { made, step, title } = left;
-  const sayBoth = (text, kind) => {
-    say(left.said, text, kind);
-    if (plan === made) sayOfChange(text, kind);
-  };
-  const { reply, fault } = await ask("GET", pathOf("holders", left.holder, "auths"));
-  if (fault) {
-    const still = "the change may have been made, and the list that would show it did not come.";
-    return sayBoth(`${title}: ${still} ${fault}`, "fault");
+/** Looks whether a change was made. Until that is known, the question stays. */
+async function lookAt(left) {
+  const { title, said, lookButton, closeButton } = left;
+  const looked = await left.look();
+  const { isMade, words, fault } = looked;
+  const still = `the change may have been made, and that is still not known. ${fault}`;
+  const text = `${title}: ${fault ? still : words}`;
+  say(said, text, isMade ? "done" : "fault");
+  if (!fault) {
+    forgetUnclear(left);
+    lookButton.hidden = true;
+    closeButton.textContent = "Close";
   }
-  const found = step.find(reply.listed);
-  step.isMade = Boolean(found);
-  sayBoth(found ? `${title}: it was made. ${found}`
-    : `${title}: it is not in the list, so it was not made, unless the desk is still at it.`, found ? "done" : "fault");
-  left.lookButton.hidden = true;
-  left.closeButton.textContent = "Close";
-  if (left.holder === holder) showListed(reply.listed);
-  if (plan !== made) return;
-  $("look-here").hidden = true;
-  $("confirm").disabled = false;
-  $("confirm").hidden = made.steps.every(({ isMade }) => isMade);
+  left.found(looked, text);
+}
+
+/** Looks by the holder's list. */
+const lookInList = (name, find) => async () => {
+  const { reply, fault } = await ask("GET", pathOf("holders", name, "auths"));
+  if (fault) return { fault };
+  if (name === holder) showListed(reply.listed);
+  const found = find(reply.listed);
+  return { isMade: Boolean(found), words: found ? `it was made. ${found}`
+    : "it is not in the list, so it was not made, unless the desk is still at it." };
+};
+
+/** Looks by sending it again, which changes nothing where it was made: then the desk denies it by the rule. */
+const lookBySending = (request, rule, made, done) => async () => {
+  const { reply, fault, rule: denied } = await ask(...request);
+  if (!fault) return { isMade: true, words: `it is made now. ${done(reply)}` };
+  return denied && denied === rule ? { isMade: true, words: made } : { fault };
+};
+
+const AGAIN_HINT = "To send it again is safe: if it was made, that changes nothing, and the desk says so.";
+
+/** What is said of the end of a task that no list shows. */
+function leaveTaskOpen(title, fault, request, { rule, made, done }) {
+  return leaveOpen({
+    title, fault, lookWords: "Send it again", hint: AGAIN_HINT, look: lookBySending(request, rule, made, done),
+  });
+}
+
+/** The same of a step of the change in the dialog, which says it too. */
+function leaveStepOpen(made, step, words, fault) {
+  const said = [...words, fault].join(" ");
+  sayOfChange(said, "fault");
+  open = step.find ? leaveOpen({ title: change.title, fault: said, look: lookInList(holder, step.find) })
+    : leaveTaskOpen(change.title, said, step.request, step);
+  $("confirm").hidden = true;
+  $("look-here").textContent = open.lookWords;
+  $("look-here").hidden = false;
+  open.found = ({ isMade, fault: still }, text) => {
+    if (isMade) markMade(step);
+    if (plan !== made) return;
+    sayOfChange(text, isMade ? "done" : "fault");
+    if (still) return;
+    $("look-here").hidden = true;
+    const isAll = made.steps.every((each) => each.isMade);
+    $("confirm").hidden = isAll;
+    if (!isAll) endStep(made);
+  };
 }
 
 // The fields of a change
@@ -763,11 +884,22 @@ function termsToSend() {
   return termsOf(given);
 }
 
+const daysFrom = (day) => ({ from: day, until: `${day.slice(0, 4)}-12-31` });
+
+/** Puts the desk's day into the fields of a dialog that was opened before it was found, unless they were changed. */
+async function correctDays(opened, guess) {
+  await findingDay;
+  if (change !== opened) return;
+  for (const [name, day] of Object.entries(daysFrom(guess))) {
+    const field = $(`terms-${name}`);
+    if (field.value === day) field.value = daysFrom(deskDay)[name];
+  }
+}
+
 function create() {
-  const day = $("day").value;
   openChange({
     title: `Create an authorization for ${holder}`,
-    terms: { prefix: "", max: "", from: day, until: `${day.slice(0, 4)}-12-31` },
+    terms: { prefix: "", max: "", ...daysFrom(deskDay) },
     reports: true,
     plan() {
       const terms = termsToSend();
@@ -779,6 +911,7 @@ function create() {
       };
     },
   });
+  correctDays(change, deskDay);
 }
 
 /**
@@ -883,6 +1016,19 @@ function sayFaulty(faulty) {
   sayOfChange(`${which}: ${reason} Nothing was sent.`, "fault");
 }
 
+/** The request that makes all of these, or none. */
+function importOf(terms) {
+  return {
+    request: ["POST", underHolder("imports"), new Blob([writeImport(terms)])],
+    done: ({ made, present }) => `${count(made, "authorization")} made`
+      + `${present ? `; ${count(present, "row was", "rows were")} already authorized` : ""}.`,
+    find(listed) {
+      const present = new Set(listed.map(sameText));
+      return terms.every((each) => present.has(sameText(each))) && "All of it is authorized.";
+    },
+  };
+}
+
 async function planImport() {
   const [file] = $("import-file").files;
   if (!file) return void sayOfChange("Choose a file.", "fault");
@@ -892,24 +1038,14 @@ async function planImport() {
   showRows(rows, marks);
   if (reason) return void sayOfChange(`${reason} Nothing was sent.`, "fault");
   if (faulty.length) return void sayFaulty(faulty);
-  const sent = new Blob([writeImport(rows.map(({ terms }) => terms))]);
-  if (isTooLong(sent.size)) return void sayOfChange(SENTENCES.status[413], "fault");
+  const step = importOf(rows.map(({ terms }) => terms));
+  if (isTooLong(step.request[2].size)) return void sayOfChange(SENTENCES.status[413], "fault");
   const made = newRows(rows);
   const mark = (place, fault) => {
     sayOfChange(`Row ${place} is denied, so the whole file is, and nothing was changed: ${fault}`, "fault");
     showRows(rows, [{ place, column: 1, reason: fault, word: "denied" }]);
   };
-  return {
-    request: ["POST", underHolder("imports"), sent],
-    done: ({ made: number, present }) =>
-      `${count(number, "authorization")} made; ${count(present, "row was", "rows were")} already authorized.`,
-    mark,
-    find(listed) {
-      const present = new Set(listed.map(sameText));
-      return rows.every(({ terms }) => present.has(sameText(terms))) && "Every row is authorized.";
-    },
-    show: () => reportImport(rows, made),
-  };
+  return { ...step, mark, show: () => reportImport(rows, made) };
 }
 
 /** A report on at most 1000 creates, in words beside the rows. The rows that are already authorized make nothing. */
@@ -928,7 +1064,9 @@ async function reportImport(records, made) {
   }
   const routes = reach({ prefixes: made.map(({ terms }) => readPrefix(terms.prefix)).filter(Boolean) });
   if (!routes) return sayOfChange(SENTENCES.malformed[5], "fault");
-  const asked = asRoutes(routes.length ? routes : ownRoutes(made[0].terms)).slice(0, ASKED_AT_MOST);
+  if (routes.length > ASKED_AT_MOST) return sayTooMany();
+  const own = new Map(made.flatMap(({ terms }) => ownRoutes(terms)).map((route) => [JSON.stringify(route), route]));
+  const asked = asRoutes(routes.length ? routes : [...own.values()]);
   const terms = made.map((row) => row.terms);
   importing.before = [];
   importing.after = terms;
@@ -938,8 +1076,9 @@ async function reportImport(records, made) {
   const { fault, row } = found;
   if (fault) return row && row <= made.length ? importing.mark(made[row - 1].place, fault) : sayOfChange(fault, "fault");
   const { number } = worstOf(found.effects, deskDay);
-  const sums = routes.length ? sentencesOn(found) : "You watch no route there.";
-  sayOfChange(`${what}. ${sums}${cut}`, number ? "fault" : "done");
+  const which = routes.length ? `${count(routes.length, "watched route")}.`
+    : "You watch no route there, so the report is on those of the rows.";
+  sayOfChange(`${what}. ${which} ${sentencesOn(found)}${cut}`, number ? "fault" : "done");
   offerChange("Import", found);
 }
 
@@ -977,38 +1116,59 @@ async function showEnded(name, prefix, verb) {
 
 function openMove(form, verb, name, prefix, path, body) {
   const said = statusOf(form);
+  const done = () => `${verb} ${prefix}: done.`;
   say(said, "");
   if (!isName(name)) return say(said, SENTENCES.malformed[3], "fault");
   openChange({
     title: `${verb} ${prefix}`,
     facts: body.taker === undefined ? `From ${name}.` : `From ${name} to ${body.taker}.`, isDangerous: true,
     plan: () => ({
-      request: ["POST", path, body], show: () => showEnded(name, prefix, verb),
-      done: () => `${verb} ${prefix}: done.`, said,
+      request: ["POST", path, body], show: () => showEnded(name, prefix, verb), done, said,
+      rule: "held", made: `${name} does not hold all of ${prefix} now: it was made, unless another change took it.`,
     }),
   });
 }
 
+/** The tasks of the forms: what is sent, what is said when it is done, and what a second sending is denied by. */
 const HOLDER_TASKS = {
-  register: () => ["PUT", [], undefined, () => `The holder ${nameIn("register-holder")} is registered.`],
-  delegate: () => ["POST", ["delegations"], { prefix: prefixIn("delegate-prefix") },
-    () => `${prefixIn("delegate-prefix")} is delegated to ${nameIn("delegate-holder")}.`],
-  grant: () => ["POST", ["grants"], {
-    name: nameIn("grant-name"), role: $("grant-role").value, until: $("grant-until").value,
-    scope: nameIn("grant-scope") === "all" ? "all" : prefixIn("grant-scope"),
-  }, ({ done }) => `Grant ${done} at ${nameIn("grant-holder")} is made. Note its number: it is revoked by it.`],
-  revoke: () => ["DELETE", ["grants", nameIn("revoke-number")], undefined,
-    () => `Grant ${nameIn("revoke-number")} at ${nameIn("revoke-holder")} is revoked.`],
+  register: (name) => ({
+    title: `Register ${name}`, request: ["PUT", pathOf("holders", name)],
+    done: () => `The holder ${name} is registered.`,
+    rule: "fresh", made: `${name} is registered: it was made, by you or by another operator.`,
+  }),
+  delegate: (name, prefix = prefixIn("delegate-prefix")) => ({
+    title: `Delegate ${prefix} to ${name}`, request: ["POST", pathOf("holders", name, "delegations"), { prefix }],
+    done: () => `${prefix} is delegated to ${name}.`,
+    rule: "free", made: `${prefix} is held, at least in part: it was made, unless somebody else got it.`,
+  }),
+  grant: (name) => ({
+    title: `Grant to ${nameIn("grant-name")} at ${name}`,
+    request: ["POST", pathOf("holders", name, "grants"), {
+      name: nameIn("grant-name"), role: $("grant-role").value, until: $("grant-until").value.trim(),
+      scope: nameIn("grant-scope") === "all" ? "all" : prefixIn("grant-scope"),
+    }],
+    done: ({ done }) => `Grant ${done} at ${name} is made. Note its number: it is revoked by it.`,
+  }),
+  revoke: (name, number = nameIn("revoke-number")) => ({
+    title: `Revoke grant ${number} at ${name}`, request: ["DELETE", pathOf("holders", name, "grants", number)],
+    done: () => `Grant ${number} at ${name} is revoked.`,
+    rule: "number", made: `there is no active grant ${number} at ${name}: it is revoked.`,
+  }),
 };
 
-async function doHolderTask(task) {
-  const said = statusOf($(task));
-  const name = nameIn(`${task}-holder`);
-  if (!isName(name)) return say(said, SENTENCES.malformed[3], "fault");
-  const [method, parts, body, words] = HOLDER_TASKS[task]();
-  const { reply, fault, isUnclear } = await ask(method, pathOf("holders", name, ...parts), body);
-  const again = task === "grant" && isUnclear ? " A grant that is sent twice is made twice, under two numbers." : "";
-  say(said, fault ? fault + again : words(reply), fault ? "fault" : "done");
+const GRANT_HINT = "The desk lists no grants, and one that is sent twice is made twice. The front's log has how this one "
+  + "was answered. Or make it again: numbers rise by one, so if one was skipped, it is this one's, and you can revoke it.";
+
+async function doHolderTask(name) {
+  const said = statusOf($(name));
+  const holderName = nameIn(`${name}-holder`);
+  if (!isName(holderName)) return say(said, SENTENCES.malformed[3], "fault");
+  const task = HOLDER_TASKS[name](holderName);
+  const { reply, fault, isUnclear } = await ask(...task.request);
+  say(said, fault ?? task.done(reply), fault ? "fault" : "done");
+  if (!isUnclear) return;
+  if (task.rule) leaveTaskOpen(task.title, fault, task.request, task);
+  else leaveOpen({ title: task.title, fault, hint: GRANT_HINT });
 }
 
 /** The name that a file has in a set: that of the file, in the form of a holder's. */
@@ -1040,13 +1200,17 @@ async function putSlurm() {
     }
   }
   const set = texts.map((text, at) => `{"name":"${names[at]}","file":${text}}`);
-  const { fault } = files.length > 1 ? await ask("PUT", "/slurms", new Blob([`{"files":[${set.join()}]}`]))
-    : await ask("PUT", "/slurm", files[0]);
+  const request = files.length > 1 ? ["PUT", "/slurms", new Blob([`{"files":[${set.join()}]}`])]
+    : ["PUT", "/slurm", new Blob([await files[0].arrayBuffer()])];
   const which = files.map(({ name }) => name).join(", ");
-  if (fault) return say(said, fault, "fault");
-  keep("slurm", `${which}, at ${new Date().toISOString().slice(0, 16).replace("T", " ")} UTC`);
-  showSlurm();
-  say(said, `The exceptions of ${which} are in force, and no others.`, "done");
+  const done = () => {
+    keep("slurm", `${which}, at ${new Date().toISOString().slice(0, 16).replace("T", " ")} UTC`);
+    showSlurm();
+    return `The exceptions of ${which} are in force, and no others.`;
+  };
+  const { fault, isUnclear } = await ask(...request);
+  say(said, fault ?? done(), fault ? "fault" : "done");
+  if (isUnclear) leaveTaskOpen(`Exceptions of ${which}`, fault, request, { done });
 }
 
 // The VRPs of the day
@@ -1156,7 +1320,7 @@ const FORMS = {
 for (const task of Object.keys(HOLDER_TASKS)) FORMS[task] = () => doHolderTask(task);
 
 const CLICKS = {
-  "look-here": () => look(open),
+  "look-here": () => lookAt(open),
   "add-entry": () => {
     addEntry().querySelector("input").focus();
     numberEntries();
@@ -1201,6 +1365,7 @@ async function meet() {
   $("watched").value = routeText();
   showLastHolders();
   showSlurm();
+  recallUnclear();
   const [last] = lastHolders();
   if (last && !readAddress().name) {
     $("holder").value = last;
@@ -1224,6 +1389,9 @@ function listen() {
     if (auth) showDetails(auth);
   });
   $("day").addEventListener("change", () => showAsOf($("day").value));
+  document.addEventListener("click", ({ target }) => {
+    if (!$("session").contains(target)) $("session").open = false;
+  });
   window.addEventListener("popstate", showPage);
 }
 

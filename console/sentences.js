@@ -75,6 +75,6 @@ export function faultOf(status, reply, isQuestion) {
   if (reply?.denied) return SENTENCES.denied[reply.denied] ?? `The desk denied this by the rule ${reply.denied}.`;
   if (reply?.slurm) return SENTENCES.slurm[reply.slurm] ?? `The file has the fault ${reply.slurm}.`;
   if (reply?.malformed) return SENTENCES.malformed[reply.malformed] ?? `The request has the fault ${reply.malformed}.`;
-  if (isQuestion && (status > 500 || status === "lost")) return SENTENCES.status.question;
+  if (isQuestion && (status >= 500 || status === "lost")) return SENTENCES.status.question;
   return SENTENCES.status[status] ?? `The front answered ${status}. Look whether the change was made.`;
 }
