@@ -29,7 +29,8 @@ use Rattle.desk.specs.CrashOutcomes.{LeavesAtMost}
 use Rattle.desk.specs.Desk.{charter_of, ContinuesHistories, HoldsHistory, IsOnCleanDisk, Represents}
 use Rattle.desk.specs.Resumed.{FindsLeft, HoldHistory, MayBeFound, MayBeLeftInEitherSchema, ResumesHistories}
 use Rattle.desk.specs.declared.desk.Desk.{Desk}
-use Rattle.desk_files.specs.DeskFiles.{AreLeftFiles, AreLeftOfLegal, ContinuesFiles, IsOver, KeepDesk, ResumesFiles}
+use Rattle.desk_files.specs.Refused.{KeepsUnclosed}
+use Rattle.desk_files.specs.DeskFiles.{AreLeftFiles, AreLeftFilesInEitherSchema, AreLeftOfLegal, ContinuesFiles, HoldLeft, IsOver, KeepDesk, KeptLeaves, ResumesFiles, StoppedLeaves}
 
 -- a disk that returned what was written until the close did so before
 pub closed_clean : {D : Type 0} {g : Ghosts D} (desk : Desk (FileStore D g)) (conn : Held (FileStore D g)) (files : Files D)
@@ -58,8 +59,17 @@ closed_keeps g desk conn files history same settled obeyed copied holds =
       left = copied.left;
     }
 
+-- a store that was not closed leaves no more than the desk did
+pub unclosed_keeps : {D : Type 0} {g : Ghosts D} (desk : Desk (FileStore D g)) (conn : Held (FileStore D g)) (last : FileStore D g)
+    → conn ≡ desk.store.connection → IsQuiet view faults recovers is_shielded conn.store last → KeepsUnclosed desk last
+unclosed_keeps desk conn last same quiet = record {
+  clean = λ clean. subst (λ h. HasCleanDisk (file_state h)) same (omega (arith, quiet.clean, clean));
+  left = λ charter history pending left trees may.
+      left trees (subst (λ h. (file_state h).may_leave trees) same (quiet.outcomes trees may));
+}
+
 -- an opened connection shows the tables that the files hold
-shown_trees : {D : Type 0} {g : Ghosts D} (image : Image) (conn : Held (FileStore D g)) (trees : Trees)
+pub shown_trees : {D : Type 0} {g : Ghosts D} (image : Image) (conn : Held (FileStore D g)) (trees : Trees)
     → IsOpened conn → FindsIn image (file_state conn) → ∥ HoldsDatabase image trees ∥₁ → (file_state conn).now.trees ≡ trees
 shown_trees image conn trees opened found held =
     ap (λ d. d.trees) opened.0.clean ∙ ∥∥₁_elim held (Trees-set _ _) (found.holds trees)
@@ -121,28 +131,44 @@ pub if_ok_both : {T E : Type 0} (result : Result T E) (P Q R : T → Type 0) →
 if_ok_both (Ok x) P Q R both p q = both x p q
 if_ok_both (Err e) P Q R both p q = tt
 
--- what is left of a desk's files by a process that ends
-module _ {D : Type 0} (g : Ghosts D) (desk : Desk (FileStore D g)) (conn : Held (FileStore D g)) (back : FileStore D g)
-    (same : conn ≡ desk.store.connection) (quiet : IsQuiet view faults recovers is_shielded conn.store back) where
+-- what is left of the files of a connection by a process that ends
+module _ {D : Type 0} (g : Ghosts D) (conn : Held (FileStore D g)) (back : FileStore D g)
+    (quiet : IsQuiet view faults recovers is_shielded conn.store back) where
   stopped_store : (log db : D) → (log, db) ≡ files back → AreClean g log db → IsClean (view back)
   stopped_store log db given clean = no_doubt _ (clean_is back.pool ∙ subst (λ p. AreClean g p.0 p.1) given clean)
 
-  pub stopped_clean : (log db : D) → (log, db) ≡ files back → AreClean g log db → IsOnCleanDisk over_files desk
+  pub stopped_clean : (log db : D) → (log, db) ≡ files back → AreClean g log db → HasCleanDisk (file_state conn)
   stopped_clean log db given clean =
       let none = stopped_store log db given clean in
-      subst (λ h. HasCleanDisk (file_state h)) same (omega (arith, none, quiet.clean))
+      omega (arith, none, quiet.clean)
 
-  pub stopped_left : (log db : D) → (log, db) ≡ files back → AreClean g log db
+  pub stopped_left : (now : Files D) → (now.log, now.db) ≡ files back → AreClean g now.log now.db
       → (IsClean (view back) → IsTrue (view back).is_numbered) → (IsClean (view back) → AreDatabases (recovers back))
-      → (charter : Charter) (history : History) (pending : List Asked)
-      → LeavesAtMost over_files charter desk history pending
-      → (image : Image) → outcomes g log db image → ∥ AreLeftFiles image charter history pending ∥₁
-  stopped_left log db given clean numbered sound charter history pending left image may =
-      let none = stopped_store log db given clean in
+      → HoldLeft g (file_state conn) now
+  stopped_left now given clean numbered sound image may =
+      let none = stopped_store now.log now.db given clean in
       let held = subst (λ p. AreClean g p.0 p.1) given clean in
       let at = may_leave_is back.pool image held (subst (λ p. outcomes g p.0 p.1 image) given may) in
-      ∥∥₁_map (opens_again back (numbered none) (sound none) image at) (λ db. let r : AreLeftFiles image charter history pending = (
-        db.0,
-        left db.0 (subst (λ h. (file_state h).may_leave db.0) same (quiet.outcomes db.0 db.1)),
-        ∣ db.2 ∣₁,
-      ) in r)
+      ∥∥₁_map (opens_again back (numbered none) (sound none) image at) (λ db.
+      let r : (trees : Trees) × (file_state conn).may_leave trees × HoldsDatabase image trees = (db.0, quiet.outcomes db.0 db.1, db.2) in r)
+
+-- a desk whose connection was stopped left no more than a crash of the desk
+pub desk_left : {D : Type 0} (g : Ghosts D) (desk : Desk (FileStore D g)) (conn : Held (FileStore D g)) (now : Files D)
+    → conn ≡ desk.store.connection → HoldLeft g (file_state conn) now
+    → (charter : Charter) (history : History) (pending : List Asked)
+    → LeavesAtMost over_files charter desk history pending
+    → (image : Image) → outcomes g now.log now.db image → ∥ AreLeftFiles image charter history pending ∥₁
+desk_left g desk conn now same holds charter history pending left image may =
+    ∥∥₁_map (holds image may) (λ held. let r : AreLeftFiles image charter history pending = (
+      held.0,
+      left held.0 (subst (λ h. (file_state h).may_leave held.0) same held.1),
+      ∣ held.2 ∣₁,
+    ) in r)
+
+pub kept_leaves_lem : {D : Type 0} (g : Ghosts D) → KeptLeaves g
+kept_leaves_lem g charter history now kept image may = ∣ (kept.trees, inl (inl kept.desk), (kept.left image may).both) ∣₁
+
+pub stopped_leaves_lem : {D : Type 0} (g : Ghosts D) → StoppedLeaves g
+stopped_leaves_lem g desk now charter history pending leaves left image may =
+    ∥∥₁_map (leaves.left charter history pending left image may) (λ held.
+    let r : AreLeftFilesInEitherSchema image charter history pending = (held.0, inl held.1, held.2) in r)

@@ -1,3 +1,4 @@
 pub mod DeskFileLemmas
 pub mod LifeLemmas
+pub mod RefusedFileLemmas
 pub mod RefusedLemmas

@@ -1,5 +1,5 @@
 -- The files of a desk: a database file and its log.
-use Rattle.std.specs.Prelude.{◌≡◌, ◌⊎◌, ℕ, List, IsTrue, ⊤}
+use Rattle.std.specs.Prelude.{ℕ, List, [], IsTrue}
 use Rattle.std.specs.List.{AllByRecursion}
 use Rattle.sqlite_disk.specs.declared.Disk.{Ghosts}
 use Rattle.sqlite_disk.specs.Events.{replay}
@@ -17,7 +17,7 @@ use Rattle.sqlite.specs.Closing.{HoldsAlone}
 use Rattle.sqlite.specs.Files.{file_state, HoldsDatabase, image_of, IsOpened, over_files}
 use Rattle.sqlite.specs.Held.{Held}
 use Rattle.sqlite.specs.Start.{FindsIn}
-use Rattle.sqlite.specs.State.{HasCleanDisk}
+use Rattle.sqlite.specs.State.{HasCleanDisk, State}
 use Rattle.addr.specs.Name.{is_name}
 use Rattle.registry.specs.History.{History}
 use Rattle.registry.specs.Values.{HistoryFits}
@@ -25,16 +25,11 @@ use Rattle.registry.specs.Verdict.{IsLegal}
 use Rattle.registry.specs.declared.asked.Asked.{Asked}
 use Rattle.charters.specs.CharterSets.{IsCharter}
 use Rattle.charters.specs.declared.charter.Charter.{Charter}
-use Rattle.transactions.specs.declared.fault.StoreFault.TheVariants.{Schema}
-use Rattle.store.specs.RefusedOpening.{IsGivenBack}
+use Rattle.store.specs.StoreRows as store
 use Rattle.desk.specs.CrashOutcomes.{HoldDesk, LeavesAtMost, MayBeLeft}
-use Rattle.desk.specs.Desk.{Represents}
+use Rattle.desk.specs.Desk.{store_of, Represents}
 use Rattle.desk.specs.Resumed.{HoldHistory, IsAtMostOneMore, MayBeFound, MayBeLeftInEitherSchema, Resumes}
 use Rattle.desk.specs.declared.desk.Desk.{Desk}
-use Rattle.desk_files.specs.declared.file.OpenFault.{OpenFault}
-use Rattle.desk_files.specs.declared.file.OpenFault.TheVariants.{File, Store}
-use Rattle.command_line.specs.declared.fault.ProgramFault.{ProgramFault}
-use Rattle.command_line.specs.declared.fault.ProgramFault.TheVariants.{Database, Memory}
 
 -- the files hold a database with the charter and the rows of the history, in either schema
 abbrev pub AreDeskFiles : Image → Charter → History → Type 0
@@ -94,6 +89,51 @@ pub record AreLeftOfLegal (image : Image) : Type 0 where
   pub fits : (after : History) → IsAtMostOneMore charter before pending after → HistoryFits after
   pub left : AreLeftFilesInEitherSchema image charter before pending
 
+-- ---- what a crash may leave of files
+
+-- Whatever a crash leaves of the files, that holds a database whose tables may be left of the history with these requests
+-- pending, in either schema.
+abbrev pub FilesLeaveAtMost : {D : Type 0} → Ghosts D → Charter → Files D → History → List Asked → Type 0
+FilesLeaveAtMost g charter files history pending =
+    (image : Image) → outcomes g files.log files.db image
+    → ∥ AreLeftFilesInEitherSchema image charter history pending ∥₁
+
+-- a crash of the new files leaves no more than one of the old files did
+abbrev pub LeavesNoMore : {D : Type 0} → Ghosts D → Files D → Files D → Type 0
+LeavesNoMore g old new =
+    (charter : Charter) (history : History) (pending : List Asked)
+    → FilesLeaveAtMost g charter old history pending → FilesLeaveAtMost g charter new history pending
+
+-- whatever a crash leaves of the files, that holds trees which a crash of the connection may leave
+abbrev pub HoldLeft : {D : Type 0} → Ghosts D → State → Files D → Type 0
+HoldLeft g state files =
+    (image : Image) → outcomes g files.log files.db image
+    → ∥ ((trees : Trees) × state.may_leave trees × HoldsDatabase image trees) ∥₁
+
+-- where a crash of the files leaves at most a legal history with requests pending, the desk resumes it
+abbrev pub ResumesLeft : {D : Type 0} (g : Ghosts D) → Files D → Desk (FileStore D g) → Type 0
+ResumesLeft g files desk =
+    (charter : Charter) (before : History) (pending : List Asked)
+    → IsCharter charter → IsLegal charter before → FilesLeaveAtMost g charter files before pending
+    → ∥ Resumes over_files charter before pending desk ∥₁
+
+-- A crash of the files leaves at most a legal history with requests pending. The operators of the charter have names, and
+-- whichever request is accepted, the values of the history are those of their types.
+pub record LeaveLegal {D : Type 0} (g : Ghosts D) (files : Files D) : Type 0 where
+  pub charter : Charter
+  pub before : History
+  pub pending : List Asked
+  pub chartered : IsCharter charter
+  pub named : AllByRecursion (λ name. IsTrue (is_name name)) charter.operators
+  pub legal : IsLegal charter before
+  pub fits : (after : History) → IsAtMostOneMore charter before pending after → HistoryFits after
+  pub left : FilesLeaveAtMost g charter files before pending
+
+-- the desk was opened over what a connection to files that read so found, and not made there
+abbrev pub OpensFiles : {D : Type 0} {g : Ghosts D} → Image → Desk (FileStore D g) → Type 0
+OpensFiles {D} {g} image desk =
+    (found : Held (FileStore D g)) × IsOver found image × store.IsOpened over_files (file_state found) (store_of desk)
+
 -- The files hold a desk, as they read now and as a crash leaves them, and the database file does so
 -- without its log.
 pub record KeepDesk {D : Type 0} (g : Ghosts D) (charter : Charter) (history : History) (files : Files D) : Type 0 where
@@ -115,21 +155,15 @@ pub record LeavesFiles {D : Type 0} (g : Ghosts D) (desk : Desk (FileStore D g))
       → (image : Image) → outcomes g files.log files.db image
       → ∥ AreLeftFiles image charter history pending ∥₁
 
--- the database or memory failed
-abbrev pub IsOfDatabase : ProgramFault → Type 0
-IsOfDatabase fault = (fault ≡ Database) ⊎ (fault ≡ Memory)
+-- a crash of files that keep a desk leaves its history, and nothing else
+abbrev pub KeptLeaves : {D : Type 0} → Ghosts D → Type 0
+KeptLeaves {D} g =
+    (charter : Charter) (history : History) (files : Files D)
+    → KeepDesk g charter history files → FilesLeaveAtMost g charter files history []
 
--- Why the desk in the files was not opened: the files could not be opened, or the database that was found there was
--- refused and returned. So the fault is `Schema` only where the files hold a database of another schema, or the disk
--- returned what was not written.
-abbrev pub RefusesFiles : {D : Type 0} {g : Ghosts D} → Image → OpenFault (FileStore D g) → Type 0
-RefusesFiles image (File fault) = IsOfDatabase fault
-RefusesFiles {D} {g} image (Store fault conn) =
-    (opened : Held (FileStore D g)) × IsOver opened image
-    × IsGivenBack over_files (file_state opened) fault conn
-
--- Where the disk returned what was written, files that may be left of a legal history, in either schema, are not refused
--- as a database of another schema.
-abbrev pub RefusesNoLeft : {D : Type 0} {g : Ghosts D} → Image → OpenFault (FileStore D g) → Type 0
-RefusesNoLeft image (File fault) = ⊤
-RefusesNoLeft image (Store fault conn) = HasCleanDisk (file_state conn) → fault ≡ Schema → ¬ AreLeftOfLegal image
+-- a crash of the files of a desk that was stopped leaves no more than one of the desk did
+abbrev pub StoppedLeaves : {D : Type 0} → Ghosts D → Type 0
+StoppedLeaves {D} g =
+    (desk : Desk (FileStore D g)) (files : Files D) (charter : Charter) (history : History) (pending : List Asked)
+    → LeavesFiles g desk files → LeavesAtMost over_files charter desk history pending
+    → FilesLeaveAtMost g charter files history pending

@@ -1,2 +1,4 @@
 pub mod DeskFiles
+pub mod Faults
 pub mod Lives
+pub mod Refused

@@ -2,9 +2,12 @@
 #![tactic(auto)]
 
 mod file;
+pub mod laws;
 mod lives;
 mod stopping;
 
-pub use file::{OpenFault, close_desk, connect, files_at, make_desk, open_desk, open_files};
+pub use file::{
+    OpenFault, close_desk, connect, files_at, make_desk, open_desk, open_files, stop_connection,
+};
 pub use lives::{Lived, live, restart};
 pub use stopping::{reopen, stop};

@@ -1,5 +1,5 @@
 //! What becomes of a desk's files at the end of a process.
-ghost use Rattle.std.specs.Prelude.{IfOk};
+ghost use Rattle.std.specs.Prelude.{IfErr, IfOk};
 ghost use Rattle.sqlite.specs.Files.{over_files};
 ghost use Rattle.sqlite_wal.specs.Reads.{AreClean};
 ghost use Rattle.charters.specs.CharterSets.{IsCharter};
@@ -8,9 +8,12 @@ ghost use Rattle.charters.specs.declared.charter.Charter as shown;
 ghost use Rattle.desk.specs.CrashOutcomes.{HasNonePending};
 ghost use Rattle.desk.specs.Desk.{IsOnCleanDisk, Represents};
 ghost use Rattle.desk_files.specs.DeskFiles.{LeavesFiles};
+ghost use Rattle.desk_files.specs.Refused.{RefusesReopen};
 
-use crate::file::{OpenFault, close_desk, open_files};
+use crate::file::{OpenFault, close_desk, open_files, stop_connection};
+use command_line::ProgramFault;
 use desk::Desk;
+use sqlite::Leftover;
 use sqlite_disk::{Disk, Files};
 use sqlite_pager::Options;
 use sqlite_store::FileStore;
@@ -22,7 +25,7 @@ pub fn stop<D: Disk + Drop>(desk: Desk<FileStore<D>>) -> Files<D>
     ensures clean { AreClean D.Disk result.log result.db → IsOnCleanDisk over_files desk }
     ensures left { AreClean D.Disk result.log result.db → LeavesFiles D.Disk desk result }
 {
-    desk.close().into_store().close()
+    stop_connection(desk.close())
 }
 
 /// Closes the desk's files and opens the desk in them again.
@@ -30,7 +33,7 @@ pub fn reopen<D: Disk + Drop>(
     alloc: Global,
     desk: Desk<FileStore<D>>,
     options: Options,
-) -> Result<Desk<FileStore<D>>, OpenFault<FileStore<D>>>
+) -> Result<Desk<FileStore<D>>, OpenFault<D>>
     ensures clean { IfOk result (λ again. IsOnCleanDisk over_files again
         → IsOnCleanDisk over_files desk) }
     ensures same { IfOk result (λ again. IsOnCleanDisk over_files again
@@ -39,9 +42,10 @@ pub fn reopen<D: Disk + Drop>(
         → Represents over_files charter again history) }
     ensures none_pending { IfOk result (λ again. IsOnCleanDisk over_files again
         → HasNonePending over_files again) }
+    ensures err { IfErr result (RefusesReopen desk) }
 {
     match close_desk(desk) {
         Ok(files) => open_files(alloc, files, options),
-        Err(fault) => Err(OpenFault::File(fault)),
+        Err(store) => Err(OpenFault::File(ProgramFault::Database, Leftover::Store(store))),
     }
 }

@@ -1,7 +1,10 @@
 use Rattle.std.proofs.Common.{IfErr, IfOk, subst}
+use Rattle.std.proofs.lemmas.Result.{IfErr-weaker}
 use Rattle.sqlite.specs.Files.{over_files}
 use Rattle.desk.specs.Desk.{IsOnCleanDisk}
-use Rattle.desk_files.specs.DeskFiles.{ContinuesFiles, RefusesFiles, RefusesNoLeft, ResumesFiles}
+use Rattle.desk_files.specs.DeskFiles.{ContinuesFiles, OpensFiles, ResumesFiles}
+use Rattle.desk_files.specs.Refused.{RefusesFiles, RefusesNoLeft}
+use Rattle.desk_files.proofs.RefusedFileLemmas.{keeps_over}
 use Rattle.desk_files.proofs.file.open_desk.Goals as goal
 
 pub returns-in-Ok-clause-continued : goal.returns-in-Ok-clause-continued
@@ -14,6 +17,11 @@ returns-in-Ok-clause-resumed g c =
     subst (λ image. IfOk c.open_files.result (λ desk. IsOnCleanDisk over_files desk → ResumesFiles image desk))
     c.in-Ok.ensures.image c.open_files.ensures.resumed
 
+pub returns-in-Ok-clause-opened : goal.returns-in-Ok-clause-opened
+returns-in-Ok-clause-opened g c =
+    subst (λ image. IfOk c.open_files.result (λ desk. IsOnCleanDisk over_files desk → OpensFiles image desk))
+    c.in-Ok.ensures.image c.open_files.ensures.opened
+
 pub returns-in-Ok-clause-err : goal.returns-in-Ok-clause-err
 returns-in-Ok-clause-err g c =
     subst (λ image. IfErr c.open_files.result (RefusesFiles image)) c.in-Ok.ensures.image c.open_files.ensures.err
@@ -21,3 +29,8 @@ returns-in-Ok-clause-err g c =
 pub returns-in-Ok-clause-not_schema : goal.returns-in-Ok-clause-not_schema
 returns-in-Ok-clause-not_schema g c =
     subst (λ image. IfErr c.open_files.result (RefusesNoLeft image)) c.in-Ok.ensures.image c.open_files.ensures.not_schema
+
+pub returns-in-Ok-clause-left : goal.returns-in-Ok-clause-left
+returns-in-Ok-clause-left g c =
+    IfErr-weaker c.open_files.result _ _ (λ fault keeps. keeps_over c.in-Ok.files fault c.in-Ok.ensures.image keeps)
+    c.open_files.ensures.left

@@ -1,0 +1,110 @@
+-- What is left of the files of a desk that was refused.
+use Rattle.std.proofs.Common.{◌≡◌, ◌⊎◌, ◌∙◌, inl, inr, List, Result, Ok, Err, IfErr, subst, sym}
+use Rattle.std.proofs.Math.Logic.{∥∥₁_elim, ∥∥₁_map}
+use Rattle.sqlite_disk.specs.declared.Disk.{Ghosts}
+use Rattle.sqlite_disk.specs.declared.Files.{Files}
+use Rattle.sqlite_wal.specs.Reads.{AreClean}
+use Rattle.sqlite_wal.specs.Recovery.{Image}
+use Rattle.sqlite_wal.proofs.LogLemmas.{SeenMayStay}
+use Rattle.sqlite_trees.specs.Tree.{Trees}
+use Rattle.sqlite_store.specs.Laws.{settled_at}
+use Rattle.sqlite_store.specs.declared.store.FileStore.{FileStore}
+use Rattle.sqlite.specs.Files.{file_state, HoldsDatabase, image_of, over_files}
+use Rattle.sqlite.specs.Held.{Held}
+use Rattle.sqlite.specs.State.{HasCleanDisk}
+use Rattle.charters.specs.declared.charter.Charter.{Charter}
+use Rattle.registry.specs.History.{History}
+use Rattle.registry.specs.declared.asked.Asked.{Asked}
+use Rattle.transactions.specs.declared.fault.StoreFault.{StoreFault}
+use Rattle.database.specs.Opening.{AreMoved}
+use Rattle.store.specs.RefusedOpening.{IsGivenBack}
+use Rattle.desk.specs.Resumed.{MayBeFound, MayBeLeftInEitherSchema, Resumes}
+use Rattle.desk.specs.declared.desk.Desk.{Desk}
+use Rattle.desk.proofs.ResumedLemmas.{left_found}
+use Rattle.desk_files.specs.DeskFiles.{AreLeftFilesInEitherSchema, FilesLeaveAtMost, HoldLeft, IsOver, LeavesNoMore, ResumesFiles, ResumesLeft}
+use Rattle.desk_files.specs.Refused.{KeepsRefused, KeepsRefusedOver, RefusedDatabase, RefusesNoLeft, RefusesNoLegal}
+use Rattle.desk_files.specs.declared.file.OpenFault.{OpenFault}
+use Rattle.desk_files.specs.declared.file.OpenFault.TheVariants.{File, Path, Store}
+use Rattle.desk_files.proofs.DeskFileLemmas.{shown_trees}
+use Rattle.desk_files.proofs.RefusedLemmas.{leaves_shown, moved_left}
+
+-- what may be left, in either schema, may be found
+left_in_either_found : (charter : Charter) (history : History) (pending : List Asked) (trees : Trees)
+    → MayBeLeftInEitherSchema charter history pending trees → MayBeFound charter history pending trees
+left_in_either_found charter history pending trees (inl left) = left_found charter history pending trees left
+left_in_either_found charter history pending trees (inr (after, more, held)) = (after, more, (held.0, held.1, inr held.2))
+
+module _ {D : Type 0} (g : Ghosts D) (stays : SeenMayStay g) where
+  -- a connection that was refused was returned and stopped
+  pub refused_database : (image : Image) (conn refused : Held (FileStore D g)) (fault : StoreFault) (files : Files D)
+      → IsOver conn image → IsGivenBack over_files (file_state conn) fault refused
+      → (AreClean g files.log files.db → HasCleanDisk (file_state refused))
+      → (AreClean g files.log files.db → HoldLeft g (file_state refused) files)
+      → RefusedDatabase g image fault files
+  refused_database image conn refused fault files over given cleaned left = record {
+    found = conn;
+    over = over;
+    clean = λ clean. given.clean (cleaned clean);
+    schema = λ clean. given.schema (cleaned clean);
+    left = λ clean after may. ∥∥₁_map (left clean after may) (λ held.
+        let side : (held.0 ≡ (file_state conn).now.trees) ⊎ AreMoved (file_state conn) held.0 = elim (given.left (cleaned clean) held.0 held.1) [
+          | inl old ↦ inl (leaves_shown over_files conn held.0 (λ db. settled_at conn.store stays db) (over (given.clean (cleaned clean))).0.0 old)
+          | inr moved ↦ inr moved
+        ] in
+        let r : (trees : Trees) × ((trees ≡ (file_state conn).now.trees) ⊎ AreMoved (file_state conn) trees) × HoldsDatabase after trees =
+        (held.0, side, held.2) in r);
+  }
+
+  module _ (files : Files D) where
+    -- the files hold now what a crash may leave of them
+    holds_now : (charter : Charter) (history : History) (pending : List Asked)
+        → FilesLeaveAtMost g charter files history pending → ∥ AreLeftFilesInEitherSchema (image_of g files) charter history pending ∥₁
+    holds_now charter history pending left = left (image_of g files) (stays files.log, stays files.db)
+
+    pub refused_keeps : (fault : StoreFault) (now : Files D) → RefusedDatabase g (image_of g files) fault now
+        → AreClean g now.log now.db → LeavesNoMore g files now
+    refused_keeps fault now refused clean charter history pending left image may =
+        ∥∥₁_elim (holds_now charter history pending left) squash₁ (λ was.
+        let over = refused.over (refused.clean clean) in
+        let shown = shown_trees (image_of g files) refused.found was.0 over.0 over.1 was.2 in
+        ∥∥₁_map (refused.left clean image may) (λ held.
+        let kept : MayBeLeftInEitherSchema charter history pending held.0 = elim held.1 [
+          | inl same ↦ subst (MayBeLeftInEitherSchema charter history pending) (sym (same ∙ shown)) was.1
+          | inr moved ↦
+              inl (moved_left charter history pending (file_state refused.found) held.0
+              (subst (MayBeFound charter history pending) (sym shown) (left_in_either_found charter history pending was.0 was.1)) moved)
+        ] in
+        let r : AreLeftFilesInEitherSchema image charter history pending = (held.0, kept, ∣ held.2 ∣₁) in r))
+
+    pub resumes_left : (desk : Desk (FileStore D g)) → ResumesFiles (image_of g files) desk → ResumesLeft g files desk
+    resumes_left desk resumes charter before pending chartered legal left =
+        ∥∥₁_map (holds_now charter before pending left) (λ was.
+        let r : Resumes over_files charter before pending desk =
+        resumes charter before pending chartered legal (was.0, left_in_either_found charter before pending was.0 was.1, was.2) in r)
+
+    pub refuses_no_legal : (fault : OpenFault D g) → RefusesNoLeft (image_of g files) fault → RefusesNoLegal files fault
+    refuses_no_legal (Path fault) refuses = tt
+    refuses_no_legal (File fault rest) refuses = tt
+    refuses_no_legal (Store fault now) refuses = λ clean is it.
+        ∥∥₁_elim (holds_now it.charter it.before it.pending it.left) (λ x y. absurd x) (λ left. refuses clean is (record {
+          charter = it.charter;
+          before = it.before;
+          pending = it.pending;
+          chartered = it.chartered;
+          named = it.named;
+          legal = it.legal;
+          fits = it.fits;
+          left = left;
+        }))
+
+-- the same of files that read so
+pub keeps_over : {D : Type 0} {g : Ghosts D} {image : Image} (files : Files D) (fault : OpenFault D g) → image_of g files ≡ image
+    → KeepsRefused files fault → KeepsRefusedOver image fault
+keeps_over files (Path fault) is keeps = tt
+keeps_over files (File fault rest) is keeps = (files, is, keeps)
+keeps_over files (Store fault now) is keeps = (files, is, keeps)
+
+pub if_err_both : {T E : Type 0} (result : Result T E) (P Q R : E → Type 0) → ((e : E) → P e → Q e → R e) → IfErr result P
+    → IfErr result Q → IfErr result R
+if_err_both (Ok x) P Q R both p q = tt
+if_err_both (Err e) P Q R both p q = both e p q

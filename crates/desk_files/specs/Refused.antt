@@ -1,0 +1,114 @@
+-- Why a desk in files was not opened or not closed, and what is left of the files.
+use Rattle.std.specs.Prelude.{◌≡◌, ◌⊎◌, List, ⊤}
+use Rattle.sqlite_disk.specs.declared.Disk.{Ghosts}
+use Rattle.sqlite_disk.specs.declared.Files.{Files}
+use Rattle.sqlite_wal.specs.Files.{outcomes}
+use Rattle.sqlite_wal.specs.Reads.{AreClean}
+use Rattle.sqlite_wal.specs.Recovery.{Image}
+use Rattle.sqlite_trees.specs.Tree.{Trees}
+use Rattle.sqlite_trees.specs.View.{IsClean}
+use Rattle.sqlite_store.specs.FileStore.{view}
+use Rattle.sqlite_store.specs.declared.store.FileStore.{FileStore}
+use Rattle.sqlite.specs.Files.{file_state, FailsToOpenFiles, HoldsDatabase, image_of, IsCleanLeft, over_files}
+use Rattle.sqlite.specs.Files as sqlite
+use Rattle.sqlite.specs.Held.{Held}
+use Rattle.sqlite.specs.State.{HasCleanDisk}
+use Rattle.sqlite.specs.declared.error.Error.{Error}
+use Rattle.sqlite.specs.declared.file.Leftover.{Leftover}
+use Rattle.sqlite.specs.declared.file.Leftover.TheVariants as left
+use Rattle.charters.specs.declared.charter.Charter.{Charter}
+use Rattle.registry.specs.History.{History}
+use Rattle.registry.specs.declared.asked.Asked.{Asked}
+use Rattle.command_line.specs.declared.fault.ProgramFault.{ProgramFault}
+use Rattle.command_line.specs.declared.fault.ProgramFault.TheVariants.{Database}
+use Rattle.transactions.specs.declared.fault.StoreFault.{StoreFault}
+use Rattle.transactions.specs.declared.fault.StoreFault.TheVariants.{Schema}
+use Rattle.database.specs.Opening.{AreMoved, IsOfAnotherSchema}
+use Rattle.desk.specs.CrashOutcomes.{LeavesAtMost}
+use Rattle.desk.specs.Desk.{charter_of, HoldsHistory, IsOnCleanDisk}
+use Rattle.desk.specs.declared.desk.Desk.{Desk}
+use Rattle.desk_files.specs.DeskFiles.{AreLeftOfLegal, IsOver, KeepDesk, LeaveLegal, LeavesNoMore}
+use Rattle.desk_files.specs.Faults.{IsFaultOf, IsOfDatabase}
+use Rattle.desk_files.specs.Lives.{StoreLeavesAtMost}
+use Rattle.desk_files.specs.declared.file.OpenFault.{OpenFault}
+use Rattle.desk_files.specs.declared.file.OpenFault.TheVariants.{File, Path, Store}
+
+-- ---- not opened
+
+-- The database that was found in files that read so was refused, and the files are returned. If their disk returned what
+-- was written, the fault is `Schema` only of a database of another schema, and whatever a crash leaves of the files holds
+-- the trees that were found, or, of a database of schema 1, those of a desk with what its tables held.
+pub record RefusedDatabase {D : Type 0} (g : Ghosts D) (image : Image) (fault : StoreFault) (files : Files D) : Type 0 where
+  pub found : Held (FileStore D g)
+  pub over : IsOver found image
+  pub clean : AreClean g files.log files.db → HasCleanDisk (file_state found)
+  pub schema : AreClean g files.log files.db → fault ≡ Schema → IsOfAnotherSchema (file_state found).now
+  pub left :
+      AreClean g files.log files.db → (after : Image) → outcomes g files.log files.db after
+      → ∥ ((trees : Trees) × ((trees ≡ (file_state found).now.trees) ⊎ AreMoved (file_state found) trees)
+      × HoldsDatabase after trees) ∥₁
+
+-- Why the desk in files that read so was not opened: there are no files at the path, the files could not be opened, or
+-- the database that was found there was refused. So the fault is `Schema` only where the files hold a database of another
+-- schema, or the disk returned what was not written.
+abbrev pub RefusesFiles : {D : Type 0} {g : Ghosts D} → Image → OpenFault D g → Type 0
+RefusesFiles image (Path fault) = IsOfDatabase fault
+RefusesFiles image (File fault rest) = IsOfDatabase fault
+RefusesFiles {D} {g} image (Store fault files) = RefusedDatabase g image fault files
+
+-- Where the disk returned what was written, files that may be left of a legal history, in either schema, are not refused
+-- as a database of another schema.
+abbrev pub RefusesNoLeft : {D : Type 0} {g : Ghosts D} → Image → OpenFault D g → Type 0
+RefusesNoLeft image (Path fault) = ⊤
+RefusesNoLeft image (File fault rest) = ⊤
+RefusesNoLeft {D} {g} image (Store fault files) =
+    AreClean g files.log files.db → fault ≡ Schema → ¬ AreLeftOfLegal image
+
+-- the same of files of which a crash leaves at most a legal history
+abbrev pub RefusesNoLegal : {D : Type 0} {g : Ghosts D} → Files D → OpenFault D g → Type 0
+RefusesNoLegal files (Path fault) = ⊤
+RefusesNoLegal files (File fault rest) = ⊤
+RefusesNoLegal {D} {g} files (Store fault now) =
+    AreClean g now.log now.db → fault ≡ Schema → ¬ LeaveLegal g files
+
+-- The fault tells why the files could not be opened, where the disk returned what was written: an allocation failed, they
+-- hold no database, the disk failed, or a limit was met.
+abbrev pub FailsToOpen : {D : Type 0} {g : Ghosts D} → Files D → ProgramFault → Leftover D g → Type 0
+FailsToOpen files fault rest =
+    IsCleanLeft rest → (error : Error) × IsFaultOf error fault × FailsToOpenFiles files rest error
+
+-- What is left of the files where the desk in them was not opened and the disk returned what was written. Of files that
+-- could not be opened it is what SQLite leaves. If the database was refused, a crash leaves no more than before.
+abbrev pub KeepsRefused : {D : Type 0} {g : Ghosts D} → Files D → OpenFault D g → Type 0
+KeepsRefused files (Path fault) = ⊤
+KeepsRefused files (File fault rest) =
+    FailsToOpen files fault rest × (IsCleanLeft rest → sqlite.LeavesFiles files rest)
+KeepsRefused {D} {g} files (Store fault now) = AreClean g now.log now.db → LeavesNoMore g files now
+
+-- the same of files that read so, where there were any
+abbrev pub KeepsRefusedOver : {D : Type 0} {g : Ghosts D} → Image → OpenFault D g → Type 0
+KeepsRefusedOver image (Path fault) = ⊤
+KeepsRefusedOver {D} {g} image (File fault rest) =
+    (files : Files D) × (image_of g files ≡ image) × KeepsRefused files (File fault rest)
+KeepsRefusedOver {D} {g} image (Store fault now) =
+    (files : Files D) × (image_of g files ≡ image) × KeepsRefused {g = g} files (Store fault now)
+
+-- ---- not closed
+
+-- The desk was not closed, and the store is what is left of it. A crash of the store leaves no more than one of the desk
+-- did.
+pub record KeepsUnclosed {D : Type 0} {g : Ghosts D} (desk : Desk (FileStore D g)) (store : FileStore D g) : Type 0 where
+  pub clean : IsClean (view store) → IsOnCleanDisk over_files desk
+  pub left :
+      (charter : Charter) (history : History) (pending : List Asked)
+      → LeavesAtMost over_files charter desk history pending
+      → StoreLeavesAtMost over_files charter store history pending
+
+-- The desk was not closed, or it was closed and not opened again in its files.
+abbrev pub RefusesReopen : {D : Type 0} {g : Ghosts D} → Desk (FileStore D g) → OpenFault D g → Type 0
+RefusesReopen {D} {g} desk fault =
+    ((store : FileStore D g) × (fault ≡ File Database (left.Store store)) × KeepsUnclosed desk store)
+    ⊎ ((files : Files D)
+    × (AreClean g files.log files.db → (history : History) → HoldsHistory over_files desk history
+    → KeepDesk g (charter_of desk) history files)
+    × RefusesFiles (image_of g files) fault × KeepsRefused files fault)
