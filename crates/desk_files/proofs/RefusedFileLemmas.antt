@@ -1,5 +1,5 @@
 -- What is left of the files of a desk that was refused.
-use Rattle.std.proofs.Common.{◌≡◌, ◌⊎◌, ◌∙◌, inl, inr, List, Result, Ok, Err, IfErr, subst, sym}
+use Rattle.std.proofs.Common.{◌≡◌, ◌⊎◌, ◌∙◌, inl, inr, List, [], Result, Ok, Err, IfErr, refl, subst, sym}
 use Rattle.std.proofs.Math.Logic.{∥∥₁_elim, ∥∥₁_map}
 use Rattle.sqlite_disk.specs.declared.Disk.{Ghosts}
 use Rattle.sqlite_disk.specs.declared.Files.{Files}
@@ -15,18 +15,26 @@ use Rattle.sqlite.specs.State.{HasCleanDisk}
 use Rattle.charters.specs.declared.charter.Charter.{Charter}
 use Rattle.registry.specs.History.{History}
 use Rattle.registry.specs.declared.asked.Asked.{Asked}
+use Rattle.registry.specs.RowsOfAll.{blank_rows, HasRows}
+use Rattle.transactions.specs.Databases.{IsUnused}
 use Rattle.transactions.specs.declared.fault.StoreFault.{StoreFault}
 use Rattle.database.specs.Opening.{AreMoved}
-use Rattle.store.specs.RefusedOpening.{IsGivenBack}
+use Rattle.store.specs.RefusedOpening.{IsGivenBack, IsNotMade}
+use Rattle.desk.specs.CrashOutcomes.{HoldDesk, LeavesAtMost}
+use Rattle.desk.specs.Desk.{IsOnCleanDisk}
 use Rattle.desk.specs.Resumed.{MayBeFound, MayBeLeftInEitherSchema, Resumes}
 use Rattle.desk.specs.declared.desk.Desk.{Desk}
 use Rattle.desk.proofs.ResumedLemmas.{left_found}
 use Rattle.desk_files.specs.DeskFiles.{AreLeftFilesInEitherSchema, FilesLeaveAtMost, HoldLeft, IsOver, LeavesNoMore, ResumesFiles, ResumesLeft}
-use Rattle.desk_files.specs.Refused.{KeepsRefused, KeepsRefusedOver, RefusedDatabase, RefusesNoLeft, RefusesNoLegal}
+use Rattle.desk_files.specs.Refused.{KeepsRefused, KeepsRefusedOver, KeepsUnclosed, LeavesUnmade, RefusedDatabase, RefusesNoLeft, RefusesNoLegal}
+use Rattle.desk_files.specs.declared.file.MakeFault.TheVariants as unmade
 use Rattle.desk_files.specs.declared.file.OpenFault.{OpenFault}
 use Rattle.desk_files.specs.declared.file.OpenFault.TheVariants.{File, Path, Store}
 use Rattle.desk_files.proofs.DeskFileLemmas.{shown_trees}
 use Rattle.desk_files.proofs.RefusedLemmas.{leaves_shown, moved_left}
+
+no_rows : HasRows blank_rows []
+no_rows = record { holders = λ h. refl; files = refl }
 
 -- what may be left, in either schema, may be found
 left_in_either_found : (charter : Charter) (history : History) (pending : List Asked) (trees : Trees)
@@ -108,3 +116,36 @@ pub if_err_both : {T E : Type 0} (result : Result T E) (P Q R : E → Type 0) �
     → IfErr result Q → IfErr result R
 if_err_both (Ok x) P Q R both p q = tt
 if_err_both (Err e) P Q R both p q = both e p q
+
+-- the desk was made, and not closed
+pub unmade_closed : {D : Type 0} {g : Ghosts D} (charter : Charter) (conn : Held (FileStore D g)) (desk : Desk (FileStore D g))
+    (store : FileStore D g)
+    → IsUnused (file_state conn) → (IsOnCleanDisk over_files desk → HasCleanDisk (file_state conn))
+    → (IsOnCleanDisk over_files desk → LeavesAtMost over_files charter desk [] []) → KeepsUnclosed desk store
+    → LeavesUnmade charter conn (unmade.Close store)
+unmade_closed charter conn desk store unused cleaned left kept = (
+  unused,
+  λ clean.
+      let none = kept.clean clean in
+      (cleaned none, kept.left charter [] [] (left none)),
+)
+
+-- the desk was not made, and its connection was stopped
+pub unmade_left : {D : Type 0} {g : Ghosts D} {fault : StoreFault} (charter : Charter) (conn refused : Held (FileStore D g))
+    (now : Files D)
+    → IsNotMade over_files charter (file_state conn) fault refused
+    → (AreClean g now.log now.db → HasCleanDisk (file_state refused))
+    → (AreClean g now.log now.db → HoldLeft g (file_state refused) now)
+    → LeavesUnmade charter conn (unmade.Database now)
+unmade_left charter conn refused now it cleaned left = λ clean. (
+  it.clean (cleaned clean),
+  λ image may.
+      ∥∥₁_map (left clean image may) (λ held.
+      let side : (file_state conn).may_leave held.0 ⊎ (IsUnused (file_state conn) × HoldDesk charter [] held.0) =
+      elim (it.left (cleaned clean) held.0 held.1) [
+        | inl old ↦ inl old
+        | inr made ↦ inr (made.0, (blank_rows, no_rows, made.1, made.2))
+      ] in
+      let r : (trees : Trees) × ((file_state conn).may_leave trees ⊎ (IsUnused (file_state conn) × HoldDesk charter [] trees)) × HoldsDatabase image trees =
+      (held.0, side, held.2) in r),
+)

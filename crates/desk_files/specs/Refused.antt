@@ -1,5 +1,5 @@
--- Why a desk in files was not opened or not closed, and what is left of the files.
-use Rattle.std.specs.Prelude.{◌≡◌, ◌⊎◌, List, ⊤}
+-- Why a desk in files was not opened, closed or made, and what is left of the files.
+use Rattle.std.specs.Prelude.{◌≡◌, ◌⊎◌, List, [], ⊤}
 use Rattle.sqlite_disk.specs.declared.Disk.{Ghosts}
 use Rattle.sqlite_disk.specs.declared.Files.{Files}
 use Rattle.sqlite_wal.specs.Files.{outcomes}
@@ -23,13 +23,16 @@ use Rattle.command_line.specs.declared.fault.ProgramFault.{ProgramFault}
 use Rattle.command_line.specs.declared.fault.ProgramFault.TheVariants.{Database}
 use Rattle.transactions.specs.declared.fault.StoreFault.{StoreFault}
 use Rattle.transactions.specs.declared.fault.StoreFault.TheVariants.{Schema}
+use Rattle.transactions.specs.Databases.{IsUnused}
 use Rattle.database.specs.Opening.{AreMoved, IsOfAnotherSchema}
-use Rattle.desk.specs.CrashOutcomes.{LeavesAtMost}
+use Rattle.desk.specs.CrashOutcomes.{HoldDesk, LeavesAtMost}
 use Rattle.desk.specs.Desk.{charter_of, HoldsHistory, IsOnCleanDisk}
 use Rattle.desk.specs.declared.desk.Desk.{Desk}
 use Rattle.desk_files.specs.DeskFiles.{AreLeftOfLegal, IsOver, KeepDesk, LeaveLegal, LeavesNoMore}
 use Rattle.desk_files.specs.Faults.{IsFaultOf, IsOfDatabase}
 use Rattle.desk_files.specs.Lives.{StoreLeavesAtMost}
+use Rattle.desk_files.specs.declared.file.MakeFault.{MakeFault}
+use Rattle.desk_files.specs.declared.file.MakeFault.TheVariants as unmade
 use Rattle.desk_files.specs.declared.file.OpenFault.{OpenFault}
 use Rattle.desk_files.specs.declared.file.OpenFault.TheVariants.{File, Path, Store}
 
@@ -112,3 +115,20 @@ RefusesReopen {D} {g} desk fault =
     × (AreClean g files.log files.db → (history : History) → HoldsHistory over_files desk history
     → KeepDesk g (charter_of desk) history files)
     × RefusesFiles (image_of g files) fault × KeepsRefused files fault)
+
+-- ---- not made
+
+-- What is left where no desk was made and the disk returned what was written. If the database was refused, whatever a
+-- crash leaves of the files holds trees that it left before, or, of an unused database, those of a desk of the charter
+-- with no history. If the desk was made and not closed, a crash of the store leaves that desk.
+abbrev pub LeavesUnmade : {D : Type 0} {g : Ghosts D} → Charter → Held (FileStore D g) → MakeFault D g → Type 0
+LeavesUnmade {D} {g} charter conn (unmade.Database files) =
+    AreClean g files.log files.db
+    → HasCleanDisk (file_state conn)
+    × ((image : Image) → outcomes g files.log files.db image
+    → ∥ ((trees : Trees)
+    × ((file_state conn).may_leave trees ⊎ (IsUnused (file_state conn) × HoldDesk charter [] trees))
+    × HoldsDatabase image trees) ∥₁)
+LeavesUnmade charter conn (unmade.Close store) =
+    IsUnused (file_state conn)
+    × (IsClean (view store) → HasCleanDisk (file_state conn) × StoreLeavesAtMost over_files charter store [] [])

@@ -16,7 +16,7 @@ ghost use Rattle.desk_files.specs.DeskFiles.{ContinuesFiles, HoldLeft, IsOver, K
 ghost use Rattle.desk_files.specs.DeskFiles.{OpensFiles, ResumesFiles, ResumesLeft, image_in};
 ghost use Rattle.desk_files.specs.Faults.{IsNoPath, IsOfDatabase, IsOfMemory, IsFaultOf};
 ghost use Rattle.desk_files.specs.Refused.{KeepsRefused, KeepsRefusedOver, KeepsUnclosed};
-ghost use Rattle.desk_files.specs.Refused.{RefusedDatabase, RefusesFiles};
+ghost use Rattle.desk_files.specs.Refused.{LeavesUnmade, RefusedDatabase, RefusesFiles};
 ghost use Rattle.desk_files.specs.Refused.{RefusesNoLeft, RefusesNoLegal};
 
 use command_line::ProgramFault;
@@ -43,6 +43,16 @@ pub enum OpenFault<D: Disk> {
     File(ProgramFault, Leftover<D>),
     /// The database in the files was refused.
     Store(StoreFault, Files<D>),
+}
+
+/// Why no desk was made in some files. What was opened is returned, so that a contract can say what
+/// is left of it.
+#[derive(Drop)]
+pub enum MakeFault<D: Disk> {
+    /// The database was refused.
+    Database(Files<D>),
+    /// The desk was made, but its files were not closed.
+    Close(FileStore<D>),
 }
 
 /// A connection to the file at the path, which is made if there is none. What is left of files that
@@ -111,21 +121,18 @@ pub fn make_desk<D: Disk + Drop>(
     alloc: Global,
     conn: Connection<FileStore<D>>,
     charter: &Charter,
-) -> Result<Files<D>, ProgramFault>
+) -> Result<Files<D>, MakeFault<D>>
     ensures made { IfOk result (λ files. AreClean D.Disk files.log files.db
         → KeepDesk D.Disk charter.now [] files) }
     ensures unused { OnOk result (IsUnused (file_state conn)) }
-    ensures err { IfErr result (λ fault. fault ≡ ProgramFault.Database) }
+    ensures err { IfErr result (LeavesUnmade charter.now conn) }
 {
-    let Ok(desk) = Desk::create_on(alloc, conn, charter) else {
-        return Err(ProgramFault::Database);
-    };
-    match close_desk(desk) {
-        Ok(files) => Ok(files),
-        Err(store) => {
-            drop(store.close());
-            Err(ProgramFault::Database)
-        }
+    match Desk::create_or_return(alloc, conn, charter) {
+        Ok(desk) => match close_desk(desk) {
+            Ok(files) => Ok(files),
+            Err(store) => Err(MakeFault::Close(store)),
+        },
+        Err((_, conn)) => Err(MakeFault::Database(stop_connection(conn))),
     }
 }
 
