@@ -19,7 +19,8 @@ pub trait PayloadIndex {
     fn insert(&mut self, vrp: Vrp) -> Result<bool, AllocError>
         ensures new { IfOk result (λ is_new. is_new ≡ not (set.contains (vrps self.old) vrp)) }
         ensures ok { OnOk result (vrps self.new ≡ set.insert (vrps self.old) vrp) }
-        ensures err { OnErr result (vrps self.new ≡ vrps self.old) };
+        ensures err { OnErr result (vrps self.new ≡ vrps self.old) }
+        ensures absent { OnErr result (set.contains (vrps self.old) vrp ≡ false) };
 
     /// Removes the VRP; returns whether it was there.
     fn remove(&mut self, vrp: &Vrp) -> bool

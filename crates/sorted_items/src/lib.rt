@@ -1,7 +1,7 @@
 //! Vectors whose items rise, each once.
 #![tactic(auto)]
 
-ghost use Rattle.std.specs.Prelude.{◌≡◌, ◌≤◌, ◌<◌, not, ◌&&◌, ◌||◌, length, insert, remove, IfOk, OnOk, OnErr};
+ghost use Rattle.std.specs.Prelude.{◌≡◌, ◌≤◌, ◌<◌, false, not, ◌&&◌, ◌||◌, length, insert, remove, IfOk, OnOk, OnErr};
 ghost use Rattle.std.specs.List.{list_any};
 ghost use Rattle.std.specs.List.Sorted.{IsStrictlySortedBy};
 ghost use Rattle.std.specs.Ordering.{eq_by_cmp};
@@ -62,6 +62,7 @@ pub fn insert<T: Ord + Drop, V: Items<T>>(items: &mut V, item: T) -> Result<bool
     ensures members { OnOk result ((x : T) → list_any (eq_by_cmp T.cmp x) (V.items items.new)
         ≡ (eq_by_cmp T.cmp x item || list_any (eq_by_cmp T.cmp x) (V.items items.old))) }
     ensures err { OnErr result (V.items items.new ≡ V.items items.old) }
+    ensures absent { OnErr result (list_any (eq_by_cmp T.cmp item) (V.items items.old) ≡ false) }
     ensures rise { RiseBy T.cmp (V.items items.new) }
 {
     match items.as_slice().binary_search(&item) {

@@ -24,6 +24,8 @@ impl Node {
         ensures ok { OnOk result (IsInserted (bits_from vrp.now.prefix at) (originator_of vrp.now)
             (tree self.old) (tree self.new)) }
         ensures err { OnErr result (tree self.new ≡ tree self.old) }
+        ensures absent { OnErr result (has (bits_from vrp.now.prefix at) (originator_of vrp.now)
+            (tree self.old) ≡ false) }
         ensures pruned { IsPruned (width vrp.now.prefix.family) at (tree self.new) }
     {
         let shared = self.skipped.shared(&vrp.prefix, at);
@@ -44,6 +46,8 @@ impl Branch {
         ensures ok { OnOk result (IsInserted (bits_from vrp.now.prefix at) (originator_of vrp.now)
             (tree (top_of self.old)) (tree (top_of self.new))) }
         ensures err { OnErr result (tree (top_of self.new) ≡ tree (top_of self.old)) }
+        ensures absent { OnErr result (has (bits_from vrp.now.prefix at) (originator_of vrp.now)
+            (tree (top_of self.old)) ≡ false) }
         ensures pruned { IsPruned (width vrp.now.prefix.family) at (tree (top_of self.new)) }
     {
         if at == vrp.prefix.length {
@@ -74,6 +78,8 @@ fn insert_below(
     ensures ok { OnOk result (IsInserted (bits_from vrp.now.prefix at) (originator_of vrp.now)
         (subtree child.old) (subtree child.new)) }
     ensures err { OnErr result (subtree child.new ≡ subtree child.old) }
+    ensures absent { OnErr result (has (bits_from vrp.now.prefix at) (originator_of vrp.now)
+        (subtree child.old) ≡ false) }
     ensures pruned { IsPruned (width vrp.now.prefix.family) at (subtree child.new) }
     ensures full { is_bare (subtree child.new) ≡ false }
 {
@@ -91,6 +97,7 @@ fn insert_below(
 fn cut(skipped: &mut Skipped, branch: &mut Branch, alloc: Global, n: u8) -> Result<(), AllocError>
     requires { n ≤ length skipped.old }
     ensures first { OnOk result (skipped.new ≡ take n skipped.old) }
+    ensures more { OnErr result (n < length skipped.old) }
     ensures same { grown skipped.new (top_of branch.new) ≡ grown skipped.old (top_of branch.old) }
 {
     if n == skipped.count() {

@@ -1,4 +1,5 @@
-use Rattle.std.proofs.Common.{ap, not, sym}
+use Rattle.std.proofs.Common.{ap, not, sym, Result, Ok, Err}
+use Rattle.std.specs.Prelude.{OnErr}
 use Rattle.sorted_items.proofs.Places.{found, found-members, absent, insert-rises, insert-members}
 use Rattle.sorted_items.proofs.insert.Goals as goal
 
@@ -20,3 +21,11 @@ returns-in_ok-insert-in-Err-clause-members g c = insert-members g.met.T.Ord.tota
 pub returns-in_ok-insert-in-Err-clause-rise : goal.returns-in_ok-insert-in-Err-clause-rise
 returns-in_ok-insert-in-Err-clause-rise g c =
     insert-rises g.met.T.Ord.total _ _ _ _ c.requires (rw c.as_slice.ensures at c.in-Err.ensures.bound) (rw c.as_slice.ensures at c.in-Err.ensures.position) c.in_ok-insert-in-Err.ensures.ok
+
+if-err : {T E : Type 0} (r : Result T E) (P : Type 0) → P → OnErr r P
+if-err (Ok x) P p = tt
+if-err (Err e) P p = p
+
+pub returns-in_err-insert-in-Err-clause-absent : goal.returns-in_err-insert-in-Err-clause-absent
+returns-in_err-insert-in-Err-clause-absent g c =
+    if-err c.from_residual.result _ (absent g.met.T.Ord.total _ _ _ c.requires (rw c.as_slice.ensures at c.in-Err.ensures.position))

@@ -1,4 +1,5 @@
-use Rattle.std.proofs.Common.{◌≡◌, not, ◌||◌, refl, subst, IfOk}
+use Rattle.std.proofs.Common.{◌≡◌, false, not, ◌||◌, refl, subst, IfOk}
+use Rattle.std.specs.Prelude.{OnErr}
 use Rattle.std.proofs.lemmas.Result.{on_ok_weaker}
 use Rattle.addr.specs.Family.{width}
 use Rattle.payload.specs.steps.Tree.{IsPruned, tree}
@@ -9,8 +10,11 @@ use Rattle.payload.proofs.trie.TriePayloadIndex.insert.Goals as goal
 
 pub returns-in-V4-clause-new : goal.returns-in-V4-clause-new
 returns-in-V4-clause-new c =
-    subst (λ b. IfOk c.insert.result (λ is_new. is_new ≡ not b))
-    (contains-in_four c.args.self.now c.args.vrp (tree c.self.inside.four) (tree c.self.inside.six) c.self.view_is c.self.invariant.0 c.self.invariant.1 c.in-V4.is) c.insert.ensures.new
+    subst (λ b. IfOk c.insert.result (λ is_new. is_new ≡ not b)) (contains-in_four c.args.self.now c.args.vrp (tree c.self.inside.four) (tree c.self.inside.six) c.self.view_is c.self.invariant.0 c.self.invariant.1 c.in-V4.is) c.insert.ensures.new
+
+pub returns-in-V4-clause-absent : goal.returns-in-V4-clause-absent
+returns-in-V4-clause-absent c =
+    subst (λ b. OnErr c.insert.result (b ≡ false)) (contains-in_four c.args.self.now c.args.vrp (tree c.self.inside.four) (tree c.self.inside.six) c.self.view_is c.self.invariant.0 c.self.invariant.1 c.in-V4.is) c.insert.ensures.absent
 
 pub returns-in-V4-clause-ok : goal.returns-in-V4-clause-ok
 returns-in-V4-clause-ok c =
@@ -20,8 +24,11 @@ returns-in-V4-clause-ok c =
 
 pub returns-in-V6-clause-new : goal.returns-in-V6-clause-new
 returns-in-V6-clause-new c =
-    subst (λ b. IfOk c.insert-in-V6.result (λ is_new. is_new ≡ not b))
-    (contains-in_six c.args.self.now c.args.vrp (tree c.self.inside.four) (tree c.self.inside.six) c.self.view_is c.self.invariant.0 c.self.invariant.1 c.in-V6.is) c.insert-in-V6.ensures.new
+    subst (λ b. IfOk c.insert-in-V6.result (λ is_new. is_new ≡ not b)) (contains-in_six c.args.self.now c.args.vrp (tree c.self.inside.four) (tree c.self.inside.six) c.self.view_is c.self.invariant.0 c.self.invariant.1 c.in-V6.is) c.insert-in-V6.ensures.new
+
+pub returns-in-V6-clause-absent : goal.returns-in-V6-clause-absent
+returns-in-V6-clause-absent c =
+    subst (λ b. OnErr c.insert-in-V6.result (b ≡ false)) (contains-in_six c.args.self.now c.args.vrp (tree c.self.inside.four) (tree c.self.inside.six) c.self.view_is c.self.invariant.0 c.self.invariant.1 c.in-V6.is) c.insert-in-V6.ensures.absent
 
 pub returns-in-V6-clause-ok : goal.returns-in-V6-clause-ok
 returns-in-V6-clause-ok c =
