@@ -13,6 +13,9 @@ use Rattle.slurm.specs.declared.filter.Filter.{Filter}
 use Rattle.slurm.specs.declared.filter.Filter.TheVariants.{Under, By, Both}
 use Rattle.slurm.specs.declared.set.NamedSlurm.{NamedSlurm}
 use Rattle.registry.specs.declared.limits.TheConstants.{LAST_NUMBER}
+use Rattle.registry.specs.declared.asked.Asked.{Asked}
+use Rattle.registry.specs.declared.asked.Request.{Request}
+use Rattle.registry.specs.declared.asked.Request.TheVariants.{Command as CommandRequest, Query as QueryRequest}
 use Rattle.registry.specs.declared.authorization.Auth.{Auth}
 use Rattle.registry.specs.declared.authorization.AuthTerms.{AuthTerms}
 use Rattle.registry.specs.declared.authorization.ImportRow.{ImportRow}
@@ -93,6 +96,16 @@ pub record EntryFits (e : Entry) : Type 0 where
   pub day : IsDay e.day
   pub caller : IsTrue (is_name e.caller)
   pub command : CommandFits e.command
+
+-- a query changes nothing, so its values do not matter
+abbrev pub RequestFits : ℕ → List ℕ → Request → Type 0
+RequestFits day caller (CommandRequest command) =
+    EntryFits (record { day = day; caller = caller; command = command })
+RequestFits day caller (QueryRequest query) = ⊤
+
+-- the values of a request that may be added to a history are those of their types
+abbrev pub AskedFits : Asked → Type 0
+AskedFits asked = RequestFits asked.day asked.caller asked.request
 
 abbrev pub HistoryFits : History → Type 0
 HistoryFits [] = Unit {0}

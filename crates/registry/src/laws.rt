@@ -1,17 +1,17 @@
-//! Theorems, stated as contracts of functions. `entry_fits` and `operators_fit` are about their
-//! arguments, which they read for the proof alone; the other bodies are empty.
+//! Theorems, stated as contracts of functions. Those whose names end in `fits` or `fit` are about
+//! their arguments, which they read for the proof alone; the other bodies are empty.
 
-ghost use Rattle.std.specs.Prelude.{◌≡◌, IsTrue};
+ghost use Rattle.std.specs.Prelude.{◌≡◌, All, IsTrue};
 ghost use Rattle.std.specs.List.{AllByRecursion};
 ghost use Rattle.addr.specs.Name.{is_name};
 ghost use Rattle.charters.specs.Charter.{operators_of};
 ghost use Rattle.registry.specs.declared.limits.TheConstants.{MOST_GRANTS, MOST_AUTHORIZATIONS, LAST_NUMBER};
 ghost use Rattle.registry.specs.declared.roa_prefixes.TheConstants.{MOST_ENTRIES};
 ghost use Rattle.registry.specs.Unregistered.{UnregisteredHaveNothing};
-ghost use Rattle.registry.specs.Values.{EntryFits};
+ghost use Rattle.registry.specs.Values.{AskedFits, EntryFits};
 
 use crate::values::{command_fits, day_fits, name_fits, names_fit};
-use crate::{Charter, Command};
+use crate::{Asked, Charter, Command, Request};
 use addr::{Day, Name};
 
 /// A holder that is not registered in a legal history has no address, no grant and no
@@ -27,6 +27,24 @@ pub fn entry_fits(day: Day, caller: &Name, command: &Command)
     day_fits(day);
     name_fits(caller);
     command_fits(command);
+}
+
+/// The values of a request are those of their types.
+pub fn asked_fits(asked: &Asked)
+    ensures { AskedFits asked.now }
+{
+    if let Request::Command(command) = &asked.request {
+        entry_fits(asked.day, &asked.caller, command);
+    }
+}
+
+/// The values of each request of the list are those of their types.
+pub fn all_asked_fit(list: &[Asked])
+    ensures { All AskedFits list.now }
+{
+    for asked in list {
+        asked_fits(asked);
+    }
 }
 
 /// The operators of a charter are names.

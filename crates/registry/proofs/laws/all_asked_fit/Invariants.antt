@@ -1,0 +1,6 @@
+use Rattle.std.proofs.Common.{All, take}
+use Rattle.registry.specs.Values.{AskedFits}
+use Rattle.registry.proofs.laws.all_asked_fit.Given as goal
+
+abbrev pub invariant-loop-asked : goal.invariant-loop-asked
+invariant-loop-asked l = All AskedFits (take l.asked-index l.list)
