@@ -1,23 +1,30 @@
 -- What a desk holds that was opened over what a stop left.
-use Rattle.std.proofs.Common.{inl, inr, List, [], refl, subst, sym}
+use Rattle.std.proofs.Common.{All, ℕ, inl, inr, List, [], ◌∷◌, refl, subst, sym}
+use Rattle.std.proofs.lemmas.List.Elements.{All-cons, All-contains, All-head, All-nil, All-tail}
 use Rattle.sqlite.specs.Effect.{IsDatabase}
 use Rattle.sqlite.specs.State.{State, IsLive}
 use Rattle.sqlite.specs.Store.{Ghosts}
 use Rattle.sqlite_trees.specs.Tree.{Trees}
 use Rattle.charters.specs.CharterSets.{IsCharter}
 use Rattle.charters.specs.declared.charter.Charter.{Charter}
-use Rattle.histories.specs.Growth.{GrowthIsLegal}
+use Rattle.histories.specs.Growth.{GrowthFits, GrowthIsLegal}
 use Rattle.registry.specs.History.{History}
+use Rattle.registry.specs.Values.{AskedFits, HistoryFits, RequestFits}
 use Rattle.registry.specs.Verdict.{IsLegal}
 use Rattle.registry.specs.declared.asked.Asked.{Asked}
+use Rattle.registry.specs.declared.asked.Request.{Request}
+use Rattle.registry.specs.declared.asked.Request.TheVariants.{Command as CommandRequest, Query as QueryRequest}
 use Rattle.database.specs.Opening.{IsOfAnotherSchema}
 use Rattle.database.specs.Laws.{DeskTreesHaveTables, OldDeskTreesHaveSchema}
 use Rattle.store.specs.Laws.{HistoriesRead, OldHistoriesRead, OldTablesThatReadAreOurs, TablesThatReadAreOurs}
 use Rattle.store.specs.StoreRows.{IsOpened}
-use Rattle.desk.specs.CrashOutcomes.{HasNonePending, HoldDesk, LeavesAtMost, MayBeLeft}
+use Rattle.desk.specs.Answer.{AnswersRequest}
+use Rattle.desk.specs.CrashOutcomes.{pending_after, pending_after_all, HasNonePending, HoldDesk, LeavesAtMost, MayBeLeft}
 use Rattle.desk.specs.Desk.{store_of, ContinuesHistories, Represents}
-use Rattle.desk.specs.Resumed.{FindsLeft, HoldHistory, HoldOldDesk, IsAtMostOneMore, MayBeFound, MayBeLeftInEitherSchema, ResumesHistories}
+use Rattle.desk.specs.Resumed.{FindsLeft, HoldHistory, HoldOldDesk, IsAtMostOneMore, MayBeFound, MayBeLeftInEitherSchema, PendingFits, ResumesHistories}
 use Rattle.desk.specs.declared.desk.Desk.{Desk}
+use Rattle.desk.specs.declared.reply.Reply.{Reply}
+use Rattle.desk.specs.declared.reply.Reply.TheVariants.{Done, Imported, Denied, Unavailable}
 use Rattle.desk.proofs.HolderLemmas.{legal_after}
 
 -- what a crash of a desk may leave may be found
@@ -33,6 +40,44 @@ legal_more : GrowthIsLegal → (charter : Charter) (before : History) (pending :
 legal_more grown charter before pending after legal (inl same) = subst (λ (h : History). IsLegal charter h) (sym same) legal
 legal_more grown charter before pending after legal (inr (asked, among, accepted)) =
     legal_after grown charter before asked.day asked.caller asked.request accepted.0 after legal accepted.2
+
+-- ---- values
+
+-- an answered request leaves values of their types
+fits_after : GrowthFits → (charter : Charter) (before : History) (day : ℕ) (caller : List ℕ) (request : Request) (reply : Reply) (after : History)
+    → HistoryFits before → RequestFits day caller request → AnswersRequest charter before day caller request reply after → HistoryFits after
+fits_after grown charter before day caller (CommandRequest command) (Done number) after fits asked answers = grown charter before day caller command after asked fits answers.1
+fits_after grown charter before day caller (CommandRequest command) (Imported made present) after fits asked answers = grown charter before day caller command after asked fits answers.0
+fits_after grown charter before day caller (CommandRequest command) (Denied rule row) after fits asked answers = subst HistoryFits (sym answers.1) fits
+fits_after grown charter before day caller (CommandRequest command) Unavailable after fits asked answers = subst HistoryFits (sym answers) fits
+fits_after grown charter before day caller (CommandRequest command) reply after fits asked answers = absurd answers
+fits_after grown charter before day caller (QueryRequest query) reply after fits asked answers = subst HistoryFits (sym answers.1) fits
+
+-- so do a history and one of the pending requests
+pub pending_fits : GrowthFits → PendingFits
+pending_fits grown charter before pending after fits each (inl same) = subst HistoryFits (sym same) fits
+pending_fits grown charter before pending after fits each (inr (asked, among, accepted)) =
+    fits_after grown charter before asked.day asked.caller asked.request accepted.0 after fits
+    (All-contains AskedFits pending asked each among) accepted.2
+
+-- what is pending after a request fits where that request and what was pending did
+pub pending_after_fits : (asked : Asked) (reply : Reply) (pending : List Asked) → AskedFits asked → All AskedFits pending
+    → All AskedFits (pending_after asked reply pending)
+pending_after_fits asked (Done number) pending one each = All-nil AskedFits
+pending_after_fits asked (Imported made present) pending one each = All-nil AskedFits
+pending_after_fits asked Unavailable pending one each = All-cons AskedFits asked pending one each
+pending_after_fits asked other pending one each = each
+
+-- and after some requests
+pub pending_after_all_fits : (asked : List Asked) (replies : List Reply) (pending : List Asked) → All AskedFits asked → All AskedFits pending
+    → All AskedFits (pending_after_all asked replies pending)
+pending_after_all_fits (asked ∷ more) (reply ∷ replies) pending all each =
+    pending_after_all_fits more replies (pending_after asked reply pending) (All-tail AskedFits asked more all)
+    (pending_after_fits asked reply pending (All-head AskedFits asked more all) each)
+pending_after_all_fits [] replies pending all each = each
+pending_after_all_fits (asked ∷ more) [] pending all each = each
+
+-- ---- histories
 
 module _ {S : Type 0} (g : Ghosts S) where
   -- what an opened desk holds is all that a crash leaves

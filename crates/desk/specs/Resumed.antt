@@ -1,5 +1,5 @@
 -- What a desk holds that was opened over what a stop left.
-use Rattle.std.specs.Prelude.{◌≡◌, ◌⊎◌, List, [], Contains, IsTrue}
+use Rattle.std.specs.Prelude.{◌≡◌, ◌⊎◌, All, List, [], Contains, IsTrue}
 use Rattle.std.specs.List.{AllByRecursion}
 use Rattle.sqlite.specs.State.{State}
 use Rattle.sqlite.specs.Store.{Ghosts}
@@ -9,7 +9,7 @@ use Rattle.charters.specs.CharterSets.{IsCharter}
 use Rattle.charters.specs.declared.charter.Charter.{Charter}
 use Rattle.registry.specs.History.{History}
 use Rattle.registry.specs.RowsOfAll.{AllRows, HasRows}
-use Rattle.registry.specs.Values.{HistoryFits}
+use Rattle.registry.specs.Values.{AskedFits, HistoryFits}
 use Rattle.registry.specs.Verdict.{IsLegal}
 use Rattle.registry.specs.declared.asked.Asked.{Asked}
 use Rattle.moving.specs.EitherSchema.{EitherSchemaHolds}
@@ -24,6 +24,13 @@ abbrev pub IsAtMostOneMore : Charter → History → List Asked → History → 
 IsAtMostOneMore charter before pending after =
     (after ≡ before)
     ⊎ ((asked : Asked) × Contains pending asked × IsAcceptedOn charter before asked after)
+
+-- its values are those of their types where those of the history and of the pending requests are
+abbrev pub PendingFits : Type 0
+PendingFits =
+    (charter : Charter) (before : History) (pending : List Asked) (after : History)
+    → HistoryFits before → All AskedFits pending → IsAtMostOneMore charter before pending after
+    → HistoryFits after
 
 -- The desk has the history before, or that history with one of the pending requests accepted. A crash leaves what the
 -- desk has and nothing else, so no request is pending any more.

@@ -1,6 +1,7 @@
 //! Theorems, stated as contracts of functions whose bodies at most call other theorems.
 
 ghost use Rattle.desk.specs.HolderAnswers.{AnswersByEntries};
+ghost use Rattle.desk.specs.Resumed.{PendingFits};
 
 pub use isolation::laws::{again, import_again, parts};
 
@@ -15,4 +16,12 @@ pub(crate) fn answers_by_entries()
     isolation::laws::queries_by_entries();
     isolation::laws::imports_by_entries();
     isolation::laws::hypothetical_by_entries();
+}
+
+/// Where the values of a history and of the pending requests are those of their types, so are those
+/// of the history with one of these requests.
+pub fn pending_fits()
+    ensures { PendingFits }
+{
+    histories::laws::growth_fits();
 }
