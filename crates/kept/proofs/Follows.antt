@@ -1,5 +1,6 @@
 -- A day that is kept follows an edit of a holder's rows.
-use Rattle.std.proofs.Common.{◌≡◌, ℕ, ◌≤◌, Bool, true, false, ◌↔◌, ◌⊎◌, inl, inr, List, [], ◌∷◌, ◌++◌, ap, ◌∙◌, Contains, cond}
+use Rattle.std.proofs.Common.{◌≡◌, ℕ, ◌≤◌, Bool, true, false, ◌↔◌, ◌⊎◌, inl, inr, List, [], ◌∷◌, ◌++◌, ap, ◌∙◌, subst, Contains, cond}
+use Rattle.std.specs.Prelude.{Any}
 use Rattle.std.proofs.lemmas.List.{append-nil}
 use Rattle.std.proofs.lemmas.List.Elements.{filter-append}
 use Rattle.addr.specs.declared.asn.Asn.{Asn}
@@ -12,7 +13,9 @@ use Rattle.registry.specs.Terms.{IsVrpOfEntry}
 use Rattle.registry.specs.declared.authorization.Auth.{Auth}
 use Rattle.registry.specs.declared.authorization.RoaPrefix.{RoaPrefix}
 use Rattle.registry.specs.declared.change.Edit.{Edit}
-use Rattle.kept.specs.Changes.{AreExchanged, AreJoined, IsJoined, IsSpared, IsWithSame}
+use Rattle.slurm.specs.Filter.{FilterMatches}
+use Rattle.slurm.specs.declared.filter.Filter.{Filter}
+use Rattle.kept.specs.Changes.{AreExchanged, AreJoined, IsAdded, IsJoined, IsSpared, IsWithSame}
 use Rattle.kept.specs.Giving.{AreGivingOn, GivesOn}
 use Rattle.kept.specs.KeptDay.{exceptions_of, IsKept, KeptDay}
 use Rattle.kept.specs.steps.Entries.{IsJoinedBy, IsLeftWithout, IsVrpOfSome}
@@ -79,6 +82,12 @@ same_then old mid new one other = record {
   filters = other.filters ∙ one.filters;
   asserted = other.asserted ∙ one.asserted;
 }
+
+-- one that was put in after others was not there before them
+pub added_since : (old mid : KeptDay) (P Q : Vrp → Type 0) (v : Vrp) → IsWithSame old mid → (Contains (set.items old.vrps) v → Contains (set.items mid.vrps) v)
+    → (P v → Q v) → IsAdded mid P v → IsAdded old Q v
+added_since old mid P Q v same stays to added =
+    (to added.0, subst (λ (filters : List Filter). ¬ Any (λ f. FilterMatches f v) filters) same.filters added.1, λ there. added.2 (stays there))
 
 -- ---- some end
 

@@ -37,6 +37,12 @@ AreJoined kept auths v =
     Contains (set.items kept.vrps) v
     ⊎ (AreGivingOn auths kept.day v × ¬ Any (λ filter. FilterMatches filter v) kept.filters)
 
+-- it is one of these, no filter matches it, and it was not there
+abbrev pub IsAdded : KeptDay → (Vrp → Type 0) → Vrp → Type 0
+IsAdded kept These v =
+    These v × (¬ Any (λ filter. FilterMatches filter v) kept.filters)
+    × ¬ Contains (set.items kept.vrps) v
+
 -- it was there, and no authorization that ends gives it on the day, or it is asserted; or one that
 -- begins gives it on the day and no filter matches it
 abbrev pub AreExchanged : KeptDay → List Auth → List Auth → Vrp → Type 0

@@ -1,5 +1,5 @@
 //! VRPs with the length of their CSV, which is counted once.
-ghost use Rattle.std.specs.Prelude.{◌≡◌, OnOk};
+ghost use Rattle.std.specs.Prelude.{◌≡◌, false, OnErr, OnOk};
 ghost use Rattle.payload.specs.VrpSet as set;
 ghost use Rattle.kept.specs.CsvLength.{IsCsvLength};
 ghost use Rattle.kept.specs.steps.Counting.{counted_none, counted_then, HasCounted};
@@ -71,6 +71,7 @@ impl CountedVrps {
 
     pub(crate) fn insert(&mut self, vrp: Vrp) -> Result<(), AllocError>
         ensures ok { OnOk result (self.new ≡ set.insert self.old vrp) }
+        ensures absent { OnErr result (set.contains self.old vrp ≡ false) }
     {
         self.csv_length = None;
         self.vrps.insert(vrp)?;

@@ -4,7 +4,7 @@ ghost use Rattle.addr.specs.declared.vrp.Vrp.{Vrp};
 ghost use Rattle.payload.specs.VrpSet as set;
 ghost use Rattle.registry.specs.Edits.{begun, ended};
 ghost use Rattle.registry.specs.Terms.{IsVrpOfEntry};
-ghost use Rattle.kept.specs.Changes.{AreJoined, IsJoined, IsLeft, IsSpared, IsWithSame};
+ghost use Rattle.kept.specs.Changes.{AreJoined, IsAdded, IsJoined, IsLeft, IsSpared, IsWithSame};
 ghost use Rattle.kept.specs.Giving.{AreGivingOn, GivesOn};
 ghost use Rattle.kept.specs.KeptDay.{HasExceptions, IsKept};
 ghost use Rattle.kept.specs.steps.Entries.{IsJoinedBy, IsLeftWithout, IsVrpOfSome};
@@ -127,7 +127,8 @@ impl Kept {
     pub fn begin(&mut self, auth: &Auth) -> Result<(), AllocError>
         ensures ok { OnOk result ((v : Vrp)
             → Contains (set.items self.new.vrps) v ↔ IsJoined self.old auth.now v) }
-        ensures err { OnErr result ((v : Vrp) × GivesOn auth.now self.old.day v) }
+        ensures err { OnErr result ((v : Vrp)
+            × IsAdded self.old (GivesOn auth.now self.old.day) v) }
         ensures same { IsWithSame self.old self.new }
     {
         if auth.is_in_force(self.day) {
@@ -136,15 +137,15 @@ impl Kept {
         Ok(())
     }
 
-    /// Follows an edit of the rows of a holder that has these authorizations. Only what begins
-    /// allocates; where that fails, the VRPs are of no day any more. What ends and begins again, as
+    /// Follows an edit of the rows of a holder that has these authorizations. Only a VRP that is put
+    /// in allocates; where that fails, the VRPs are of no day any more. What ends and begins again, as
     /// in an amendment, stays in its place.
     pub fn follow(&mut self, edit: &Edit, auths: &[Auth]) -> Result<(), AllocError>
         ensures ok { OnOk result ((v : Vrp) → Contains (set.items self.new.vrps) v
             ↔ (AreJoined self.old (begun edit.now auths.now) v
             × IsSpared self.old (ended edit.now auths.now) (begun edit.now auths.now) v)) }
         ensures err { OnErr result ((v : Vrp)
-            × AreGivingOn (begun edit.now auths.now) self.old.day v) }
+            × IsAdded self.old (AreGivingOn (begun edit.now auths.now) self.old.day) v) }
         ensures same { IsWithSame self.old self.new }
     {
         let begun = edit.begun(auths);
@@ -156,7 +157,8 @@ impl Kept {
     fn begin_all(&mut self, auths: &[Auth]) -> Result<(), AllocError>
         ensures ok { OnOk result ((v : Vrp)
             → Contains (set.items self.new.vrps) v ↔ AreJoined self.old auths.now v) }
-        ensures err { OnErr result ((v : Vrp) × AreGivingOn auths.now self.old.day v) }
+        ensures err { OnErr result ((v : Vrp)
+            × IsAdded self.old (AreGivingOn auths.now self.old.day) v) }
         ensures same { IsWithSame self.old self.new }
     {
         for auth in auths {
@@ -225,7 +227,8 @@ impl Kept {
     fn begin_entries(&mut self, entries: &[RoaPrefix], asn: Asn) -> Result<(), AllocError>
         ensures ok { OnOk result ((v : Vrp) → Contains (set.items self.new.vrps) v
             ↔ IsJoinedBy self.old (IsVrpOfSome entries.now asn) v) }
-        ensures err { OnErr result ((v : Vrp) × IsVrpOfSome entries.now asn v) }
+        ensures err { OnErr result ((v : Vrp)
+            × IsAdded self.old (IsVrpOfSome entries.now asn) v) }
         ensures same { IsWithSame self.old self.new }
     {
         for entry in entries {
@@ -238,7 +241,8 @@ impl Kept {
     fn begin_entry(&mut self, entry: &RoaPrefix, asn: Asn) -> Result<(), AllocError>
         ensures ok { OnOk result ((v : Vrp) → Contains (set.items self.new.vrps) v
             ↔ IsJoinedBy self.old (IsVrpOfEntry entry.now asn) v) }
-        ensures err { OnErr result ((v : Vrp) × IsVrpOfEntry entry.now asn v) }
+        ensures err { OnErr result ((v : Vrp)
+            × IsAdded self.old (IsVrpOfEntry entry.now asn) v) }
         ensures same { IsWithSame self.old self.new }
     {
         if let Some(vrp) = entry.vrp(asn) {

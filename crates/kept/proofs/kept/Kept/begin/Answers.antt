@@ -12,5 +12,5 @@ returns-in_err-begin_entries-clause-err c =
     let some = rw c.as_slice.ensures.items at c.in_err-begin_entries.ensures.err in
     on-err c.from_residual.result _ (
       some.0,
-      (in_force_gives c.args.auth.now c.args.self.now.day (rw (← c.self.view_is) (c.is_in_force.ensures.0 c.if-is_in_force.true)) some.0).0 some.1,
+      ((in_force_gives c.args.auth.now c.args.self.now.day (rw (← c.self.view_is) (c.is_in_force.ensures.0 c.if-is_in_force.true)) some.0).0 some.1.0, some.1.1, some.1.2),
     )

@@ -1,8 +1,8 @@
-use Rattle.std.proofs.Common.{◌≡◌, ℕ, ◌+◌, ◌∷◌, ◌++◌, [], take, take_all, subst, sym, ap, ◌∙◌, arith, refl}
+use Rattle.std.proofs.Common.{◌≡◌, ℕ, ◌+◌, ◌∷◌, ◌++◌, [], inl, take, take_all, subst, sym, ap, ◌∙◌, arith, refl}
 use Rattle.std.proofs.lemmas.List.{take_more}
-use Rattle.kept.specs.Giving.{GivesOn}
+use Rattle.kept.specs.Giving.{AreGivingOn, GivesOn}
 use Rattle.payload.proofs.Visits.{on-err}
-use Rattle.kept.proofs.Follows.{more_joined, none_joined, same_then}
+use Rattle.kept.proofs.Follows.{added_since, more_joined, none_joined, same_then}
 use Rattle.kept.proofs.kept.Kept.begin_all.Goals as goal
 
 pub loop-auth-init : goal.loop-auth-init
@@ -29,5 +29,11 @@ returns-clause-ok c = rw (take_all c.loop-auth.auth-index c.args.auths.now (omeg
 pub returns-in_err-begin-clause-err : goal.returns-in_err-begin-clause-err
 returns-in_err-begin-clause-err c =
     let some = c.in_err-begin.ensures.err in
-    let on : GivesOn c.auth-item.result c.args.self.now.day some.0 = subst (λ (day : ℕ). GivesOn c.auth-item.result day some.0) c.loop-auth.invariant.same.day some.1 in
-    on-err c.from_residual.result _ (some.0, (c.auth-item.result, (c.loop-auth.auth-index, c.loop-auth-test.true, sym c.auth-item.is), on))
+    let on : GivesOn c.auth-item.result c.loop-auth.self.day some.0 → GivesOn c.auth-item.result c.args.self.now.day some.0 =
+    subst (λ (day : ℕ). GivesOn c.auth-item.result day some.0) c.loop-auth.invariant.same.day in
+    on-err c.from_residual.result _ (
+      some.0,
+      added_since c.args.self.now c.loop-auth.self (GivesOn c.auth-item.result c.loop-auth.self.day) (AreGivingOn c.args.auths.now c.args.self.now.day) some.0 c.loop-auth.invariant.same
+          (λ there. (c.loop-auth.invariant.joined some.0).1 (inl there))
+          (λ is. (c.auth-item.result, (c.loop-auth.auth-index, c.loop-auth-test.true, sym c.auth-item.is), on is)) some.1,
+    )

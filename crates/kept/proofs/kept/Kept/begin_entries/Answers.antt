@@ -1,6 +1,8 @@
-use Rattle.std.proofs.Common.{◌≡◌, ◌+◌, ◌∷◌, ◌++◌, [], take, take_all, sym, ap, ◌∙◌, arith, refl}
+use Rattle.std.proofs.Common.{◌≡◌, ◌+◌, ◌∷◌, ◌++◌, [], inl, take, take_all, sym, ap, ◌∙◌, arith, refl}
 use Rattle.std.proofs.lemmas.List.{take_more}
-use Rattle.kept.proofs.Follows.{entry_joined, no_entry_joined, same_then}
+use Rattle.registry.specs.Terms.{IsVrpOfEntry}
+use Rattle.kept.specs.steps.Entries.{IsVrpOfSome}
+use Rattle.kept.proofs.Follows.{added_since, entry_joined, no_entry_joined, same_then}
 use Rattle.payload.proofs.Visits.{on-err}
 use Rattle.kept.proofs.kept.Kept.begin_entries.Goals as goal
 
@@ -25,8 +27,12 @@ loop-entry-preserved c =
 pub returns-in_err-begin_entry-clause-err : goal.returns-in_err-begin_entry-clause-err
 returns-in_err-begin_entry-clause-err c =
     let some = c.in_err-begin_entry.ensures.err in
-    on-err c.from_residual.result _
-    (some.0, (c.entry-item.result, (c.loop-entry.entry-index, c.loop-entry-test.true, sym c.entry-item.is), some.1))
+    on-err c.from_residual.result _ (
+      some.0,
+      added_since c.args.self.now c.loop-entry.self (IsVrpOfEntry c.entry-item.result c.args.asn) (IsVrpOfSome c.args.entries.now c.args.asn) some.0 c.loop-entry.invariant.same
+          (λ there. (c.loop-entry.invariant.joined some.0).1 (inl there))
+          (λ is. (c.entry-item.result, (c.loop-entry.entry-index, c.loop-entry-test.true, sym c.entry-item.is), is)) some.1,
+    )
 
 pub returns-clause-ok : goal.returns-clause-ok
 returns-clause-ok c = rw (take_all c.loop-entry.entry-index c.args.entries.now (omega (arith, c.loop-entry-test.false))) at c.loop-entry.invariant.joined

@@ -2,6 +2,7 @@ use Rattle.std.proofs.Common.{sym, ◌∙◌}
 use Rattle.std.proofs.lemmas.Bool.{true≢false}
 use Rattle.kept.specs.KeptDay.{KeptDay}
 use Rattle.kept.proofs.Keeps.{filtered_joined, inserted_joined}
+use Rattle.kept.proofs.VrpSets.{not_in_set}
 use Rattle.payload.proofs.Visits.{on-err}
 use Rattle.kept.proofs.kept.Kept.begin_entry.Goals as goal
 
@@ -12,7 +13,15 @@ returns-in_ok-insert-clause-ok c =
     (inserted_joined day c.args.entry.now c.args.asn c.in-Some.vrp c.in-Some.ensures.value (λ some. true≢false (sym (c.matches.ensures.some.1 some) ∙ c.if-not-matches.true)))
 
 pub returns-in_err-insert-clause-err : goal.returns-in_err-insert-clause-err
-returns-in_err-insert-clause-err c = on-err c.from_residual.result _ (c.in-Some.vrp, c.in-Some.ensures.value)
+returns-in_err-insert-clause-err c =
+    on-err c.from_residual.result _ (
+      c.in-Some.vrp,
+      rw (← c.self.view_is) (
+        c.in-Some.ensures.value,
+        λ some. true≢false (sym (c.matches.ensures.some.1 some) ∙ c.if-not-matches.true),
+        not_in_set c.self.inside.vrps c.in-Some.vrp c.in_err-insert.ensures.absent,
+      ),
+    )
 
 pub returns-else-not-matches-clause-ok : goal.returns-else-not-matches-clause-ok
 returns-else-not-matches-clause-ok c =
