@@ -1,7 +1,6 @@
 -- What connections leave of the files of a desk.
-use Rattle.std.proofs.Common.{◌≡◌, List, [], Option, Some, None, Result, Ok, Err, IfOk, IfSome, ℕ, subst, sym}
+use Rattle.std.proofs.Common.{◌≡◌, Bool, List, [], Option, Some, None, Result, Ok, Err, IfErr, ℕ, subst, sym}
 use Rattle.std.proofs.lemmas.List.{append-nil}
-use Rattle.std.specs.Result.{result_ok}
 use Rattle.sqlite.specs.Files.{over_files}
 use Rattle.sqlite_disk.specs.declared.Disk.{Ghosts}
 use Rattle.sqlite_disk.specs.declared.Files.{Files}
@@ -13,7 +12,7 @@ use Rattle.desk.specs.Desk.{charter_of, HoldsHistory, IsOnCleanDisk, Represents}
 use Rattle.desk.specs.declared.desk.Desk.{Desk}
 use Rattle.desk_files.specs.DeskFiles.{KeepDesk, ResumesFiles}
 use Rattle.tasks.specs.Connections.{Accepts}
-use Rattle.tasks.specs.ServedFiles.{IfClosed, KeepsFiles}
+use Rattle.tasks.specs.ServedFiles.{IfClosed, IfNotBind, IsCauseOf, IsLateCause, KeepsFiles}
 use Rattle.tasks.specs.ServedHistories.{KeepServed}
 use Rattle.tasks.specs.Serving.{AnswersInTurn, Serves, Transcript}
 use Rattle.tasks.specs.declared.serve_desk.ServeFault.{ServeFault}
@@ -36,15 +35,6 @@ keep_served g day passed old new files in_turn clean keeps charter history is =
       kept = subst (λ held. KeepDesk g held it.0 files) it.1.chartered (keeps it.0 it.1.rows);
     }
 
--- what is found of files that were closed, if they were, holds of them
-pub where_closed : {T E : Type 0} (closed : Result T E) (found : Option T) (P : T → Type 0) → found ≡ result_ok closed
-    → IfOk closed P → IfSome found P
-where_closed {T} {E} closed found P is holds = subst (λ (some : Option T). IfSome some P) (sym is) (go closed holds)
-  where
-    go : (result : Result T E) → IfOk result P → IfSome (result_ok result) P
-    go (Ok files) holds = holds
-    go (Err fault) holds = tt
-
 -- with the desk that was opened in files, what connections make of it is what they make of the files
 pub keeps_files : {D : Type 0} (g : Ghosts D) (image : Image) (day : ℕ) (passed : List Transcript) (desk : Desk (FileStore D g))
     (files : Files D) → ResumesFiles image desk
@@ -60,11 +50,28 @@ pub if_closed : {D : Type 0} {g : Ghosts D} (result : Result (Files D) (ServeFau
     → ((files : Files D) → P files → Q files → R files) → IfClosed result P → IfClosed result Q → IfClosed result R
 if_closed (Ok files) P Q R both p q = both files p q
 if_closed (Err (Open fault)) P Q R both p q = tt
-if_closed (Err (Bind fault None)) P Q R both p q = tt
-if_closed (Err (Bind fault (Some files))) P Q R both p q = both files p q
-if_closed (Err (Accept None)) P Q R both p q = tt
-if_closed (Err (Accept (Some files))) P Q R both p q = both files p q
-if_closed (Err Close) P Q R both p q = tt
+if_closed (Err (Bind fault (Ok files))) P Q R both p q = both files p q
+if_closed (Err (Bind fault (Err store))) P Q R both p q = tt
+if_closed (Err (Accept (Ok files))) P Q R both p q = both files p q
+if_closed (Err (Accept (Err store))) P Q R both p q = tt
+if_closed (Err (Close store)) P Q R both p q = tt
+
+-- the later causes are causes
+pub late_cause : {D : Type 0} {g : Ghosts D} (image : Image) (cannot_listen not_accepted : Bool) (fault : ServeFault D g)
+    → IsLateCause not_accepted fault → IsCauseOf image cannot_listen not_accepted fault
+late_cause image cannot_listen not_accepted (Open fault) late = absurd late
+late_cause image cannot_listen not_accepted (Bind fault closed) late = absurd late
+late_cause image cannot_listen not_accepted (Accept closed) late = late
+late_cause image cannot_listen not_accepted (Close store) late = tt
+
+-- and none of them is that listening failed
+pub late_not_bind : {D : Type 0} {g : Ghosts D} (not_accepted : Bool) (result : Result (Files D) (ServeFault D g)) (P : Type 0)
+    → IfErr result (IsLateCause not_accepted) → P → IfNotBind result P
+late_not_bind not_accepted (Ok files) P late holds = holds
+late_not_bind not_accepted (Err (Open fault)) P late holds = absurd late
+late_not_bind not_accepted (Err (Bind fault closed)) P late holds = absurd late
+late_not_bind not_accepted (Err (Accept closed)) P late holds = holds
+late_not_bind not_accepted (Err (Close store)) P late holds = holds
 
 -- known connections are as they were
 pub accepts_none : (known : Option (List Transcript)) → Accepts known known []

@@ -21,12 +21,13 @@ abbrev pub fault_of_store : StoreFault → ProgramFault
 fault_of_store store.Database = Database
 fault_of_store store.Schema = Schema
 
-abbrev pub fault_of_open : {S : Type 0} → OpenFault S → ProgramFault
-fault_of_open (opening.File fault) = fault
-fault_of_open (opening.Store fault conn) = fault_of_store fault
+abbrev pub fault_of_open : {D : Type 0} {g : Ghosts D} → OpenFault D g → ProgramFault
+fault_of_open (opening.Path fault) = fault
+fault_of_open (opening.File fault rest) = fault
+fault_of_open (opening.Store fault files) = fault_of_store fault
 
 abbrev pub fault_of_serve : {D : Type 0} {g : Ghosts D} → ServeFault D g → ProgramFault
 fault_of_serve (serving.Open fault) = fault_of_open fault
 fault_of_serve (serving.Bind fault closed) = fault
 fault_of_serve (serving.Accept closed) = Socket
-fault_of_serve serving.Close = Database
+fault_of_serve (serving.Close store) = Database

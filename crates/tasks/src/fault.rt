@@ -6,7 +6,6 @@ ghost use Rattle.tasks.specs.TaskFaults.{fault_of_open, fault_of_script, fault_o
 use crate::serve_desk::ServeFault;
 use command_line::ProgramFault;
 use desk_files::OpenFault;
-use sqlite::Alter;
 use sqlite_disk::Disk;
 use std::io::{self, ErrorKind};
 use store::StoreFault;
@@ -33,11 +32,11 @@ pub fn fault_of_store(fault: StoreFault) -> ProgramFault
 }
 
 /// The program's fault if the desk in a file was not opened.
-pub fn fault_of_open<S: Alter>(fault: &OpenFault<S>) -> ProgramFault
+pub fn fault_of_open<D: Disk>(fault: &OpenFault<D>) -> ProgramFault
     ensures { result ≡ fault_of_open fault.now }
 {
     match fault {
-        OpenFault::File(fault) => *fault,
+        OpenFault::Path(fault) | OpenFault::File(fault, _) => *fault,
         OpenFault::Store(fault, _) => fault_of_store(*fault),
     }
 }
@@ -50,7 +49,7 @@ pub fn fault_of_serve<D: Disk>(fault: &ServeFault<D>) -> ProgramFault
         ServeFault::Open(fault) => fault_of_open(fault),
         ServeFault::Bind(fault, _) => *fault,
         ServeFault::Accept(_) => ProgramFault::Socket,
-        ServeFault::Close => ProgramFault::Database,
+        ServeFault::Close(_) => ProgramFault::Database,
     }
 }
 

@@ -66,7 +66,10 @@ fn run_init_task(rt: &HostRuntime, database: &str, charter: &str) -> Result<(), 
         None | Some(0) => {}
         Some(_) => return Err(ProgramFault::Exists),
     }
-    let conn = connect(rt, database, Unknown)?;
+    let conn = match connect(rt, database, Unknown) {
+        Ok(conn) => conn,
+        Err((fault, _)) => return Err(fault),
+    };
     make_desk(rt.alloc(), conn, &charter)?;
     Ok(())
 }

@@ -1,12 +1,12 @@
 //! The task `serve`: from the files of a desk to the files that it leaves.
-ghost use Rattle.std.specs.Prelude.{◌≡◌, ◌≤◌, ◌⊎◌, [], ℕ, List, Option, Some, length, IfErr, IsTrue, OnOk, true};
+ghost use Rattle.std.specs.Prelude.{◌≡◌, ◌≤◌, List, length, IfErr, IsTrue, OnOk};
 ghost use Rattle.sqlite.specs.Files.{image_of, over_files};
 ghost use Rattle.sqlite_wal.specs.Reads.{AreClean};
 ghost use Rattle.registry.specs.History.{History};
 ghost use Rattle.charters.specs.declared.charter.Charter as shown;
 ghost use Rattle.desk.specs.Desk.{IsOnCleanDisk, Represents};
 ghost use Rattle.tasks.specs.Connections.{Accepts, Logs};
-ghost use Rattle.tasks.specs.ServedFiles.{IfClosed, IfNotBind, IsCauseOf, KeepsFiles};
+ghost use Rattle.tasks.specs.ServedFiles.{IfClosed, IfNotBind, IsCauseOf, IsLateCause, KeepsFiles};
 ghost use Rattle.tasks.specs.ServedHistories.{KeepServed};
 ghost use Rattle.tasks.specs.Serving.{Transcript, fault_lines};
 
@@ -23,17 +23,17 @@ use std::alloc::Global;
 use web::Failed;
 
 /// Why `serve` ended early. If the desk was opened, its files were closed, or closing them failed
-/// too.
+/// too; what `close_desk` returned is here.
 #[derive(Drop)]
 pub enum ServeFault<D: Disk> {
     /// The desk was not opened.
-    Open(OpenFault<FileStore<D>>),
+    Open(OpenFault<D>),
     /// The socket was not bound.
-    Bind(ProgramFault, Option<Files<D>>),
+    Bind(ProgramFault, Result<Files<D>, FileStore<D>>),
     /// A connection could not be accepted.
-    Accept(Option<Files<D>>),
+    Accept(Result<Files<D>, FileStore<D>>),
     /// All connections were answered, but the files were not closed.
-    Close,
+    Close(FileStore<D>),
 }
 
 /// Opens the desk in the files, binds the socket, serves this many connections on this day, and
@@ -71,7 +71,7 @@ pub fn serve_files<D: Disk + Drop, C: Connections, L: Log>(
         Ok(()) => serve_desk(alloc, desk, connections, count, day, log),
         Err(error) => {
             let fault = fault_of_error(&error, ProgramFault::Socket);
-            Err(ServeFault::Bind(fault, close_desk(desk).ok()))
+            Err(ServeFault::Bind(fault, close_desk(desk)))
         }
     }
 }
@@ -96,16 +96,14 @@ pub fn serve_desk<D: Disk + Drop, C: Connections, L: Log>(
         × IfClosed result (λ files. AreClean D.Disk files.log files.db
         → (charter : shown.Charter) (history : History) → Represents over_files charter desk history
         → KeepServed D.Disk charter day passed history files) }
-    ensures err { IfErr result (λ fault. (fault ≡ ServeFault.Close)
-        ⊎ ((closed : Option (Files D)) × (fault ≡ ServeFault.Accept closed)
-        × (C.has_failed connections.new ≡ true))) }
+    ensures err { IfErr result (IsLateCause (C.has_failed connections.new)) }
     ensures listens { C.cannot_listen connections.new ≡ C.cannot_listen connections.old }
 {
     match serve_on(alloc, connections, count, &mut desk, day, log) {
         Ok(()) => match close_desk(desk) {
             Ok(files) => Ok(files),
-            Err(_) => Err(ServeFault::Close),
+            Err(store) => Err(ServeFault::Close(store)),
         },
-        Err(Failed) => Err(ServeFault::Accept(close_desk(desk).ok())),
+        Err(Failed) => Err(ServeFault::Accept(close_desk(desk))),
     }
 }

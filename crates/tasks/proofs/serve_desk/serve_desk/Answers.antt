@@ -1,6 +1,6 @@
 use Rattle.std.proofs.Common.{◌≡◌, OnOk, length, subst}
 use Rattle.tasks.proofs.HistoryLemmas.{at_most, if_ok_both}
-use Rattle.tasks.proofs.ServedFileLemmas.{keep_served, where_closed}
+use Rattle.tasks.proofs.ServedFileLemmas.{keep_served}
 use Rattle.tasks.proofs.serve_desk.serve_desk.Goals as goal
 
 pub returns-in-Ok-close_desk-clause-served : goal.returns-in-Ok-close_desk-clause-served
@@ -23,8 +23,7 @@ returns-in-Err-clause-served g c =
       tt,
       accepted,
       logged,
-      where_closed c.close_desk-in-Err.result c.ok.result _ c.ok.ensures.value
-          (if_ok_both c.close_desk-in-Err.result _ _ _ (λ files cleaned keeps clean.
+      if_ok_both c.close_desk-in-Err.result _ _ _ (λ files cleaned keeps clean.
           keep_served g.D.Disk c.args.day passed c.args.desk c.serve_on.new.desk files in_turn (cleaned clean) (keeps clean))
-          c.close_desk-in-Err.ensures.clean c.close_desk-in-Err.ensures.kept),
+          c.close_desk-in-Err.ensures.clean c.close_desk-in-Err.ensures.kept,
     )

@@ -1,8 +1,9 @@
-use Rattle.std.proofs.Common.{[], arith, refl}
+use Rattle.std.proofs.Common.{◌≡◌, ◌∙◌, [], OnOk, arith, refl, subst}
+use Rattle.std.proofs.lemmas.Result.{IfErr-weaker}
 use Rattle.sqlite.specs.Files.{image_of}
 use Rattle.tasks.proofs.ConnectionLemmas.{accepts-then, logs-none}
 use Rattle.tasks.proofs.HistoryLemmas.{if_ok_both}
-use Rattle.tasks.proofs.ServedFileLemmas.{if_closed, keep_served, keeps_files, where_closed}
+use Rattle.tasks.proofs.ServedFileLemmas.{if_closed, keep_served, keeps_files, late_cause, late_not_bind}
 use Rattle.tasks.proofs.serve_desk.serve_files.Goals as goal
 
 pub returns-in-Ok-listen-clause-served : goal.returns-in-Ok-listen-clause-served
@@ -27,10 +28,20 @@ returns-in-Err-listen-clause-served g c = (
   tt,
   c.listen.ensures.none,
   logs-none _ _,
-  where_closed c.close_desk.result c.ok.result _ c.ok.ensures.value
-      (if_ok_both c.close_desk.result _ _ _ (λ files cleaned keeps clean.
+  if_ok_both c.close_desk.result _ _ _ (λ files cleaned keeps clean.
       keeps_files g.D.Disk (image_of g.D.Disk c.args.files) c.args.day [] c.in-Ok.desk files
       (c.in-Ok.ensures.resumed (cleaned clean))
       (keep_served g.D.Disk c.args.day [] c.in-Ok.desk c.in-Ok.desk files refl (cleaned clean) (keeps clean)))
-      c.close_desk.ensures.clean c.close_desk.ensures.kept),
+      c.close_desk.ensures.clean c.close_desk.ensures.kept,
 )
+
+pub returns-in-Ok-listen-clause-err : goal.returns-in-Ok-listen-clause-err
+returns-in-Ok-listen-clause-err g c =
+    IfErr-weaker c.serve_desk.result _ _ (λ fault. late_cause (image_of g.D.Disk c.args.files) _ _ fault) c.serve_desk.ensures.err
+
+pub returns-in-Ok-listen-clause-listens : goal.returns-in-Ok-listen-clause-listens
+returns-in-Ok-listen-clause-listens g c =
+    let before = g.C.Connections.cannot_listen c.args.connections.now in
+    late_not_bind _ c.serve_desk.result _ c.serve_desk.ensures.err
+    (c.serve_desk.ensures.listens
+    ∙ subst (λ r. OnOk r (g.C.Connections.cannot_listen c.listen.new.self ≡ before)) c.in-Ok-listen.is c.listen.ensures.listens)
