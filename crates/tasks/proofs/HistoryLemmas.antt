@@ -1,80 +1,117 @@
 -- The histories that a desk has after connections.
-use Rattle.std.proofs.Common.{◌≡◌, ◌∙◌, ◌≤◌, ◌<◌, ◌⊎◌, ℕ, List, [], ◌∷◌, ◌++◌, Option, Some, None, Result, Ok, Err, IfOk, OnOk, OnErr, arith, refl, subst, sym, inl, inr}
+use Rattle.std.proofs.Common.{◌≡◌, ◌≤◌, ◌<◌, ◌⊎◌, ℕ, List, [], ◌∷◌, ◌++◌, Option, Some, None, Result, Ok, Err, IfOk, OnOk, OnErr, arith, refl, subst, sym, inl, inr}
 use Rattle.sqlite.specs.Store.{Ghosts}
 use Rattle.charters.specs.declared.charter.Charter.{Charter}
 use Rattle.registry.specs.History.{History}
 use Rattle.registry.specs.Values.{HistoryFits}
+use Rattle.registry.specs.declared.asked.Asked.{Asked}
 use Rattle.requests.specs.HttpRequests.{asked, HttpRequest, IsRequest, malformed, NeedsMemory, ReadsHttp, refused}
-use Rattle.desk.specs.Desk.{charter_of, IsOnCleanDisk, Represents}
+use Rattle.desk.specs.CrashOutcomes.{LeavesAlong}
+use Rattle.desk.specs.Desk.{IsOnCleanDisk, Represents}
 use Rattle.desk.specs.declared.desk.Desk.{Desk}
-use Rattle.web.specs.HttpAnswers.{AnswersHttp, LeavesAskedDay, RespondsTo}
+use Rattle.desk.specs.declared.reply.Reply.{Reply}
+use Rattle.web.proofs.RepliesAlong.{replied_leaving, replied_on, RepresentsFrom, StandsFrom}
+use Rattle.web.specs.HttpAnswers.{AnswersHttp, KeepsAll, LeavesAskedDay, RespondsTo}
+use Rattle.web.specs.ScriptAnswer.{RepliesAt, RepliesLeaving, RepliesOn, Standing}
 use Rattle.web.specs.declared.http.WebFault.{WebFault}
 use Rattle.web.specs.declared.http.WebFault.TheVariants.{Read, Write}
-use Rattle.tasks.specs.ServedHistories.{ConnectionLeads, RespondsOn}
+use Rattle.tasks.specs.ServedHistories.{ConnectionLeads, LeavesInTurn, RespondsBy}
 use Rattle.tasks.specs.Serving.{AnswersInTurn, EndsWith, Serves, Transcript}
 use Rattle.tasks.proofs.ServingLemmas.{later-in-turn}
 
-module _ {S : Type 0} (g : Ghosts S) where
-  -- a history to which connections lead, which the desk represents
-  abbrev pub Leads : Charter → Desk S → History → (History → Type 0) → Type 0
-  Leads charter new before leads =
-      (after : History) × Represents g charter new after × (HistoryFits before → HistoryFits after) × leads after
+-- connections of the desk are connections of what it represents, as histories, where its replies are replies there, and
+-- what leaves its rows and histories leaves what it represents
+module _ {S There : Type 0} (g : Ghosts S)
+    (Shows : Desk S → There → Type 0)
+    (replies : There → Asked → Reply → There → Type 0)
+    (replied : (old new : Desk S) (request : Asked) (reply : Reply) (before : There)
+    → IsOnCleanDisk g new → Shows old before → RepliesAt g old request reply new
+    → (after : There) × Shows new after × replies before request reply after)
+    (kept : (old new : Desk S) (before : There) → IsOnCleanDisk g new → Shows old before → KeepsAll g old new → Shows new before) where
+  -- what connections lead to, which the desk shows
+  abbrev LeadsTo : Desk S → (There → Type 0) → Type 0
+  LeadsTo new leads = (after : There) × Shows new after × leads after
 
-  module _ (day : ℕ) (old new : Desk S) (before : History) (clean : IsOnCleanDisk g new) where
-    unchanged : (leads : History → Type 0) → new ≡ old → leads before → Represents g (charter_of old) old before
-        → Leads (charter_of old) new before leads
-    unchanged leads same holds is =
-        (before, subst (λ desk. Represents g (charter_of old) desk before) (sym same) is, (λ fits. fits), holds)
+  abbrev ConnectionBy : ℕ → There → Transcript → There → Type 0
+  ConnectionBy day before passed after = EndsWith (RespondsBy replies day) before passed passed.fault after
+
+  module _ (day : ℕ) (old new : Desk S) (before : There) (clean : IsOnCleanDisk g new) (shows : Shows old before) where
+    unchanged : (leads : There → Type 0) → new ≡ old → leads before → LeadsTo new leads
+    unchanged leads same holds = (before, subst (λ desk. Shows desk before) (sym same) shows, holds)
 
     answered : (bytes text : List ℕ) (request : HttpRequest) → ReadsHttp day bytes request → AnswersHttp g old request text new
-        → Represents g (charter_of old) old before
-        → Leads (charter_of old) new before (RespondsOn (charter_of old) day before bytes text)
+        → LeadsTo new (RespondsBy replies day before bytes text)
     answered bytes text (refused refusal) reads answers =
-        unchanged (RespondsOn (charter_of old) day before bytes text) answers.1 (inl (refused refusal, reads, (answers.0, refl)))
+        unchanged (RespondsBy replies day before bytes text) answers.1 (inl (refused refusal, reads, (answers.0, refl)))
     answered bytes text (malformed fault) reads answers =
-        unchanged (RespondsOn (charter_of old) day before bytes text) answers.1 (inl (malformed fault, reads, (answers.0, refl)))
-    answered bytes text (asked form request) reads (reply, written, replies) = λ is.
-        let (after, represents, fits, (answers, left)) = replies.replies clean before is in
-        (after, represents, fits, inl (asked form request, reads, (reply, written, answers)))
+        unchanged (RespondsBy replies day before bytes text) answers.1 (inl (malformed fault, reads, (answers.0, refl)))
+    answered bytes text (asked form request) reads (reply, written, at) =
+        let (after, shows_after, answers) = replied old new request reply before clean shows at in
+        (after, shows_after, inl (asked form request, reads, (reply, written, answers)))
 
     cause_of : {bytes : List ℕ} → (NeedsMemory bytes × (new ≡ old)) ⊎ LeavesAskedDay day bytes old new → NeedsMemory bytes ⊎ IsRequest day bytes
     cause_of (inl (needs, same)) = inl needs
     cause_of (inr (form, request, reads, leaves)) = inr (form, request, reads)
 
-    responded : (bytes text : List ℕ) → RespondsTo g old day bytes text new → Represents g (charter_of old) old before
-        → Leads (charter_of old) new before (RespondsOn (charter_of old) day before bytes text)
-    responded bytes text (inl (request, reads, answers)) is = answered bytes text request reads answers is
-    responded bytes text (inr (cause, said, stays)) is =
-        let (after, represents, fits, (same, left)) = stays.1 clean before is in
-        (after, represents, fits, inr (cause_of cause, said, same))
+    responded : (bytes text : List ℕ) → RespondsTo g old day bytes text new → LeadsTo new (RespondsBy replies day before bytes text)
+    responded bytes text (inl (request, reads, answers)) = answered bytes text request reads answers
+    responded bytes text (inr (cause, said, stays)) =
+        (before, kept old new before clean shows stays, inr (cause_of cause, said, refl))
 
     ended : (passed : Transcript) (fault : Option WebFault)
         → EndsWith (λ from bytes text to. RespondsTo g from day bytes text to) old passed fault new
-        → Represents g (charter_of old) old before
-        → Leads (charter_of old) new before (EndsWith (RespondsOn (charter_of old) day) before passed fault)
-    ended passed None responds is = responded passed.received passed.sent responds is
-    ended passed (Some Read) (cut, over, unsent, same) is =
-        unchanged (EndsWith (RespondsOn (charter_of old) day) before passed (Some Read)) same (cut, over, unsent, refl) is
-    ended passed (Some Write) (unsent, responds, failed) is =
-        let (after, represents, fits, leads) = responded passed.received (passed.sent ++ unsent) responds is in
-        (after, represents, fits, (unsent, leads, failed))
+        → LeadsTo new (EndsWith (RespondsBy replies day) before passed fault)
+    ended passed None responds = responded passed.received passed.sent responds
+    ended passed (Some Read) (cut, over, unsent, same) =
+        unchanged (EndsWith (RespondsBy replies day) before passed (Some Read)) same (cut, over, unsent, refl)
+    ended passed (Some Write) (unsent, responds, failed) =
+        let (after, shows_after, leads) = responded passed.received (passed.sent ++ unsent) responds in
+        (after, shows_after, (unsent, leads, failed))
 
-    one_leads : (charter : Charter) (passed : Transcript) → charter_of old ≡ charter → Serves g day old passed new
-        → Represents g charter old before → Leads charter new before (ConnectionLeads charter day before passed)
-    one_leads charter passed chartered (later, ends) =
-        subst (λ c. Represents g c old before → Leads c new before (ConnectionLeads c day before passed)) chartered
-        (ended passed passed.fault ends)
-
-  pub each_leads : (charter : Charter) (day : ℕ) (passed : List Transcript) (old new : Desk S) (before : History) → charter_of old ≡ charter
-      → AnswersInTurn (Serves g day) old passed new → IsOnCleanDisk g new → Represents g charter old before
-      → Leads charter new before (AnswersInTurn (ConnectionLeads charter day) before passed)
-  each_leads charter day [] old new before chartered same clean is =
-      (before, subst (λ desk. Represents g charter desk before) (sym same) is, (λ fits. fits), refl)
-  each_leads charter day (one ∷ later) old new before chartered (next, served, in_turn) clean is =
+  in_turn_along : (day : ℕ) (passed : List Transcript) (old new : Desk S) (before : There)
+      → AnswersInTurn (Serves g day) old passed new → IsOnCleanDisk g new → Shows old before
+      → LeadsTo new (AnswersInTurn (ConnectionBy day) before passed)
+  in_turn_along day [] old new before same clean shows =
+      (before, subst (λ desk. Shows desk before) (sym same) shows, refl)
+  in_turn_along day (one ∷ later) old new before (next, served, in_turn) clean shows =
       let still = later-in-turn g day next new later in_turn in
-      let first = one_leads day old next before (still.clean clean) charter one chartered served is in
-      let rest = each_leads charter day later next new first.0 (served.0.charter ∙ chartered) in_turn clean first.1 in
-      (rest.0, rest.1, (λ fits. rest.2 (first.2 fits)), (first.0, first.3, rest.3))
+      let (after_one, shows_one, leads_one) = ended day old next before (still.clean clean) shows one one.fault served.1 in
+      let (after, shows_after, leads) = in_turn_along day later next new after_one in_turn clean shows_one in
+      (after, shows_after, (after_one, leads_one, leads))
+
+module _ {S : Type 0} (g : Ghosts S) where
+  -- what leaves rows and histories
+  kept : (charter : Charter) (first : History) (old new : Desk S) (before : History)
+      → IsOnCleanDisk g new → RepresentsFrom g charter first old before → KeepsAll g old new
+      → RepresentsFrom g charter first new before × LeavesAlong g charter old before (λ pending. pending) new before
+  kept charter first old new before clean (represents, values) keeps =
+      let P : Charter → Type 0 = λ k. Represents g k old before → (after : History) × Represents g k new after × (HistoryFits before → HistoryFits after) × ((after ≡ before) × LeavesAlong g k old before (λ pending. pending) new after) in
+      let (after, represents_after, values_after, (same, left)) = subst P represents.chartered (keeps.1 clean before) represents in
+      subst (λ (h : History). RepresentsFrom g charter first new h × LeavesAlong g charter old before (λ pending. pending) new h) same
+      ((represents_after, λ fits. values_after (values fits)), left)
+
+  kept_leaving : (charter : Charter) (first : History) (old new : Desk S) (before : Standing)
+      → IsOnCleanDisk g new → StandsFrom g charter first old before → KeepsAll g old new → StandsFrom g charter first new before
+  kept_leaving charter first old new before clean (stands, leaves) keeps =
+      let (stands_after, left) = kept charter first old new before.history clean stands keeps in
+      (stands_after, left before.pending leaves)
+
+  pub each_leads : (charter : Charter) (day : ℕ) (passed : List Transcript) (old new : Desk S) (before : History)
+      → AnswersInTurn (Serves g day) old passed new → IsOnCleanDisk g new → Represents g charter old before
+      → (after : History) × Represents g charter new after × (HistoryFits before → HistoryFits after)
+      × AnswersInTurn (ConnectionLeads charter day) before passed after
+  each_leads charter day passed old new before in_turn clean is =
+      let (after, (represents, values), leads) = in_turn_along g (RepresentsFrom g charter before) (RepliesOn charter) (replied_on g charter before)
+      (λ from to history clean stands keeps. (kept charter before from to history clean stands keeps).0)
+      day passed old new before in_turn clean (is, λ fits. fits) in
+      (after, represents, values, leads)
+
+  pub each_leaves : (day : ℕ) (passed : List Transcript) (old new : Desk S) → AnswersInTurn (Serves g day) old passed new
+      → LeavesInTurn g day old passed new
+  each_leaves day passed old new in_turn = λ clean charter before is leaves.
+      let (after, ((represents, values), left), leads) = in_turn_along g (StandsFrom g charter before.history) (RepliesLeaving charter) (replied_leaving g charter before.history) (kept_leaving charter before.history)
+      day passed old new before in_turn clean ((is, λ fits. fits), leaves) in
+      (after, leads, represents, values, left)
 
 -- ---- files
 

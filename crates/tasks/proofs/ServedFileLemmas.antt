@@ -26,7 +26,7 @@ pub keep_served : {D : Type 0} (g : Ghosts D) (day : ℕ) (passed : List Transcr
     → (charter : Charter) (history : History) → Represents over_files charter old history
     → KeepServed g charter day passed history files
 keep_served g day passed old new files in_turn clean keeps charter history is =
-    let it = each_leads over_files charter day passed old new history is.chartered in_turn clean is in
+    let it = each_leads over_files charter day passed old new history in_turn clean is in
     record {
       after = it.0;
       leads = it.3;

@@ -2,6 +2,7 @@
 ghost use Rattle.std.specs.Prelude.{◌≡◌, ◌<◌, ℕ, List, length, OnOk, OnErr, true};
 ghost use Rattle.web.specs.ScriptAnswer.{IsLaterDesk};
 ghost use Rattle.tasks.specs.Connections.{Accepts, Logs};
+ghost use Rattle.tasks.specs.ServedHistories.{LeavesInTurn};
 ghost use Rattle.tasks.specs.Serving.{AnswersInTurn, Serves, Transcript, fault_lines};
 
 mod connections;
@@ -33,11 +34,12 @@ pub fn serve_on<C: Connections, S: Alter, L: Log>(
     log: &mut L,
 ) -> Result<(), Failed>
     // `passed` are the connections: there are as many, they were accepted, the desk answered them,
-    // and the log has the lines of those that failed.
+    // a crash leaves no more than they allow, and the log has the lines of those that failed.
     ensures served { (passed : List Transcript)
         × OnOk result (length passed ≡ count) × OnErr result (length passed < count)
         × Accepts (C.accepted connections.old) (C.accepted connections.new) passed
         × AnswersInTurn (Serves S.Store day) desk.old passed desk.new
+        × LeavesInTurn S.Store day desk.old passed desk.new
         × Logs (L.has_lost log.old) (L.has_lost log.new) (L.contents log.old)
         (L.contents log.new) (fault_lines 1 passed) }
     ensures failed { OnErr result (C.has_failed connections.new ≡ true) }

@@ -1,5 +1,5 @@
 //! Connections that are accepted and answered, one after the other.
-ghost use Rattle.std.specs.Prelude.{◌≡◌, ◌<◌, ◌≤◌, ◌∷◌, ℕ, Bool, List, [], Option, None, true, length, IfOk, OnErr, OnOk};
+ghost use Rattle.std.specs.Prelude.{◌≡◌, ◌<◌, ◌≤◌, ◌∷◌, ℕ, Bool, List, [], Option, None, false, true, length, IfOk, OnErr, OnOk};
 ghost use Rattle.std.specs.Result.{result_err};
 ghost use Rattle.http_messages.specs.Input.{Gives, IsOver};
 ghost use Rattle.tasks.specs.ConnectionTime.{discard_limit};
@@ -112,7 +112,15 @@ pub struct Incoming<'a, R, N> {
 }
 
 impl<'a, R: Clock, N: Network> Incoming<'a, R, N> {
-    pub fn new(clock: &'a R, network: &'a mut N, address: &'a str) -> Incoming<'a, R, N> {
+    /// The connections to this address, which is not bound yet.
+    pub fn new(clock: &'a R, network: &'a mut N, address: &'a str) -> Incoming<'a, R, N>
+        ensures clock { result.clock ≡ clock.entry }
+        ensures network { (result.network.ghost_name ≡ network.entry.ghost_name)
+            × (result.network.now ≡ network.old) }
+        ensures address { result.address ≡ address.entry }
+        ensures unbound { result.listener ≡ None }
+        ensures flawless { (result.cannot_listen ≡ false) × (result.has_failed ≡ false) }
+    {
         Incoming {
             clock,
             network,

@@ -1,5 +1,5 @@
 //! The lines for connections that failed.
-ghost use Rattle.std.specs.Prelude.{◌≡◌, ℕ, Bool, List, Option, None};
+ghost use Rattle.std.specs.Prelude.{◌≡◌, ℕ, Bool, List, Option, None, false};
 ghost use Rattle.std.specs.Result.{result_err};
 ghost use Rattle.tasks.specs.Connections.{Logs};
 ghost use Rattle.tasks.specs.Serving.{fault_line, line_for};
@@ -32,7 +32,12 @@ pub struct Printed<'a, W> {
 }
 
 impl<'a, W: Write> Printed<'a, W> {
-    pub fn new(writer: &'a mut W) -> Printed<'a, W> {
+    /// A log that has lost nothing.
+    pub fn new(writer: &'a mut W) -> Printed<'a, W>
+        ensures writer { (result.writer.ghost_name ≡ writer.entry.ghost_name)
+            × (result.writer.now ≡ writer.old) }
+        ensures lossless { result.has_lost ≡ false }
+    {
         Printed {
             writer,
             has_lost: false,

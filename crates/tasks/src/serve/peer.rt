@@ -87,7 +87,13 @@ pub struct Socket<'a, R> {
 
 impl<'a, R: Clock> Socket<'a, R> {
     /// The socket of a connection that began then.
-    pub fn new(clock: &'a R, stream: &'a TcpStream, began: Option<Instant>) -> Socket<'a, R> {
+    pub fn new(clock: &'a R, stream: &'a TcpStream, began: Option<Instant>) -> Socket<'a, R>
+        ensures clock { result.clock ≡ clock.entry }
+        ensures stream { result.stream ≡ stream.entry }
+        ensures began { result.began ≡ began }
+        ensures unread { result.last_seen ≡ None }
+        ensures unset { (result.read_timeout ≡ None) × (result.write_timeout ≡ None) }
+    {
         Socket {
             clock,
             stream,

@@ -5,7 +5,7 @@ use Rattle.tasks.proofs.serve_desk.serve_desk.Goals as goal
 
 pub returns-in-Ok-close_desk-clause-served : goal.returns-in-Ok-close_desk-clause-served
 returns-in-Ok-close_desk-clause-served g c =
-    let (passed, all, few, accepted, in_turn, logged) = c.serve_on.ensures.served in (
+    let (passed, all, few, accepted, in_turn, leaves, logged) = c.serve_on.ensures.served in (
       passed,
       at_most c.serve_on.result all few,
       subst (λ r. OnOk r (length passed ≡ c.args.count)) c.in-Ok.is all,
@@ -17,7 +17,7 @@ returns-in-Ok-close_desk-clause-served g c =
 
 pub returns-in-Err-clause-served : goal.returns-in-Err-clause-served
 returns-in-Err-clause-served g c =
-    let (passed, all, few, accepted, in_turn, logged) = c.serve_on.ensures.served in (
+    let (passed, all, few, accepted, in_turn, leaves, logged) = c.serve_on.ensures.served in (
       passed,
       at_most c.serve_on.result all few,
       tt,
