@@ -75,6 +75,7 @@ impl<S: Alter + Drop> Desk<S> {
         ensures charter { IfOk result (λ desk. charter_of desk ≡ charter.now) }
         ensures empty { IfOk result (λ desk. HoldsHistory S.Store desk []) }
         ensures unused { OnOk result (IsUnused (state S.Store conn)) }
+        ensures no_day { IfOk result (λ desk. desk.kept ≡ None) }
         ensures unlimited { IfOk result (λ desk. (store_of desk).connection.step_limit ≡ None) }
         ensures made { IfOk result (λ desk. IfClean S.Store (store_of desk)
             (IsNew charter.now (connection_state S.Store (store_of desk)))) }
@@ -102,6 +103,7 @@ impl<S: Alter + Drop> Desk<S> {
         ensures charter { IfOk result (λ desk. charter_of desk ≡ charter.now) }
         ensures empty { IfOk result (λ desk. HoldsHistory S.Store desk []) }
         ensures unused { OnOk result (IsUnused (state S.Store conn)) }
+        ensures no_day { IfOk result (λ desk. desk.kept ≡ None) }
         ensures unlimited { IfOk result (λ desk. (store_of desk).connection.step_limit ≡ None) }
         ensures made { IfOk result (λ desk. IfClean S.Store (store_of desk)
             (IsNew charter.now (connection_state S.Store (store_of desk)))) }
@@ -132,6 +134,7 @@ impl<S: Alter + Drop> Desk<S> {
             → ResumesHistories S.Store (state S.Store conn) desk) }
         ensures none_pending { IfOk result (λ desk. IsOnCleanDisk S.Store desk
             → HasNonePending S.Store desk) }
+        ensures no_day { IfOk result (λ desk. desk.kept ≡ None) }
         ensures unlimited { IfOk result (λ desk. (store_of desk).connection.step_limit ≡ None) }
         ensures clean { IfOk result (λ desk. IsOnCleanDisk S.Store desk
             → HasCleanDisk (state S.Store conn)) }
@@ -158,6 +161,7 @@ impl<S: Alter + Drop> Desk<S> {
             → ResumesHistories S.Store (state S.Store conn) desk) }
         ensures none_pending { IfOk result (λ desk. IsOnCleanDisk S.Store desk
             → HasNonePending S.Store desk) }
+        ensures no_day { IfOk result (λ desk. desk.kept ≡ None) }
         ensures unlimited { IfOk result (λ desk. (store_of desk).connection.step_limit ≡ None) }
         ensures clean { IfOk result (λ desk. IsOnCleanDisk S.Store desk
             → HasCleanDisk (state S.Store conn)) }
@@ -304,6 +308,7 @@ impl Desk<MemStore> {
     pub fn open_memory(alloc: Global, charter: &Charter) -> Result<Self, StoreFault>
         ensures charter { IfOk result (λ desk. charter_of desk ≡ charter.now) }
         ensures empty { IfOk result (λ desk. HoldsHistory over_memory desk []) }
+        ensures no_day { IfOk result (λ desk. desk.kept ≡ None) }
         ensures unlimited { IfOk result (λ desk. (store_of desk).connection.step_limit ≡ None) }
         ensures no_schema { result ≢ Err StoreFault.Schema }
     {
