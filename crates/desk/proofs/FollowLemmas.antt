@@ -1,9 +1,9 @@
 -- What is kept of a day follows a change of the rows.
-use Rattle.std.proofs.Common.{◌≡◌, ◌⊎◌, inl, inr, ◌↔◌, ℕ, Bool, true, false, ◌||◌, List, [], ◌∷◌, Option, Some, None, Result, Ok, Err, refl, sym, ap, arith, ◌∙◌, ◌==◌, ◌≤◌, if◌then◌else◌, filter, subst, Contains}
+use Rattle.std.proofs.Common.{◌≡◌, ◌⊎◌, inl, inr, ◌↔◌, ℕ, Bool, true, false, ◌||◌, List, [], ◌∷◌, Option, Some, None, Result, Ok, Err, refl, sym, ap, arith, ◌∙◌, ◌==◌, ◌≤◌, if◌then◌else◌, filter, length, subst, Contains}
 use Rattle.std.specs.Global.{Vec}
 use Rattle.std.specs.List.{list_any}
-use Rattle.std.specs.Prelude.{IfSome, OnOk, is_ok, is_err, is_some, option_map, option_to_list}
-use Rattle.std.proofs.lemmas.Bool.{eqb-true, false≢true, true≢false}
+use Rattle.std.specs.Prelude.{IfSome, OnErr, OnOk, is_ok, is_err, is_some, option_map, option_to_list}
+use Rattle.std.proofs.lemmas.Bool.{eqb-true, false_from_ne_true, false≢true, true≢false}
 use Rattle.addr.specs.Address.{last_of, Address}
 use Rattle.addr.proofs.AddressLemmas.{between_at, first-last}
 use Rattle.addr.specs.declared.vrp.Vrp.{Vrp}
@@ -17,7 +17,7 @@ use Rattle.kept.specs.Days.{IsDayOfRows}
 use Rattle.kept.specs.Giving.{AreGivingOn}
 use Rattle.kept.specs.KeptDay.{exceptions_of, KeptDay}
 use Rattle.addr.specs.declared.prefix.Prefix.{Prefix}
-use Rattle.registry.specs.Answer.{holder_of, is_transfer}
+use Rattle.registry.specs.Answer.{edit_imported, holder_of, imported, is_transfer}
 use Rattle.payload.specs.VrpSet as set
 use Rattle.registry.specs.Edits.{begun, ended, ends, HasEditsOf, IsEditOf, IsHold, IsHoldEndingNone}
 use Rattle.registry.specs.Rows.{Rows}
@@ -40,9 +40,11 @@ use Rattle.slurm.specs.SlurmSets.{union}
 use Rattle.store.specs.Given.{GivenOnce}
 use Rattle.loads.specs.Loads.{auths_held, AreHeld, AreLoaded}
 use Rattle.desk.proofs.GivenEdits.{edits_given_by_enough, ending_keeps_once, enough_amended, enough_created, enough_loaded, enough_withdrawn}
-use Rattle.desk.specs.DayAfter.{DayAfterCommand, PutsOn, StaysUnless}
+use Rattle.desk.specs.DayAfter.{has_made_none, DayAfterCommand, PutsOn, StaysUnless}
+use Rattle.desk.specs.Prepared.{day_of}
+use Rattle.desk.specs.declared.reply.Reply.{Reply}
 use Rattle.desk.specs.steps.EditsGiven.{auths_of, begun_if_any, ended_if_any, AreEnough}
-use Rattle.desk.specs.steps.Following.{listed, AreEnoughFor, BeginsOn, EditsTwoApart, Follows, FollowsChange, FollowsDay, FollowsEdit}
+use Rattle.desk.specs.steps.Following.{listed, AddsSome, AreEnoughFor, BeginsOn, EditsTwoApart, Follows, FollowsChange, FollowsDay, FollowsEdit, MayDrop}
 
 -- ---- an edit of one holder
 
@@ -79,6 +81,14 @@ when_ok (Err e) not so = absurd (true≢false (sym not))
 pub when_no_error : {T E P : Type 0} (r : Result T E) → is_err r ≡ false → OnOk r P → P
 when_no_error (Ok x) is so = so
 when_no_error (Err e) not so = absurd (true≢false not)
+
+pub when_err : {T E P : Type 0} (r : Result T E) → is_err r ≡ true → OnErr r P → P
+when_err (Ok x) not so = absurd (true≢false (sym not))
+when_err (Err e) is so = so
+
+pub when_not_ok : {T E P : Type 0} (r : Result T E) → is_ok r ≡ false → OnErr r P → P
+when_not_ok (Ok x) not so = absurd (true≢false not)
+when_not_ok (Err e) is so = so
 
 -- ---- a change
 
@@ -236,39 +246,72 @@ begins_on (AmendEdit x) auths day v gives = rw (only_of _ x gives.0 gives.1) (gi
 begins_on (ImportEdit more created) auths day v gives = (gives.0, gives.1, gives.2.0, gives.2.1)
 begins_on other auths day v gives = absurd (none_in_nil gives.0 gives.1)
 
+-- so what an edit puts into what is kept it puts in force on the day
+begins_by : (edit : Edit) (auths : Option (Vec Auth)) (kept : KeptDay) → AddsSome edit auths kept → BeginsOn edit kept.day
+begins_by edit None kept adds = absurd (none_given kept.day adds.0 adds.1.0)
+begins_by edit (Some auths) kept adds = begins_on edit auths.items kept.day adds.0 adds.1.0
+
+-- an import that puts an authorization has made some
+has_made : (reply : Reply) (auths : List Auth) → (has_made_none reply ≡ true → length auths ≡ 0) → (x : Auth) → Contains auths x → has_made_none reply ≡ false
+has_made reply auths none x there = false_from_ne_true (has_made_none reply) (λ is. absurd (omega (arith, there.1, none is)))
+
 -- and the command put it
-puts_on : (command : Command) (edit : Edit) (day : ℕ) → IsEditOf command edit → BeginsOn edit day → PutsOn command day
-puts_on (Create h terms) (CreateEdit x) day is begins = subst (λ (y : Auth). (y.from ≤ day) × (day ≤ y.until)) is begins
-puts_on (Amend h n maxes until) (AmendEdit x) day is begins = subst (λ (u : ℕ). day ≤ u) is begins.1
-puts_on (Import h rows) (ImportEdit auths created) day is begins =
+puts_on : (command : Command) (edit : Edit) (reply : Reply) (day : ℕ) → IsEditOf command edit → (has_made_none reply ≡ true → edit_imported edit ≡ 0)
+    → BeginsOn edit day → PutsOn command reply day
+puts_on (Create h terms) (CreateEdit x) reply day is made begins = subst (λ (y : Auth). (y.from ≤ day) × (day ≤ y.until)) is begins
+puts_on (Amend h n maxes until) (AmendEdit x) reply day is made begins = subst (λ (u : ℕ). day ≤ u) is begins.1
+puts_on (Import h rows) (ImportEdit auths created) reply day is made begins =
     let row = is begins.0 begins.1 in
     let days = subst (λ (y : Auth). (y.from ≤ day) × (day ≤ y.until)) row.2 (begins.2, begins.3) in
-    (row.0, row.1, days.0, days.1)
-puts_on (Register h) edit day is begins = subst (λ (e : Edit). BeginsOn e day) is begins
-puts_on (Revoke h n) edit day is begins = subst (λ (e : Edit). BeginsOn e day) is begins
-puts_on (Withdraw h n) edit day is begins = subst (λ (e : Edit). BeginsOn e day) is begins
-puts_on (Delegate h p) (Hold removed added gone) day is begins = begins
-puts_on (Reclaim h p) (Hold removed added gone) day is begins = begins
-puts_on (Grant h name role scope until) (GrantEdit g) day is begins = begins
-puts_on command edit day is begins = absurd is
+    (has_made reply auths.items made begins.0 begins.1, (row.0, row.1, days.0, days.1))
+puts_on (Register h) edit reply day is made begins = subst (λ (e : Edit). BeginsOn e day) is begins
+puts_on (Revoke h n) edit reply day is made begins = subst (λ (e : Edit). BeginsOn e day) is begins
+puts_on (Withdraw h n) edit reply day is made begins = subst (λ (e : Edit). BeginsOn e day) is begins
+puts_on (Delegate h p) (Hold removed added gone) reply day is made begins = begins
+puts_on (Reclaim h p) (Hold removed added gone) reply day is made begins = begins
+puts_on (Grant h name role scope until) (GrantEdit g) reply day is made begins = begins
+puts_on command edit reply day is made begins = absurd is
 
-two_begin_none : (one other : Edit) (day : ℕ) → IsHold one → IsHoldEndingNone other → ¬ (BeginsOn one day ⊎ BeginsOn other day)
-two_begin_none (Hold removed added gone) (Hold removed' added' gone') day is also begins = elim begins [ inl one ↦ one | inr two ↦ two ]
-two_begin_none (Hold removed added gone) other day is also begins = absurd also
-two_begin_none one other day is also begins = absurd is
+none_begin : (edit : Edit) (day : ℕ) → IsHold edit → ¬ BeginsOn edit day
+none_begin (Hold removed added gone) day is begins = begins
+none_begin edit day is begins = absurd is
 
-stays_unless : (Days Others : ℕ → Type 0) (old new : Option ℕ) → ((day : ℕ) → Days day → Others day)
-    → StaysUnless Days old new → StaysUnless Others old new
-stays_unless Days Others old new so (inl same) = inl same
-stays_unless Days Others None new so (inr gone) = inl gone.0
-stays_unless Days Others (Some day) new so (inr gone) = inr (gone.0, so day gone.1)
+holds : (edit : Edit) → IsHoldEndingNone edit → IsHold edit
+holds (Hold removed added gone) is = tt
+holds edit is = absurd is
+
+-- runs of addresses that are exchanged put no VRP into what is kept
+two_add_none : (first second : Edit) (one other : Option (Vec Auth)) (kept : KeptDay) → IsHold first → IsHoldEndingNone second
+    → ¬ (AddsSome first one kept ⊎ ((mid : KeptDay) × AddsSome second other mid))
+two_add_none first second one other kept is also adds = elim adds [
+  | inl early ↦ none_begin first kept.day is (begins_by first one kept early)
+  | inr late ↦ none_begin second late.0.day (holds second also) (begins_by second other late.0 late.1)
+]
+
+-- the day stays, or is dropped where it may be
+stays_unless : (MayBe : KeptDay → Type 0) (Days : ℕ → Type 0) (old new : Option KeptDay) → IfSome old (λ kept. MayBe kept → Days kept.day)
+    → (day_of new ≡ day_of old) ⊎ ((new ≡ None) × IfSome old MayBe) → StaysUnless Days (day_of old) (day_of new)
+stays_unless MayBe Days old new so (inl same) = inl same
+stays_unless MayBe Days None new so (inr gone) = inl (ap day_of gone.0)
+stays_unless MayBe Days (Some kept) new so (inr gone) = inr (ap day_of gone.0, so gone.1)
+
+of_each : {P : KeptDay → Type 0} (old : Option KeptDay) → ((kept : KeptDay) → P kept) → IfSome old P
+of_each None each = tt
+of_each (Some kept) each = each kept
 
 -- what becomes of the day by a change becomes of it by the command
-pub day_by : (command : Command) (change : Change) (old new : Option ℕ) → HasEditsOf command change → FollowsDay change old new → DayAfterCommand command old new
-day_by (SlurmCommand files) (Exceptions more) old new edits follows = follows
-day_by (SlurmCommand files) (Holders first None) old new edits follows = absurd edits.1
-day_by (Transfer p giver taker) (Holders first (Some second)) old new edits follows =
-    stays_unless _ _ old new (λ day begins. absurd (two_begin_none first.edit second.edit day edits.1 edits.3 begins)) follows
-day_by command (Holders first None) old new edits follows =
-    stays_unless _ _ old new (λ day begins. puts_on command first.edit day edits.1 begins) follows
-day_by command change old new edits follows = absurd edits
+pub day_by : (command : Command) (change : Change) (reply : Reply) (one other : Option (Vec Auth)) (old new : Option KeptDay) → HasEditsOf command change
+    → (has_made_none reply ≡ true → imported change ≡ 0) → FollowsDay change one other old new → DayAfterCommand command reply (day_of old) (day_of new)
+day_by (SlurmCommand files) (Exceptions more) reply one other old new edits made follows = ap day_of follows
+day_by (SlurmCommand files) (Holders first None) reply one other old new edits made follows = absurd edits.1
+day_by (Transfer p giver taker) (Holders first (Some second)) reply one other old new edits made follows =
+    stays_unless _ _ old new (of_each old (λ kept adds. absurd (two_add_none first.edit second.edit one other kept edits.1 edits.3 adds))) follows
+day_by command (Holders first None) reply one other old new edits made follows =
+    stays_unless _ _ old new (of_each old (λ kept adds. puts_on command first.edit reply kept.day edits.1 made (begins_by first.edit one kept adds))) follows
+day_by command change reply one other old new edits made follows = absurd edits
+
+-- an edit of the first holder that puts a VRP in
+pub drops_first : (first : HolderChange) (second : Option HolderChange) (one other : Option (Vec Auth)) (kept : KeptDay) → AddsSome first.edit one kept
+    → MayDrop (Holders first second) one other kept
+drops_first first None one other kept adds = adds
+drops_first first (Some second) one other kept adds = inl adds

@@ -1,5 +1,5 @@
 -- What a request makes of the day whose VRPs are kept.
-use Rattle.std.specs.Prelude.{◌≡◌, ◌≢◌, ◌⊎◌, ℕ, ◌≤◌, true, false, List, [], ◌∷◌, Contains, Option, Some, None, IfSome}
+use Rattle.std.specs.Prelude.{◌≡◌, ◌≢◌, ◌⊎◌, ℕ, zero, ◌≤◌, Bool, true, false, List, [], ◌∷◌, Contains, Option, Some, None, IfSome}
 use Rattle.registry.specs.declared.authorization.ImportRow.{ImportRow}
 use Rattle.registry.specs.declared.asked.Asked.{Asked}
 use Rattle.registry.specs.declared.asked.Request.{Request}
@@ -10,14 +10,21 @@ use Rattle.registry.specs.declared.command.Query.{Query}
 use Rattle.registry.specs.declared.command.Query.TheVariants.{Payloads as PayloadsQuery, Validity as ValidityQuery}
 use Rattle.desk.specs.Answer.{is_accepted}
 use Rattle.desk.specs.declared.reply.Reply.{Reply}
-use Rattle.desk.specs.declared.reply.Reply.TheVariants.{Unavailable}
+use Rattle.desk.specs.declared.reply.Reply.TheVariants.{Imported, Unavailable}
 
--- the command puts an authorization in force on the day
-abbrev pub PutsOn : Command → ℕ → Type 0
-PutsOn (Create holder terms) day = (terms.from ≤ day) × (day ≤ terms.until)
-PutsOn (Amend holder n maxes until) day = day ≤ until
-PutsOn (Import holder rows) day = (r : ImportRow) × Contains rows.items r × (r.from ≤ day) × (day ≤ r.until)
-PutsOn command day = ⊥
+-- the reply to an import of which every row was authorized already
+abbrev pub has_made_none : Reply → Bool
+has_made_none (Imported zero present) = true
+has_made_none other = false
+
+-- the command, with this reply, puts an authorization in force on the day
+abbrev pub PutsOn : Command → Reply → ℕ → Type 0
+PutsOn (Create holder terms) reply day = (terms.from ≤ day) × (day ≤ terms.until)
+PutsOn (Amend holder n maxes until) reply day = day ≤ until
+PutsOn (Import holder rows) reply day =
+    (has_made_none reply ≡ false)
+    × ((r : ImportRow) × Contains rows.items r × (r.from ≤ day) × (day ≤ r.until))
+PutsOn command reply day = ⊥
 
 -- the day stays, or is dropped; it is dropped only if it is one of these
 abbrev pub StaysUnless : (ℕ → Type 0) → Option ℕ → Option ℕ → Type 0
@@ -25,9 +32,9 @@ StaysUnless Days old new = (new ≡ old) ⊎ ((new ≡ None) × IfSome old Days)
 
 -- An accepted command leaves the day, except that new SLURM files drop it, and a command that puts an authorization in
 -- force on it may drop it, if an allocation for the VRPs fails.
-abbrev pub DayAfterCommand : Command → Option ℕ → Option ℕ → Type 0
-DayAfterCommand (Slurm files) old new = new ≡ None
-DayAfterCommand command old new = StaysUnless (PutsOn command) old new
+abbrev pub DayAfterCommand : Command → Reply → Option ℕ → Option ℕ → Type 0
+DayAfterCommand (Slurm files) reply old new = new ≡ None
+DayAfterCommand command reply old new = StaysUnless (PutsOn command reply) old new
 
 -- A query for the VRPs of a day keeps that day. If it was not kept, the reply may be Unavailable, and then no day is
 -- kept.
@@ -43,7 +50,7 @@ DayAfterQuery day query reply old new = new ≡ old
 -- What a request on the day makes of the day that is kept. A command that is not accepted leaves it.
 abbrev pub DayAfter : ℕ → Request → Reply → Option ℕ → Option ℕ → Type 0
 DayAfter day (CommandRequest command) reply old new =
-    (is_accepted reply ≡ true → DayAfterCommand command old new)
+    (is_accepted reply ≡ true → DayAfterCommand command reply old new)
     × (is_accepted reply ≡ false → new ≡ old)
 DayAfter day (QueryRequest query) reply old new = DayAfterQuery day query reply old new
 

@@ -2,8 +2,9 @@
 use Rattle.std.specs.Prelude.{◌≡◌, ◌↔◌, ◌⊎◌, ℕ, ◌≤◌, false, List, Option, Some, None, option_map, Result, Ok, Err, Contains, IfSome, ⊤}
 use Rattle.std.specs.Global.{Vec}
 use Rattle.addr.specs.declared.vrp.Vrp.{Vrp}
-use Rattle.kept.specs.Changes.{AreJoined, IsSpared, IsWithSame}
+use Rattle.kept.specs.Changes.{AreJoined, IsAdded, IsSpared, IsWithSame}
 use Rattle.kept.specs.Days.{IsDayOfRows}
+use Rattle.kept.specs.Giving.{AreGivingOn}
 use Rattle.kept.specs.KeptDay.{KeptDay}
 use Rattle.payload.specs.VrpSet as set
 use Rattle.registry.specs.Edits.{IsHold}
@@ -15,7 +16,7 @@ use Rattle.registry.specs.declared.change.Change.TheVariants.{Holders, Exception
 use Rattle.registry.specs.declared.change.Edit.{Edit}
 use Rattle.registry.specs.declared.change.Edit.TheVariants.{Create, Import, Amend}
 use Rattle.store.specs.Given.{GivenOnce}
-use Rattle.desk.specs.DayAfter.{StaysUnless}
+use Rattle.desk.specs.Prepared.{day_of}
 use Rattle.desk.specs.declared.reply.Reply.{Reply}
 use Rattle.desk.specs.declared.reply.Reply.TheVariants.{Unavailable}
 use Rattle.desk.specs.steps.EditsGiven.{ended_if_any, begun_if_any, auths_of, AreEnough}
@@ -59,11 +60,17 @@ BeginsOn (Import auths created) day = (x : Auth) × Contains auths.items x × (x
 BeginsOn (Amend x) day = (x.from ≤ day) × (day ≤ x.until)
 BeginsOn _ day = ⊥
 
--- the kept day may be dropped: an edit puts an authorization in force on it, or the change brings new exceptions
-abbrev pub MayDropOn : Change → ℕ → Type 0
-MayDropOn (Holders first None) day = BeginsOn first.edit day
-MayDropOn (Holders first (Some second)) day = BeginsOn first.edit day ⊎ BeginsOn second.edit day
-MayDropOn (Exceptions files) day = ⊤
+-- the edit, by these authorizations, puts a VRP into what is kept
+abbrev pub AddsSome : Edit → Option (Vec Auth) → KeptDay → Type 0
+AddsSome edit auths kept =
+    (v : Vrp) × IsAdded kept (AreGivingOn (begun_if_any edit (listed auths)) kept.day) v
+
+-- what is kept may be dropped: an edit puts a VRP into it, or the change brings new exceptions
+abbrev pub MayDrop : Change → Option (Vec Auth) → Option (Vec Auth) → KeptDay → Type 0
+MayDrop (Holders first None) one other kept = AddsSome first.edit one kept
+MayDrop (Holders first (Some second)) one other kept =
+    AddsSome first.edit one kept ⊎ ((mid : KeptDay) × AddsSome second.edit other mid)
+MayDrop (Exceptions files) one other kept = ⊤
 
 -- the kept day is of the rows after the change, if it was of the rows before it
 abbrev pub Follows :
@@ -73,9 +80,11 @@ Follows change one other old new =
     → IfSome old (IsDayOfRows rows) → IfSome new (IsDayOfRows (changed_rows change rows))
 
 -- the kept day stays, or is dropped if it may be; new exceptions drop it
-abbrev pub FollowsDay : Change → Option ℕ → Option ℕ → Type 0
-FollowsDay (Exceptions files) old new = new ≡ None
-FollowsDay change old new = StaysUnless (MayDropOn change) old new
+abbrev pub FollowsDay :
+    Change → Option (Vec Auth) → Option (Vec Auth) → Option KeptDay → Option KeptDay → Type 0
+FollowsDay (Exceptions files) one other old new = new ≡ None
+FollowsDay change one other old new =
+    (day_of new ≡ day_of old) ⊎ ((new ≡ None) × IfSome old (MayDrop change one other))
 
 -- the reply if there is one; a fault is reported as Unavailable
 abbrev pub reply_of : {E : Type 0} → Result Reply E → Reply

@@ -1,12 +1,12 @@
 //! Commands: judged on the rows, then made.
 ghost use Rattle.std.specs.Prelude.{◌≡◌, true, false, option_copied, option_map, IfOk, IfSome};
-ghost use Rattle.registry.specs.Answer.{RowsOfNamed};
+ghost use Rattle.registry.specs.Answer.{imported, RowsOfNamed};
 ghost use Rattle.registry.specs.Rows.{rows_if_any, RowsIfAny};
 ghost use Rattle.loads.specs.Loads.{AreLoaded};
 ghost use Rattle.store.specs.StoreRows.{IfClean, IsRead, OfHeldRows};
 ghost use Rattle.desk.specs.Answer.{is_accepted, only_reads};
 ghost use Rattle.desk.specs.CrashOutcomes.{asked_on, IsKept, StaysOpen};
-ghost use Rattle.desk.specs.DayAfter.{DayAfter};
+ghost use Rattle.desk.specs.DayAfter.{has_made_none, DayAfter};
 ghost use Rattle.desk.specs.Prepared.{day_of};
 ghost use Rattle.desk.specs.Desk.{charter_of, IsOnCleanDisk, KeepsRows, OfHistories, OfRows};
 ghost use Rattle.desk.specs.HolderAnswers.{may_change, may_except, KeepsOthers};
@@ -25,6 +25,7 @@ use store::StoreFault;
 fn accepted(command: &Command, change: &Change) -> Reply
     ensures answers { AnswersAccepted command.now change.now result }
     ensures accepted { is_accepted result ≡ true }
+    ensures made { has_made_none result ≡ true → imported change.now ≡ 0 }
 {
     match command {
         Command::Import { rows, .. } => {

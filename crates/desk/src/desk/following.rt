@@ -1,7 +1,6 @@
 //! How the kept day follows accepted commands.
 ghost use Rattle.std.specs.Prelude.{◌≡◌, true, false, option_copied, OnOk, OnErr};
-ghost use Rattle.desk.specs.Prepared.{day_of};
-ghost use Rattle.desk.specs.steps.Following.{BeginsOn, EditsTwoApart, MayDropOn};
+ghost use Rattle.desk.specs.steps.Following.{AddsSome, EditsTwoApart, MayDrop};
 ghost use Rattle.desk.specs.steps.Following.{Follows, FollowsChange, FollowsDay, FollowsEdit};
 
 use kept::Kept;
@@ -21,7 +20,7 @@ pub(super) struct Decided {
 /// Follows an edit of a holder's rows. If the holder has none, nothing ends and nothing begins.
 fn follow_edit(kept: &mut Kept, edit: &Edit, auths: Option<&Vec<Auth>>) -> Result<(), AllocError>
     ensures ok { OnOk result (FollowsEdit edit.now (option_copied auths.entry) kept.old kept.new) }
-    ensures err { OnErr result (BeginsOn edit.now kept.old.day) }
+    ensures err { OnErr result (AddsSome edit.now (option_copied auths.entry) kept.old) }
 {
     match auths {
         Some(auths) => kept.follow(edit, auths),
@@ -30,11 +29,12 @@ fn follow_edit(kept: &mut Kept, edit: &Edit, auths: Option<&Vec<Auth>>) -> Resul
 }
 
 /// Follows the change; returns whether it did. It does not follow new SLURM files, nor an edit that
-/// begins authorizations if an allocation fails.
+/// puts a VRP in if an allocation fails.
 fn follow_change(kept: &mut Kept, decided: &Decided) -> bool
     ensures yes { result ≡ true
         → FollowsChange decided.now.change decided.now.first decided.now.second kept.old kept.new }
-    ensures no { result ≡ false → MayDropOn decided.now.change kept.old.day }
+    ensures no { result ≡ false
+        → MayDrop decided.now.change decided.now.first decided.now.second kept.old }
 {
     let Change::Holders { first, second } = &decided.change else {
         return false;
@@ -52,7 +52,8 @@ fn follow_change(kept: &mut Kept, decided: &Decided) -> bool
 pub(super) fn follow(kept: &mut Option<Kept>, decided: &Decided)
     ensures follows { EditsTwoApart decided.now.change
         → Follows decided.now.change decided.now.first decided.now.second kept.old kept.new }
-    ensures day { FollowsDay decided.now.change (day_of kept.old) (day_of kept.new) }
+    ensures day { FollowsDay decided.now.change decided.now.first decided.now.second
+        kept.old kept.new }
 {
     if let Some(mut day) = kept.take() {
         if follow_change(&mut day, decided) {

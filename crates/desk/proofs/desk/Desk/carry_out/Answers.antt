@@ -2,7 +2,6 @@ use Rattle.std.proofs.Common.{◌≡◌, refl, sym, ap, ◌∙◌}
 use Rattle.std.proofs.lemmas.Bool.{false≢true, true≢false}
 use Rattle.desk.specs.CrashOutcomes.{asked_on}
 use Rattle.desk.specs.HolderAnswers.{may_change, may_except}
-use Rattle.desk.specs.Prepared.{day_of}
 use Rattle.desk.specs.declared.desk.Desk.{Desk}
 use Rattle.registry.specs.declared.asked.Request.TheVariants.{Command as CommandRequest}
 use Rattle.desk.proofs.CrashLemmas.{accepted_kept, failed_kept, read_kept}
@@ -47,8 +46,10 @@ returns-in-Ok-apply-clause-read g c reads =
 
 pub returns-in-Ok-apply-clause-kept_day : goal.returns-in-Ok-apply-clause-kept_day
 returns-in-Ok-apply-clause-kept_day g c =
+    let decided = c.in-Ok.decided in
     let same : c.self.inside.kept ≡ c.args.self.now.kept = ap (λ (d : Desk _). d.kept) c.self.view_is ∙ c.in-Ok.ensures.same in (
-      λ _. day_by c.args.command.now c.in-Ok.decided.change (day_of c.args.self.now.kept) (day_of c.follow.new.kept) c.in-Ok.ensures.decides.shape (rw same at c.follow.ensures.day),
+      λ _. day_by c.args.command.now decided.change c.accepted-reply.result decided.first decided.second c.args.self.now.kept c.follow.new.kept
+          c.in-Ok.ensures.decides.shape c.accepted-reply.ensures.made (rw same at c.follow.ensures.day),
       λ not. absurd (true≢false (sym c.accepted-reply.ensures.accepted ∙ not)),
     )
 

@@ -1,5 +1,4 @@
-use Rattle.std.proofs.lemmas.Result.{on_err_weaker}
-use Rattle.desk.proofs.FollowLemmas.{begins_on, follows_none, follows_some}
+use Rattle.desk.proofs.FollowLemmas.{follows_none, follows_some}
 use Rattle.desk.proofs.desk.following.follow_edit.Goals as goal
 
 pub returns-in-Some-clause-ok : goal.returns-in-Some-clause-ok
@@ -12,4 +11,4 @@ returns-in-None-clause-ok c = rw c.in-None.is (follows_none c.args.edit.now c.ar
 
 pub returns-in-Some-clause-err : goal.returns-in-Some-clause-err
 returns-in-Some-clause-err c =
-    on_err_weaker c.follow.result (λ some. begins_on c.args.edit.now c.deref.result.now c.args.kept.now.day some.0 some.1) c.follow.ensures.err
+    rw (c.in-Some.is, ← c.deref.ensures.value) c.follow.ensures.err
