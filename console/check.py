@@ -270,7 +270,9 @@ class Page:
             for scheme in ["dark", "light"]:
                 self.width(width)
                 self.scheme(scheme)
-                self.run("scrollTo(0, 0); document.querySelector('dialog[open] output')?.scrollIntoView()")
+                self.run("""scrollTo(0, 0);
+                    document.querySelector('dialog[open] output')?.scrollIntoView();
+                    document.querySelector('dialog[open] tr.denied')?.scrollIntoView({ block: 'center' });""")
                 time.sleep(0.5)
                 kind = ("" if width == 1280 else f"-{width}") + ("" if scheme == "light" else f"-{scheme}")
                 self.driver.save_screenshot(str(WORK / "pictures" / f"{name}{kind}.png"))

@@ -29,7 +29,17 @@ function element(tag, properties = {}, ...children) {
   return made;
 }
 
-const rowOf = (...contents) => element("tr", {}, ...contents.map((content) => element("td", {}, content)));
+/** A row of a table. A narrow screen shows rows as blocks, which take their roles from them. */
+const rowOf = (...contents) =>
+  element("tr", { role: "row" }, ...contents.map((content) => element("td", { role: "cell" }, content)));
+
+/** Names the cells of a row by their columns, for a narrow screen. */
+function nameCells(row, names) {
+  [...row.children].forEach((cell, at) => {
+    cell.dataset.name = names[at] ?? "";
+  });
+  return row;
+}
 
 function say(place, text, kind = "") {
   place.textContent = text;
@@ -149,7 +159,7 @@ function keep(what, text) {
 const COLUMNS = [
   ["Number", (line) => line.auth.number],
   ["AS", (line) => line.auth.asn],
-  ["Prefix-maxLength", (line) => (line.place ??= placeOf(readPrefix(entriesOf(line.auth)[0].prefix)))],
+  ["Prefix-maxLength", (line) => (line.place ??= placeOfText(entriesOf(line.auth)[0].prefix))],
   ["First day", (line) => line.auth.from],
   ["Last day", (line) => line.auth.until],
   ["State", (line) => line.state],
@@ -157,7 +167,14 @@ const COLUMNS = [
 
 let holder = "";
 let lines = [];
+const places = new Map();
 let sorted = { column: 0, falls: false };
+
+/** The place of a prefix in the order of prefixes, which is found once for all lists. */
+function placeOfText(prefix) {
+  if (!places.has(prefix)) places.set(prefix, placeOf(readPrefix(prefix)));
+  return places.get(prefix);
+}
 
 /** What is sorted and filtered. The place of its prefix and its row are made when they are needed, and once. */
 function toLine(auth) {
@@ -177,12 +194,7 @@ function listRow({ auth, state }) {
     `${auth.number}`, `AS${auth.asn}`, prefixes, auth.from, auth.until,
     element("span", { className: `state ${kinds[state]}` }, state), more,
   );
-  row.role = "row";
-  [...row.children].forEach((cell, at) => {
-    cell.role = "cell";
-    cell.dataset.name = COLUMNS[at]?.[0] ?? "";
-  });
-  return row;
+  return nameCells(row, COLUMNS.map(([name]) => name));
 }
 
 /** A test by a word: an address or a prefix in any spelling finds what covers it or lies in it. */
@@ -252,9 +264,11 @@ async function listAnew(done) {
   showListed(reply.listed);
 }
 
+const showListSoon = inNextFrame(showList);
+
 function showListed(listed) {
   lines = listed.map(toLine);
-  showList();
+  showListSoon();
 }
 
 /** Shows what is in force, to come or past on a day. */
@@ -262,7 +276,7 @@ function showAsOf(day) {
   if (!isDay(day)) return say($("notice"), `${day}: ${SENTENCES.malformed[8]}`, "fault");
   $("day").value = day;
   lines = lines.map(({ auth }) => toLine(auth));
-  showList();
+  showListSoon();
 }
 
 const underHolder = (...parts) => pathOf("holders", holder, ...parts);
@@ -420,9 +434,12 @@ function forgetReport() {
   sayOfChange("");
 }
 
-function heads(...names) {
-  $("report-head").replaceChildren(...names.map((name) => element("th", { scope: "col" }, name)));
+/** Fills the table of the dialog. */
+function fillReport(names, rows, toRow) {
+  const heads = names.map((name) => element("th", { scope: "col", role: "columnheader" }, name));
+  $("report-head").replaceChildren(...heads);
   $("report").hidden = false;
+  fill($("report"), rows, (item) => nameCells(toRow(item), names));
 }
 
 function offer(words, isDangerous) {
@@ -542,7 +559,7 @@ async function askDay(terms) {
   };
   try {
     const found = await findDay(isPast, deskDay);
-    if ($("day").value === deskDay) showAsOf(found);
+    if (found !== deskDay && $("day").value === deskDay) showAsOf(found);
     deskDay = found;
   } catch {
     // What keeps the desk from saying it is the fault of a report, too. Until then it is the day of the front's clock.
@@ -599,8 +616,7 @@ async function reportRoutes(made) {
   const which = routes.length ? `${count(routes.length, "watched route")}.`
     : "You watch no route there, so the report is on the authorization's own.";
   sayOfChange(`${which} ${sentencesOn(found)}${cutOf(found.effects.length)}`, number ? "fault" : "done");
-  heads("What happens", "Prefix", "Origin", "From", "State");
-  fill($("report"), found.effects.slice(0, SHOWN_AT_MOST), reportRow);
+  fillReport(["What happens", "Prefix", "Origin", "From", "State"], found.effects.slice(0, SHOWN_AT_MOST), reportRow);
   offerChange(made.verb, found);
   await offerExtras(made, found);
 }
@@ -746,7 +762,8 @@ const lookBySending = (request, rule, made, done) => async () => {
   return denied && denied === rule ? { isMade: true, words: made } : { fault };
 };
 
-const AGAIN_HINT = "To send it again is safe: if it was made, that changes nothing, and the desk says so.";
+const AGAIN_HINT = "If it was made, sending it again changes nothing, and tells that it was, unless somebody else changed "
+  + "the same since then.";
 
 /** What is said of the end of a task that no list shows. */
 function leaveTaskOpen(title, fault, request, { rule, made, done }) {
@@ -987,13 +1004,12 @@ function newRows(rows) {
 
 /** Shows the rows, those that are marked first where they come late: with the mark, and the reason in its column. */
 function showRows(rows, marks = []) {
-  heads("Row", "AS", "Prefix", "maxLength", "First day", "Last day");
   const marked = new Map();
   for (const mark of marks) marked.set(mark.place, [...(marked.get(mark.place) ?? []), mark]);
   const late = [...marked.keys()].filter((place) => place > SHOWN_AT_MOST).slice(0, SHOWN_AT_MOST);
   const shown = [...late.map((place) => rows[place - 1]), ...rows.slice(0, SHOWN_AT_MOST)];
   let isFirst = true;
-  fill($("report"), shown, ({ place, record }) => {
+  fillReport(["Row", "AS", "Prefix", "maxLength", "First day", "Last day"], shown, ({ place, record }) => {
     const row = rowOf(`${place}`, ...record);
     const own = marked.get(place) ?? [];
     if (!own.length) return row;
@@ -1106,8 +1122,7 @@ async function showEnded(name, prefix, verb) {
   const ended = reply.listed.filter((auth) => prefixesOf(auth).some((own) => overlap(own, place)));
   sayOfChange(`${rest} Of those that you may see there: ${ended.length || "none"}.`, ended.length ? "fault" : "done");
   if (ended.length) {
-    heads("Number", "Authorization that ends");
-    fill($("report"), ended, (auth) => rowOf(`${auth.number}`, `✗ ${describe(auth)}`));
+    fillReport(["Number", "Authorization that ends"], ended, (auth) => rowOf(`${auth.number}`, `✗ ${describe(auth)}`));
   }
   const sum = ended.length ? count(ended.length, "authorization ends", "authorizations end")
     : "no authorization that you may see ends";
@@ -1376,7 +1391,7 @@ async function meet() {
 function listen() {
   for (const id of Object.keys(FORMS)) $(id).addEventListener("submit", submit);
   for (const [id, task] of Object.entries(CLICKS)) $(id).addEventListener("click", () => task());
-  $("filter").addEventListener("input", inNextFrame(showList));
+  $("filter").addEventListener("input", showListSoon);
   $("filter-state").addEventListener("change", showList);
   $("payload-filter").addEventListener("input", inNextFrame(showPayloads));
   $("change-form").addEventListener("input", () => {
