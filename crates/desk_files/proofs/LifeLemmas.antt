@@ -1,23 +1,25 @@
 -- What a desk has after a crash, and after lives with a crash after each.
-use Rattle.std.proofs.Common.{◌≡◌, ℕ, ◌+◌, ◌<◌, IsTrue, List, [], ◌∷◌, ◌++◌, length, get_or, map, take, inl, refl, sym, ap, ◌∙◌, subst}
+use Rattle.std.proofs.Common.{All, ◌≡◌, ℕ, ◌+◌, ◌<◌, IsTrue, List, [], ◌∷◌, ◌++◌, length, get_or, map, take, inl, refl, sym, ap, ◌∙◌, subst}
 use Rattle.std.specs.Borrow.{Bor}
 use Rattle.std.specs.Global.{Vec}
 use Rattle.std.proofs.lemmas.List.{map-append, take_more}
+use Rattle.std.proofs.lemmas.List.Elements.{All-nil}
 use Rattle.sqlite.specs.Held.{Held, state}
 use Rattle.sqlite.specs.Store.{Ghosts}
 use Rattle.sqlite_trees.specs.View.{IsQuiet}
 use Rattle.charters.specs.declared.charter.Charter.{Charter}
 use Rattle.registry.specs.History.{History}
+use Rattle.registry.specs.Values.{AskedFits}
 use Rattle.registry.specs.Verdict.{IsLegal}
 use Rattle.registry.specs.declared.asked.Asked.{Asked}
 use Rattle.desk.specs.CrashOutcomes.{pending_after_all, AreKept, LeavesAtMost, MayBeLeft}
-use Rattle.desk.specs.Desk.{charter_of, HoldsHistory}
-use Rattle.desk.specs.Resumed.{FindsLeft, IsAtMostOneMore, ResumesHistories}
+use Rattle.desk.specs.Desk.{charter_of, HoldsHistory, Represents}
+use Rattle.desk.specs.Resumed.{FindsLeft, IsAtMostOneMore, PendingFits, ResumesHistories}
 use Rattle.desk.specs.Run.{Runs}
 use Rattle.desk.specs.declared.desk.Desk.{Desk}
 use Rattle.desk.specs.declared.reply.Reply.{Reply}
-use Rattle.desk.proofs.ResumedLemmas.{left_found}
-use Rattle.desk_files.specs.Lives.{LeavesLegal, Lives, LivesOn, ResumesAfter}
+use Rattle.desk.proofs.ResumedLemmas.{left_found, pending_after_all_fits}
+use Rattle.desk_files.specs.Lives.{HoldsLegal, LeavesLegal, Lives, LivesOn, ResumesAfter}
 
 abbrev requests : Bor (List Asked) → List Asked
 requests asked = asked.now
@@ -76,37 +78,69 @@ module _ {S : Type 0} (g : Ghosts S) where
       left = inl (crash_left it.charter it.before it.pending it.left);
     }
 
+  -- the desk answered a list on a history that it had
+  module _ (old ran : Desk S) (asked : List Asked) (list : List Reply)
+      (keeps : (history : History) → IsLegal (charter_of old) history → HoldsHistory g old history → AreKept g (charter_of old) history asked list old ran) where
+    kept_on : (charter : Charter) (history : History) → Represents g charter old history → AreKept g charter history asked list old ran
+    kept_on charter history is =
+        subst (λ (k : Charter). IsLegal k history → AreKept g k history asked list old ran) is.chartered
+        (λ legal. keeps history legal is.rows) is.legal
+
   -- one more list, then a crash
-  one_more_life : (start old ran new : Desk S) (lives : List (List Asked)) (replies : List (List Reply)) (asked : List Asked) (list : List Reply)
+  one_more_life : PendingFits → (start old ran new : Desk S) (lives : List (List Asked)) (replies : List (List Reply)) (asked : List Asked) (list : List Reply)
       → LivesOn g start lives replies old
       → ((history : History) → IsLegal (charter_of old) history → HoldsHistory g old history → AreKept g (charter_of old) history asked list old ran)
-      → ResumesAfter g ran new
+      → All AskedFits asked → ResumesAfter g ran new
       → LivesOn g start (lives ++ asked ∷ []) (replies ++ list ∷ []) new
-  one_more_life start old ran new lives replies asked list so_far keeps resumes charter before is has alone =
+  one_more_life more_fits start old ran new lives replies asked list so_far keeps each resumes charter before is has alone =
       let was = so_far charter before is has alone in
       let middle = was.0 in
-      let kept : AreKept g charter middle asked list old ran =
-      subst (λ (k : Charter). IsLegal k middle → AreKept g k middle asked list old ran) was.2.chartered
-      (λ legal. keeps middle legal was.2.rows) was.2.legal in
-      let again = resumes charter kept.answered.after (pending_after_all asked list []) is kept.answered.legal (kept.left [] was.3) in (
+      let kept = kept_on old ran asked list keeps charter middle was.2 in
+      let pending = pending_after_all asked list [] in
+      let again = resumes charter kept.answered.after pending is kept.answered.legal (kept.left [] was.4) in (
         again.0,
         Lives-append charter before middle kept.answered.after again.0 lives replies asked list was.1 kept.answered.runs again.1,
         again.2,
+        (λ fits.
+            more_fits charter kept.answered.after pending again.0 (kept.answered.values (was.3 fits))
+            (pending_after_all_fits asked list [] each (All-nil AskedFits)) again.1),
         again.3,
       )
 
-  -- the same, of the list at an index
-  pub live_more : (start old ran new : Desk S) (lives : List (Bor (List Asked))) (index : ℕ) (asked : Bor (List Asked)) (replies grown : List (Vec Reply)) (list : Vec Reply)
+  -- what a crash leaves after one more list, of a desk that had a legal history
+  pub lives_leave : PendingFits → (start old ran : Desk S) (lives : List (List Asked)) (replies : List (List Reply)) (asked : List Asked) (list : List Reply)
+      → LivesOn g start lives replies old
+      → ((history : History) → IsLegal (charter_of old) history → HoldsHistory g old history → AreKept g (charter_of old) history asked list old ran)
+      → All AskedFits asked → HoldsLegal g start → LeavesLegal g ran
+  lives_leave more_fits start old ran lives replies asked list so_far keeps each it =
+      let was = so_far it.charter it.history it.chartered it.represents it.left in
+      let kept = kept_on old ran asked list keeps it.charter was.0 was.2 in
+      let pending = pending_after_all asked list [] in
+      record {
+        charter = it.charter;
+        before = kept.answered.after;
+        pending = pending;
+        chartered = it.chartered;
+        named = it.named;
+        legal = kept.answered.legal;
+        fits = λ after.
+            more_fits it.charter kept.answered.after pending after (kept.answered.values (was.3 it.fits))
+            (pending_after_all_fits asked list [] each (All-nil AskedFits));
+        left = kept.left [] was.4;
+      }
+
+  -- one more life, of the list at an index
+  pub live_more : PendingFits → (start old ran new : Desk S) (lives : List (Bor (List Asked))) (index : ℕ) (asked : Bor (List Asked)) (replies grown : List (Vec Reply)) (list : Vec Reply)
       → index < length lives → asked ≡ get_or lives index asked → grown ≡ replies ++ list ∷ []
       → LivesOn g start (map requests (take index lives)) (map items replies) old
       → ((history : History) → IsLegal (charter_of old) history → HoldsHistory g old history → AreKept g (charter_of old) history asked.now list.items old ran)
-      → ResumesAfter g ran new
+      → All AskedFits asked.now → ResumesAfter g ran new
       → LivesOn g start (map requests (take (index + 1) lives)) (map items grown) new
-  live_more start old ran new lives index asked replies grown list below here pushed so_far keeps resumes =
+  live_more more_fits start old ran new lives index asked replies grown list below here pushed so_far keeps each resumes =
       let taken : take (index + 1) lives ≡ take index lives ++ asked ∷ [] = take_more lives index asked below ∙ ap (λ x. take index lives ++ x ∷ []) (sym here) in
       let requested : map requests (take (index + 1) lives) ≡ map requests (take index lives) ++ asked.now ∷ [] =
       ap (map requests) taken ∙ map-append requests (take index lives) (asked ∷ []) in
       let replied : map items grown ≡ map items replies ++ list.items ∷ [] = ap (map items) pushed ∙ map-append items replies (list ∷ []) in
       subst (λ (l : List (List Asked)). LivesOn g start l (map items grown) new) (sym requested)
       (subst (λ (r : List (List Reply)). LivesOn g start (map requests (take index lives) ++ asked.now ∷ []) r new) (sym replied)
-      (one_more_life start old ran new (map requests (take index lives)) (map items replies) asked.now list.items so_far keeps resumes))
+      (one_more_life more_fits start old ran new (map requests (take index lives)) (map items replies) asked.now list.items so_far keeps each resumes))

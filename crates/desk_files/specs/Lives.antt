@@ -68,11 +68,25 @@ Lives charter before (asked ∷ lives) (replies ∷ more) after =
     × IsAtMostOneMore charter left (pending_after_all asked replies []) next
     × Lives charter next lives more after
 
+-- The desk has a legal history of values of their types, and a crash leaves that and nothing else. The operators of the
+-- charter have names.
+pub record HoldsLegal {S : Type 0} (g : Ghosts S) (desk : Desk S) : Type 0 where
+  pub charter : Charter
+  pub history : History
+  pub chartered : IsCharter charter
+  pub named : AllByRecursion (λ name. IsTrue (is_name name)) charter.operators
+  pub represents : Represents g charter desk history
+  pub fits : HistoryFits history
+  pub left : LeavesAtMost g charter desk history []
+
 -- Where the old desk had a history, and a crash of it left that and nothing else, the new desk has a history to which
--- the lives lead from there, and a crash of it leaves that and nothing else.
+-- the lives lead from there, and a crash of it leaves that and nothing else. Its values are those of their types where
+-- those of the old one were.
 abbrev pub LivesOn : {S : Type 0} → Ghosts S → Desk S → List (List Asked) → List (List Reply) → Desk S → Type 0
 LivesOn g old lives replies new =
     (charter : Charter) (before : History) → IsCharter charter
     → Represents g charter old before → LeavesAtMost g charter old before []
     → (after : History) × Lives charter before lives replies after
-    × Represents g charter new after × LeavesAtMost g charter new after []
+    × Represents g charter new after
+    × (HistoryFits before → HistoryFits after)
+    × LeavesAtMost g charter new after []

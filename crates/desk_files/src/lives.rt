@@ -1,7 +1,8 @@
 //! A desk over a disk that may crash, and its lives: lists of requests, with a crash after each.
-ghost use Rattle.std.specs.Prelude.{IfErr, IfOk, map};
+ghost use Rattle.std.specs.Prelude.{◌≡◌, IfErr, IfOk, map};
+ghost use Rattle.sqlite_trees.specs.View.{IsClean};
 ghost use Rattle.desk.specs.Desk.{IsOnCleanDisk};
-ghost use Rattle.desk_files.specs.Lives.{LivesOn, RefusesAfter, ResumesAfter};
+ghost use Rattle.desk_files.specs.Lives.{HoldsLegal, LivesOn, RefusesAfter, ResumesAfter};
 
 use desk::{Asked, Desk, Reply};
 use sqlite::{Alter, Connection};
@@ -42,25 +43,37 @@ pub fn restart<S: Alter + Reopen + Drop>(
     }
 }
 
-/// Runs each list of requests on the desk, and crashes and opens it again after each.
+/// Runs each list of requests on the desk, and crashes and opens it again after each. If it is
+/// refused, the store is returned, as `restart` does.
 pub fn live<S: Alter + Reopen + Drop>(
     alloc: Global,
     mut desk: Desk<S>,
     lives: &[&[Asked]],
-) -> Result<Lived<S>, StoreFault>
+) -> Result<Lived<S>, (StoreFault, S)>
     ensures clean { IfOk result (λ lived. IsOnCleanDisk S.Store lived.desk
         → IsOnCleanDisk S.Store desk) }
     ensures lived { IfOk result (λ lived. IsOnCleanDisk S.Store lived.desk
         → LivesOn S.Store desk (map (λ asked. asked.now) lives.now)
         (map (λ list. list.items) lived.replies.items) lived.desk) }
+    ensures err { IfErr result (λ refused. IsClean (S.Store.view refused.1)
+        → IsOnCleanDisk S.Store desk) }
+    ensures not_schema { IfErr result (λ refused. IsClean (S.Store.view refused.1)
+        → refused.0 ≡ StoreFault.Schema → ¬ HoldsLegal S.Store desk) }
 {
-    let mut replies = Vec::with_capacity(alloc, lives.len())?;
+    // For the proof: the theorem by which the values of the requests reach the next life.
+    desk::laws::pending_fits();
+    let Ok(mut replies) = Vec::with_capacity(alloc, lives.len()) else {
+        return Err((StoreFault::Database, desk.close().into_store()));
+    };
     for asked in lives {
-        let list = desk.run(asked)?;
+        registry::laws::all_asked_fit(asked);
+        let Ok(list) = desk.run(asked) else {
+            return Err((StoreFault::Database, desk.close().into_store()));
+        };
         replies.push(list).unwrap();
         desk = match restart(alloc, desk) {
             Ok(again) => again,
-            Err((fault, _)) => return Err(fault),
+            Err(refused) => return Err(refused),
         };
     }
     Ok(Lived { desk, replies })

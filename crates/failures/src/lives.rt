@@ -16,7 +16,10 @@ fn desk_after(alloc: Global, lists: &[&[Asked]]) -> Result<Lived<FileStore<Fuse<
     let desk = sound_desk(alloc, small_options())?;
     match live(alloc, desk, lists) {
         Ok(lived) => Ok(lived),
-        Err(_) => Err("a desk that is refused".into()),
+        Err((_, store)) => {
+            drop(store.close());
+            Err("a desk that is refused".into())
+        }
     }
 }
 

@@ -1,14 +1,14 @@
-use Rattle.std.proofs.Common.{◌∙◌, refl, arith, take_all}
+use Rattle.std.proofs.Common.{◌∙◌, refl, arith, map, take, take_all}
 use Rattle.std.specs.Prelude.{IsOk}
-use Rattle.desk_files.proofs.LifeLemmas.{live_more}
+use Rattle.desk_files.proofs.LifeLemmas.{live_more, lives_leave}
 use Rattle.desk_files.proofs.lives.live.Goals as goal
 
 pub loop-asked-init : goal.loop-asked-init
 loop-asked-init g c = record {
-  room = omega (arith, c.in_ok-replies.ensures.capacity);
-  count = c.in_ok-replies.ensures.len;
+  room = omega (arith, c.in-Ok.ensures.capacity);
+  count = c.in-Ok.ensures.len;
   clean = λ clean. clean;
-  lived = λ clean charter before is has alone. (before, rw c.in_ok-replies.ensures.items refl, has, alone);
+  lived = λ clean charter before is has alone. (before, rw c.in-Ok.ensures.items refl, has, (λ fits. fits), alone);
 }
 
 pub loop-asked-preserved : goal.loop-asked-preserved
@@ -18,14 +18,23 @@ loop-asked-preserved g c =
     record {
       room = omega (arith, so_far.room, c.push.ensures.capacity);
       count = (rw pushed at c.push.ensures.len) ∙ rw so_far.count refl;
-      clean = λ clean. so_far.clean (c.in_ok-list.ensures.clean (c.in-Ok.ensures.clean clean));
+      clean = λ clean. so_far.clean (c.in-Ok-run.ensures.clean (c.in-Ok-restart.ensures.clean clean));
       lived = λ clean.
-          let ran = c.in-Ok.ensures.clean clean in
-          live_more g.S.Store c.args.desk c.loop-asked.desk c.run.new.self c.in-Ok.again c.args.lives.now c.loop-asked.asked-index c.asked-item.result
-          c.loop-asked.replies.items c.push.new.self.items c.in_ok-list.list c.loop-asked-test.true c.asked-item.is (rw pushed at c.push.ensures.items)
-          (so_far.lived (c.in_ok-list.ensures.clean ran)) (c.in_ok-list.ensures.left ran) (c.in-Ok.ensures.resumed clean);
+          let ran = c.in-Ok-restart.ensures.clean clean in
+          live_more g.S.Store c.pending_fits.ensures c.args.desk c.loop-asked.desk c.run.new.self c.in-Ok-restart.again c.args.lives.now c.loop-asked.asked-index c.asked-item.result
+          c.loop-asked.replies.items c.push.new.self.items c.in-Ok-run.list c.loop-asked-test.true c.asked-item.is (rw pushed at c.push.ensures.items)
+          (so_far.lived (c.in-Ok-run.ensures.clean ran)) (c.in-Ok-run.ensures.left ran) c.all_asked_fit.ensures (c.in-Ok-restart.ensures.resumed clean);
     }
 
 pub returns-clause-lived : goal.returns-clause-lived
 returns-clause-lived g c clean =
     rw (take_all c.loop-asked.asked-index c.args.lives.now (omega (arith, c.loop-asked-test.false))) at (c.loop-asked.invariant.lived clean)
+
+pub returns-in-Err-clause-not_schema : goal.returns-in-Err-clause-not_schema
+returns-in-Err-clause-not_schema g c clean is it =
+    let ran = c.in-Err.ensures.err.clean clean in
+    c.in-Err.ensures.err.not_schema clean is
+    (lives_leave g.S.Store c.pending_fits.ensures c.args.desk c.loop-asked.desk c.run.new.self
+    (map (λ asked. asked.now) (take c.loop-asked.asked-index c.args.lives.now)) (map (λ list. list.items) c.loop-asked.replies.items)
+    c.asked-item.result.now c.in-Ok-run.list.items (c.loop-asked.invariant.lived (c.in-Ok-run.ensures.clean ran)) (c.in-Ok-run.ensures.left ran)
+    c.all_asked_fit.ensures it)
