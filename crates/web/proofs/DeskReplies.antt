@@ -9,6 +9,7 @@ use Rattle.desk.specs.Lent.{HasLent}
 use Rattle.desk.specs.Prepared.{day_of}
 use Rattle.desk.proofs.CrashLemmas.{read_kept}
 use Rattle.payload.specs.VrpSet as set
+use Rattle.registry.specs.Values.{AskedFits}
 use Rattle.registry.specs.declared.asked.Asked.{Asked}
 use Rattle.registry.specs.declared.asked.Request.TheVariants.{Query as QueryRequest}
 use Rattle.registry.specs.declared.command.Query.TheVariants.{Payloads as PayloadsQuery}
@@ -24,11 +25,12 @@ lent_reply (Some vrps) = Payloads (set.items vrps.now)
 
 module _ {S : Type 0} (g : Ghosts S) where
   -- the desk answered a request
-  pub replies_at : (old new : Desk S) (request : Asked) (reply : Reply) → IsLaterDesk g old new
+  pub replies_at : (old new : Desk S) (request : Asked) (reply : Reply) → AskedFits request → IsLaterDesk g old new
       → OfHistories g old new (λ history. IsKept g (charter_of old) history request reply old new)
       → (is_accepted reply ≡ false → KeepsRows g old new)
       → DayAfter request.day request.request reply (day_of old.kept) (day_of new.kept) → RepliesAt g old request reply new
-  replies_at old new request reply later left kept day = record {
+  replies_at old new request reply fits later left kept day = record {
+    fits = fits;
     later = later;
     replies = λ clean before represents.
         let is = left clean before represents.legal represents.rows in
@@ -50,14 +52,14 @@ module _ {S : Type 0} (g : Ghosts S) where
       → HasLent g request.day old result new → RepliesAt g old request (lent_reply result) new
   lent_replies old new request None payloads lent =
       let read = lent.prepared.read in
-      replies_at old new request Unavailable (record { charter = read.charter; limit = read.limit; clean = read.clean })
+      replies_at old new request Unavailable (rw payloads tt) (record { charter = read.charter; limit = read.limit; clean = read.clean })
       (λ clean history legal held.
       read_kept g history request Unavailable old new refl read clean legal (rw payloads (tt, refl)) (lent.prepared.held clean history legal held))
       (λ _. read.rows) (rw payloads (lent_day old new request.day None lent))
   lent_replies old new request (Some vrps) payloads lent =
       let read = lent.prepared.read in
       let reply = Payloads (set.items vrps.now) in
-      replies_at old new request reply (record { charter = read.charter; limit = read.limit; clean = read.clean })
+      replies_at old new request reply (rw payloads tt) (record { charter = read.charter; limit = read.limit; clean = read.clean })
       (λ clean history legal held.
       read_kept g history request reply old new refl read clean legal (rw payloads (lent.answered clean history legal held, refl)) (lent.prepared.held clean history legal held))
       (λ _. read.rows) (rw payloads (lent_day old new request.day (Some vrps) lent))

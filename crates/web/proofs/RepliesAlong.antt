@@ -1,15 +1,16 @@
 -- What a desk replies is replied on each history that it represents, of which a crash leaves no more than the reply
 -- allows.
-use Rattle.std.proofs.Common.{refl, subst}
+use Rattle.std.proofs.Common.{All, refl, subst}
 use Rattle.sqlite.specs.Store.{Ghosts}
 use Rattle.registry.specs.History.{History}
-use Rattle.registry.specs.Values.{HistoryFits}
+use Rattle.registry.specs.Values.{AskedFits, HistoryFits}
 use Rattle.registry.specs.declared.asked.Asked.{Asked}
 use Rattle.charters.specs.declared.charter.Charter.{Charter}
 use Rattle.desk.specs.CrashOutcomes.{LeavesAlong, LeavesAtMost, pending_after}
 use Rattle.desk.specs.Desk.{IsOnCleanDisk, Represents}
 use Rattle.desk.specs.declared.desk.Desk.{Desk}
 use Rattle.desk.specs.declared.reply.Reply.{Reply}
+use Rattle.desk.proofs.ResumedLemmas.{pending_after_fits}
 use Rattle.web.specs.ScriptAnswer.{RepliesAt, RepliesLeaving, RepliesOn, Standing}
 
 module _ {S : Type 0} (g : Ghosts S) where
@@ -18,9 +19,11 @@ module _ {S : Type 0} (g : Ghosts S) where
   RepresentsFrom charter first desk history = Represents g charter desk history × (HistoryFits first → HistoryFits history)
 
   -- and a crash leaves at most that with one of the pending requests
-  abbrev pub StandsFrom : Charter → History → Desk S → Standing → Type 0
+  abbrev pub StandsFrom : Charter → Standing → Desk S → Standing → Type 0
   StandsFrom charter first desk standing =
-      RepresentsFrom charter first desk standing.history × LeavesAtMost g charter desk standing.history standing.pending
+      RepresentsFrom charter first.history desk standing.history
+      × (All AskedFits first.pending → All AskedFits standing.pending)
+      × LeavesAtMost g charter desk standing.history standing.pending
 
   replied : (charter : Charter) (first : History) (old new : Desk S) (request : Asked) (reply : Reply) (before : History)
       → IsOnCleanDisk g new → RepresentsFrom charter first old before → RepliesAt g old request reply new
@@ -38,10 +41,10 @@ module _ {S : Type 0} (g : Ghosts S) where
       let (after, stands_after, answers, left) = replied charter first old new request reply before clean stands at in
       (after, stands_after, answers)
 
-  pub replied_leaving : (charter : Charter) (first : History) (old new : Desk S) (request : Asked) (reply : Reply) (before : Standing)
+  pub replied_leaving : (charter : Charter) (first : Standing) (old new : Desk S) (request : Asked) (reply : Reply) (before : Standing)
       → IsOnCleanDisk g new → StandsFrom charter first old before → RepliesAt g old request reply new
       → (after : Standing) × StandsFrom charter first new after × RepliesLeaving charter before request reply after
-  replied_leaving charter first old new request reply before clean (stands, leaves) at =
-      let (after, stands_after, answers, left) = replied charter first old new request reply before.history clean stands at in
+  replied_leaving charter first old new request reply before clean (stands, fitting, leaves) at =
+      let (after, stands_after, answers, left) = replied charter first.history old new request reply before.history clean stands at in
       let pending = pending_after request reply before.pending in
-      (record { history = after; pending = pending }, (stands_after, left before.pending leaves), (answers, refl))
+      (record { history = after; pending = pending }, (stands_after, (λ fits. pending_after_fits request reply before.pending at.fits (fitting fits)), left before.pending leaves), (answers, refl))

@@ -65,7 +65,7 @@ module _ {S : Type 0} (g : Ghosts S) where
       AnswersLine-along (RepliesAt g) (IsOnCleanDisk g) (RepresentsFrom g charter first) (RepliesOn charter) (replied_on g charter first)
 
   -- and a crash leaves no more than the answer allows
-  line_leaving : (charter : Charter) (first : History) (state next : Desk S) (line : Option (List ℕ)) (text : List ℕ) (standing : Standing) → IsOnCleanDisk g next → StandsFrom g charter first state standing → AnswersLineAt g state line text next → (later : Standing) × StandsFrom g charter first next later × AnswersLineLeaving charter standing line text later
+  line_leaving : (charter : Charter) (first : Standing) (state next : Desk S) (line : Option (List ℕ)) (text : List ℕ) (standing : Standing) → IsOnCleanDisk g next → StandsFrom g charter first state standing → AnswersLineAt g state line text next → (later : Standing) × StandsFrom g charter first next later × AnswersLineLeaving charter standing line text later
   line_leaving charter first =
       AnswersLine-along (RepliesAt g) (IsOnCleanDisk g) (StandsFrom g charter first) (RepliesLeaving charter) (replied_leaving g charter first)
 
@@ -76,8 +76,8 @@ module _ {S : Type 0} (g : Ghosts S) where
         let (after, (represents_after, values), answered) = AnswersEach-along (AnswersLineAt g) (IsOnCleanDisk g) clean_before (RepresentsFrom g (charter_of old) before) (AnswersLineOn (charter_of old)) (line_on (charter_of old) before) old new lines w w' before clean (represents, λ fits. fits) each in
         (after, represents_after, values, answered)),
     λ clean charter before represents leaves.
-        let (after, ((represents_after, values), left), answered) = AnswersEach-along (AnswersLineAt g) (IsOnCleanDisk g) clean_before (StandsFrom g charter before.history) (AnswersLineLeaving charter) (line_leaving charter before.history) old new lines w w' before clean ((represents, λ fits. fits), leaves) each in
-        (after, answered, represents_after, values, left),
+        let (after, ((represents_after, values), fitting, left), answered) = AnswersEach-along (AnswersLineAt g) (IsOnCleanDisk g) clean_before (StandsFrom g charter before) (AnswersLineLeaving charter) (line_leaving charter before) old new lines w w' before clean ((represents, λ fits. fits), (λ fits. fits), leaves) each in
+        (after, answered, represents_after, values, fitting, left),
   )
 
   pub broken_along : (old new : Desk S) (lines : List (List ℕ)) (w w' : List ℕ) → BreaksOff (AnswersLineAt g) old new lines w w' → BreaksOffLines g old new lines w w'
@@ -87,8 +87,8 @@ module _ {S : Type 0} (g : Ghosts S) where
         let (after, (represents_after, values), answered) = BreaksOff-along (AnswersLineAt g) (IsOnCleanDisk g) clean_before (RepresentsFrom g (charter_of old) before) (AnswersLineOn (charter_of old)) (line_on (charter_of old) before) old new lines w w' before clean (represents, λ fits. fits) broken in
         (after, represents_after, values, answered)),
     λ clean charter before represents leaves.
-        let (after, ((represents_after, values), left), answered) = BreaksOff-along (AnswersLineAt g) (IsOnCleanDisk g) clean_before (StandsFrom g charter before.history) (AnswersLineLeaving charter) (line_leaving charter before.history) old new lines w w' before clean ((represents, λ fits. fits), leaves) broken in
-        (after, answered, represents_after, values, left),
+        let (after, ((represents_after, values), fitting, left), answered) = BreaksOff-along (AnswersLineAt g) (IsOnCleanDisk g) clean_before (StandsFrom g charter before) (AnswersLineLeaving charter) (line_leaving charter before) old new lines w w' before clean ((represents, λ fits. fits), (λ fits. fits), leaves) broken in
+        (after, answered, represents_after, values, fitting, left),
   )
 
   -- ---- rows

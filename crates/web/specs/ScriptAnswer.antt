@@ -1,10 +1,10 @@
 -- What a script's line is answered with, and what this leaves: a line that is no request has its malformed text,
 -- another the text of the reply; a line for which an allocation failed has the text of Unavailable and changes
 -- nothing.
-use Rattle.std.specs.Prelude.{◌≡◌, ℕ, true, false, List, ◌++◌, Option, Some, None, ◌⊎◌}
+use Rattle.std.specs.Prelude.{◌≡◌, ℕ, true, false, All, List, ◌++◌, Option, Some, None, ◌⊎◌}
 use Rattle.sqlite.specs.Store.{Ghosts}
 use Rattle.registry.specs.History.{History}
-use Rattle.registry.specs.Values.{HistoryFits}
+use Rattle.registry.specs.Values.{AskedFits, HistoryFits}
 use Rattle.charters.specs.declared.charter.Charter.{Charter}
 use Rattle.desk.specs.Answer.{AnswersRequest, is_accepted}
 use Rattle.desk.specs.CrashOutcomes.{LeavesAlong, LeavesAtMost, pending_after}
@@ -50,7 +50,8 @@ RepliesLeaving charter before request reply after =
     × (after.pending ≡ pending_after request reply before.pending)
 
 -- As OnHistories, with what a crash may leave: where it leaves of the old desk at most the history, or that with one of
--- the pending requests, it leaves of the new desk at most the history and the requests to which these go on.
+-- the pending requests, it leaves of the new desk at most the history and the requests to which these go on. The values of
+-- these requests, too, are those of their types where those of the first ones were.
 abbrev pub OnStandings : {S : Type 0} → Ghosts S → Desk S → Desk S → (Charter → Standing → Standing → Type 0) → Type 0
 OnStandings g old new goes_on =
     IsOnCleanDisk g new → (charter : Charter) (before : Standing)
@@ -60,6 +61,7 @@ OnStandings g old new goes_on =
     × goes_on charter before after
     × Represents g charter new after.history
     × (HistoryFits before.history → HistoryFits after.history)
+    × (All AskedFits before.pending → All AskedFits after.pending)
     × LeavesAtMost g charter new after.history after.pending
 
 -- The desk at a later time: its charter and the limit of its steps are the same, and a disk that returns what was
@@ -71,8 +73,10 @@ pub record IsLaterDesk {S : Type 0} (g : Ghosts S) (old new : Desk S) : Type 0 w
 
 -- The reply of a desk to a request: it is that on each history that the desk represents, of which a crash leaves no
 -- more than the reply allows; and one to no accepted command leaves the rows, whether they are those of a history or not.
--- The day whose VRPs the desk keeps is then what this request with this reply makes of the day that it kept before.
+-- The day whose VRPs the desk keeps is then what this request with this reply makes of the day that it kept before. The
+-- values of the request are those of their types.
 pub record RepliesAt {S : Type 0} (g : Ghosts S) (old : Desk S) (request : Asked) (reply : Reply) (new : Desk S) : Type 0 where
+  pub fits : AskedFits request
   pub later : IsLaterDesk g old new
   pub replies : OnHistories g old new (λ before after. RepliesOn (charter_of old) before request reply after
       × LeavesAlong g (charter_of old) old before (pending_after request reply) new after)

@@ -63,6 +63,7 @@ fn reply_to<D: Drain, A: Alter>(
     if let Request::Query(Query::Payloads) = &asked.request {
         return write_payloads(desk, drain, asked);
     }
+    registry::laws::asked_fits(asked);
     let reply = desk.handle(asked.day, &asked.caller, &asked.request);
     write_reply(&reply, drain)
 }

@@ -67,6 +67,7 @@ fn answer_to<D: Drain, A: Alter>(
     if let Request::Query(Query::Payloads) = &asked.request {
         return write_payloads(drain, desk, form, asked);
     }
+    registry::laws::asked_fits(asked);
     let reply = desk.handle(asked.day, &asked.caller, &asked.request);
     write_reply_response(alloc, drain, form, &reply)
 }
