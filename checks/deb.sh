@@ -63,7 +63,8 @@ expect 'logs: made before nginx starts' "$(sed -n 's/^f \([^ ]*\) 0640 www-data 
     held/usr/lib/tmpfiles.d/roadesk.conf | sort)" "$(grep -o '/var/log/[a-z./]*' $site | sort)"
 # In every text, the folder of these three is the same.
 names='cert\.pem|key\.pem|callers'
-grep -ohE "/[a-z/]*/($names)" $site held/usr/share/doc/roadesk/GUIDE.md "$top/packaging/roadesk.8" | sort -u >named
+grep -ohE "/[a-z/]*/($names)" $site held/usr/share/doc/roadesk/{GUIDE,OPERATIONS}.md "$top/packaging/roadesk.8" |
+    sort -u >named
 expect 'certificate, key and callers: where they are' "$(cat named)" '/etc/roadesk/callers
 /etc/roadesk/cert.pem
 /etc/roadesk/key.pem'

@@ -6,7 +6,7 @@
 # No two machines and no module of the kernel are needed: record.c records the writes and the syncs of the desk, and
 # failover.py plays them onto a second pair of files, up to the last sync, as a mirror has them that answers a sync when
 # both machines have synced. The desk is killed at random moments under load, and goes on with the second pair. What the
-# mirror itself does is not tested; drbdadm reads the resource file of the guide.
+# mirror itself does is not tested; drbdadm reads the resource file in the blocks of OPERATIONS.md.
 #
 # Needs the built program, which PROGRAM may name, gcc and python3 from 3.10 on, and for the resource file drbdadm.
 #

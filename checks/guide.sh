@@ -1,11 +1,12 @@
 #!/usr/bin/env bash
-# Runs the commands of GUIDE.md and compares what they print with what it says.
+# Runs the commands of GUIDE.md and OPERATIONS.md and compares what they print with what these say.
 #
-#     guide.sh [GUIDE]
+#     guide.sh [DOCUMENT...]      (both of docs/, if none is given)
 #
-# The blocks marked sh run in one shell, in their order, in a temporary folder with a copy of the files that git tracks.
-# So what they make does not stay, and they cannot reach what the reader made at the top of the repository, such as
-# desk.db and front/. The copy is taken from a repository in use, which has to be the same before and after.
+# The blocks marked sh run in one shell, in their order, those of the second document after those of the first, in a
+# temporary folder with a copy of the files that git tracks. So what they make does not stay, and they cannot reach what
+# the reader made at the top of the repository, such as desk.db and front/. The copy is taken from a repository in use,
+# which has to be the same before and after.
 #
 # What a block prints, on standard error too, has to be the block after a line that ends with `prints` or `print`. Where
 # there is none, it has to end with status 0.
@@ -14,19 +15,25 @@
 # COMMAND..` needs these commands and is else not run; `netfilter` stands for the right to make a network namespace with
 # rules of nftables, which root has, and the command nft.
 #
-# Ends with 0 where all blocks ran and did as the guide says, with 1 where one did otherwise or something else failed,
-# and with 77, after what is missing, where not all of them could be run.
+# Ends with 0 if all blocks ran and did as the documents say, with 1 if one did otherwise or something else failed, and
+# with 77, after what is missing, if not all of them could be run.
 set -u
 . "$(dirname "${BASH_SOURCE[0]}")/common.sh"
 need git
 find_program
-guide=${1:-$top/docs/GUIDE.md}
+[ $# -gt 0 ] || set -- "$top"/docs/{GUIDE,OPERATIONS}.md
 make_work
 # The workers of an nginx that root starts are another user.
 chmod 711 "$work"
 
-# Block N becomes N.sh, with its line in N.line, what it needs in N.needs, and what it is said to print in N.said.
+# Block N becomes N.sh, with its document and line in N.line, what it needs in N.needs, and what it is said to print in
+# N.said.
 awk -v work="$work" '
+    FNR == 1 {
+        inside = is_said = 0
+        document = FILENAME
+        sub(".*/", "", document)
+    }
     /^```/ && inside { inside = 0; next }
     inside { if (file) print >file; next }
     /^```/ {
@@ -34,7 +41,7 @@ awk -v work="$work" '
         file = ""
         if ($0 ~ /^```sh( needs .*)?$/) {
             file = work "/" ++blocks ".sh"
-            print FNR >(work "/" blocks ".line")
+            print document ":" FNR >(work "/" blocks ".line")
             print substr($0, length("```sh needs ") + 1) >(work "/" blocks ".needs")
         } else if (is_said && blocks)
             file = work "/" blocks ".said"
@@ -42,9 +49,9 @@ awk -v work="$work" '
         is_said = 0
         next
     }
-    NF { is_said = /(^| )prints?:?$/ }' "$guide" || exit 1
+    NF { is_said = /(^| )prints?:?$/ }' "$@" || exit 1
 blocks=$(find "$work" -name '*.sh' | wc -l)
-[ "$blocks" -gt 0 ] || fail "$guide has no blocks"
+[ "$blocks" -gt 0 ] || fail "no blocks in $*"
 
 # A hook of git names its own repository in these.
 # shellcheck disable=SC2046
@@ -61,7 +68,7 @@ sum_used() {
     (cd "$work/used" && find . -type f -exec sha256sum {} + | sort)
 }
 
-# A repository whose reader followed the guide by hand. The folder for the blocks is made from it.
+# A repository whose reader followed the documents by hand. The folder for the blocks is made from it.
 mkdir -p "$work/used/front" "$work/top"
 copy_tracked "$top" "$work/used" && git -C "$work/used" init -q && git -C "$work/used" add -f . || exit 1
 for file in desk.db front/key.pem front/cert.pem front/callers; do
@@ -91,7 +98,7 @@ missing_for() {
     done
 }
 
-# tell_missing: says once of each of them what it is, and the lines of the blocks that need it.
+# tell_missing: says once of each of them what it is, and where the blocks are that need it.
 tell_missing() {
     local tool what block lines
     while read -r tool; do
@@ -102,7 +109,7 @@ tell_missing() {
         lines=$(for block in $(seq "$blocks"); do
             ! grep -qxF "$tool" "$work/$block.missing" || cat "$work/$block.line"
         done | paste -sd ,)
-        not_run "$what, for the blocks at the lines ${lines//,/, }"
+        not_run "$what, for the blocks at ${lines//,/, }"
     done < <(cat "$work"/*.missing | sort -u)
 }
 
@@ -133,7 +140,7 @@ run_blocks() {
     done
 }
 
-# judge N: the verdict on block N; false where it did otherwise than the guide says.
+# judge N: the verdict on block N; false if it did otherwise than its document says.
 judge() {
     local at=$work/$1
     if [ -s "$at.missing" ]; then
@@ -164,7 +171,7 @@ timeout 600 bash -c run_blocks
 
 for block in $(seq "$blocks"); do
     verdict=$(judge "$block") || failed=1
-    echo "line $(cat "$work/$block.line"): $verdict"
+    echo "$(cat "$work/$block.line"): $verdict"
 done
 expect 'a repository in use, before and after' "$(sum_used | diff "$work/used.before" -)" ''
 end

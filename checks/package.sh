@@ -5,8 +5,8 @@
 #     package.sh [CASE...]      (all cases, in their order, where left out)
 #
 # Each case is a function below. `installs` and `front` are run before any other, and `versions` and `removes` need
-# `desks`. The blocks of docs/GUIDE.md that install the package, its front and a further desk are run as they are
-# printed there. Nothing outside of the namespaces is changed: the settings of the kernel are read-only there, and at
+# `desks`. The blocks of GUIDE.md and OPERATIONS.md that install the package, its front and a further desk are run as
+# they are printed there. Nothing outside of the namespaces is changed: the settings of the kernel are read-only there, and at
 # the end no mount, process or cgroup is left.
 #
 # Not covered: a second boot, midnight by its timer, what apt fetches as recommended, and a power cut.
@@ -97,7 +97,7 @@ fi
 echo "$version~before" >"$work/before/VERSION"
 older=$("$work/before/packaging/package.sh" "$program" "$work/trial/out") || fail 'no package was made of the files before'
 
-# The examples and a `roadesk` that has made its package already, for the blocks of the guide.
+# The examples and a `roadesk` that has made its package already, for the blocks of the documents.
 cp -r "$top/examples" "$work/trial"
 printf '#!/bin/sh\n[ "$*" = package ]\n' >"$work/trial/roadesk"
 chmod +x "$work/trial/roadesk"
@@ -190,12 +190,13 @@ shell() {
     inside bash -c 'cd /var/tmp/trial && eval "$1"' - "$@" 2>&1
 }
 
-# block TEXT: the block of the guide that has this text, with the name that the package has here.
+# block TEXT: the first block of GUIDE.md and OPERATIONS.md that has this text, with the name that the package has here.
 block() {
-    awk -v text="$1" '/^```/ { if (within && index(lines, text)) { printf "%s", lines; exit }
+    awk -v text="$1" 'FNR == 1 { within = 0 }
+        /^```/ { if (within && index(lines, text)) { printf "%s", lines; exit }
             within = !within; lines = ""; next }
-        within { lines = lines $0 "\n" }' "$top/docs/GUIDE.md" | sed "s#out/roadesk_[^ ]*\.deb#out/${package##*/}#" |
-        grep . || echo "exit 2 # no block of the guide has $1"
+        within { lines = lines $0 "\n" }' "$top"/docs/{GUIDE,OPERATIONS}.md |
+        sed "s#out/roadesk_[^ ]*\.deb#out/${package##*/}#" | grep . || echo "exit 2 # no block has $1"
 }
 
 boot() {
@@ -533,7 +534,7 @@ AS64496,2001:db8::/32,48
         journalctl -q -b -o cat | grep "status=31/SYS" | grep roadesk' 2>&1)" 1
 }
 
-# Two more desks, by the guide.
+# Two more desks, by OPERATIONS.md.
 desks() {
     shell "$(block 'systemctl enable --now roadesk@east.service')" >"$work/desks"
     shell "$(block 'systemctl enable --now roadesk@east.service' | sed 's/east/west/g; s/8082/8083/g

@@ -1,6 +1,6 @@
 #!/usr/bin/env bash
-# Whether the program keeps what it answered where it is killed and where its disk is full or fails, and says what the
-# guide says where others use or change its files.
+# Whether the program keeps what it answered where it is killed and where its disk is full or fails, and says what
+# OPERATIONS.md says if others use or change its files.
 #
 #     stops.sh [LIVES [SEED]]      (200 lives, and a seed that is drawn, where left out)
 #

@@ -60,6 +60,6 @@ install -D -m 644 "$top/examples/nginx.conf" "$root/usr/share/roadesk/nginx-site
 install -d "$root/usr/share/man/man8" "$root/usr/share/doc/roadesk"
 sed "s/@VERSION@/$(cat "$top/VERSION")/" "$here/roadesk.8" | gzip -9n >"$root/usr/share/man/man8/roadesk.8.gz"
 chmod 644 "$root/usr/share/man/man8/roadesk.8.gz"
-install -m 644 "$top"/docs/{GUIDE,FORMATS,DEFINITIONS,ROA-CONTENT}.md "$top"/docs/{openapi,lines.schema}.json \
+install -m 644 "$top"/docs/{GUIDE,OPERATIONS,FORMATS,DEFINITIONS,ROA-CONTENT}.md "$top"/docs/{openapi,lines.schema}.json \
     "$top/CHANGELOG.md" "$root/usr/share/doc/roadesk"
 cp -r --no-preserve=mode,ownership "$top/examples" "$root/usr/share/doc/roadesk"
