@@ -1,19 +1,22 @@
 -- What connections leave of the files of a desk.
-use Rattle.std.proofs.Common.{◌≡◌, Bool, List, [], Option, Some, None, Result, Ok, Err, IfErr, ℕ, subst, sym}
+use Rattle.std.proofs.Common.{◌≡◌, Bool, List, [], Option, Some, None, Result, Ok, Err, IfErr, ℕ, refl, subst, sym}
 use Rattle.std.proofs.lemmas.List.{append-nil}
 use Rattle.sqlite.specs.Files.{over_files}
 use Rattle.sqlite_disk.specs.declared.Disk.{Ghosts}
 use Rattle.sqlite_disk.specs.declared.Files.{Files}
+use Rattle.sqlite_store.specs.FileStore.{view}
 use Rattle.sqlite_store.specs.declared.store.FileStore.{FileStore}
+use Rattle.sqlite_trees.specs.View.{IsClean}
 use Rattle.sqlite_wal.specs.Recovery.{Image}
 use Rattle.charters.specs.declared.charter.Charter.{Charter}
 use Rattle.registry.specs.History.{History}
 use Rattle.desk.specs.Desk.{charter_of, HoldsHistory, IsOnCleanDisk, Represents}
 use Rattle.desk.specs.declared.desk.Desk.{Desk}
 use Rattle.desk_files.specs.DeskFiles.{KeepDesk, ResumesFiles}
+use Rattle.desk_files.specs.Refused.{KeepsUnclosed}
 use Rattle.tasks.specs.Connections.{Accepts}
-use Rattle.tasks.specs.ServedFiles.{IfClosed, IfNotBind, IsCauseOf, IsLateCause, KeepsFiles}
-use Rattle.tasks.specs.ServedHistories.{KeepServed}
+use Rattle.tasks.specs.ServedFiles.{IfClosed, IfNotBind, IfUnclosed, IsCauseOf, IsLateCause, KeepsFiles, LeavesStore, LeavesUnclosed}
+use Rattle.tasks.specs.ServedHistories.{KeepServed, LeavesInTurn}
 use Rattle.tasks.specs.Serving.{AnswersInTurn, Serves, Transcript}
 use Rattle.tasks.specs.declared.serve_desk.ServeFault.{ServeFault}
 use Rattle.tasks.specs.declared.serve_desk.ServeFault.TheVariants.{Accept, Bind, Close, Open}
@@ -56,13 +59,53 @@ if_closed (Err (Accept (Ok files))) P Q R both p q = both files p q
 if_closed (Err (Accept (Err store))) P Q R both p q = tt
 if_closed (Err (Close store)) P Q R both p q = tt
 
+-- ---- not closed
+
+-- a desk that answered connections and was not closed leaves at most what they lead to
+pub leaves_store : {D : Type 0} {g : Ghosts D} (day : ℕ) (passed : List Transcript) (old new : Desk (FileStore D g))
+    (store : FileStore D g) → LeavesInTurn over_files day old passed new → KeepsUnclosed new store
+    → IsClean (view store) → LeavesStore day old passed store
+leaves_store day passed old new store leaves kept clean charter before is left =
+    let (after, leads, represents, fits, left_after) = leaves (kept.clean clean) charter before is left in
+    record {
+      after = after;
+      leads = leads;
+      legal = represents.legal;
+      fits = fits;
+      left = kept.left charter after.history after.pending left_after;
+    }
+
+-- no connection changes nothing
+pub leaves_none : {D : Type 0} {g : Ghosts D} (day : ℕ) (desk : Desk (FileStore D g)) → LeavesInTurn over_files day desk [] desk
+leaves_none day desk clean charter before is left = (before, refl, is, (λ fits. fits), left)
+
+-- with the desk that was opened in files, what a crash leaves of it is what one leaves of the files
+pub leaves_unclosed : {D : Type 0} {g : Ghosts D} (image : Image) (day : ℕ) (passed : List Transcript)
+    (desk : Desk (FileStore D g)) (store : FileStore D g) → ResumesFiles image desk → LeavesStore day desk passed store
+    → LeavesUnclosed image day passed store
+leaves_unclosed image day passed desk store resumes leaves charter before pending chartered legal found =
+    let (history, more, is, none) = resumes charter before pending chartered legal found in
+    (history, more, leaves charter (record { history = history; pending = [] }) is none)
+
+pub if_unclosed : {D : Type 0} {g : Ghosts D} (result : Result (Files D) (ServeFault D g)) (P Q R : FileStore D g → Type 0)
+    → ((store : FileStore D g) → P store → Q store → R store) → IfUnclosed result P → IfUnclosed result Q → IfUnclosed result R
+if_unclosed (Ok files) P Q R both p q = tt
+if_unclosed (Err (Open fault)) P Q R both p q = tt
+if_unclosed (Err (Bind fault (Ok files))) P Q R both p q = tt
+if_unclosed (Err (Bind fault (Err store))) P Q R both p q = both store p q
+if_unclosed (Err (Accept (Ok files))) P Q R both p q = tt
+if_unclosed (Err (Accept (Err store))) P Q R both p q = both store p q
+if_unclosed (Err (Close store)) P Q R both p q = both store p q
+
+-- ---- causes
+
 -- the later causes are causes
-pub late_cause : {D : Type 0} {g : Ghosts D} (image : Image) (cannot_listen not_accepted : Bool) (fault : ServeFault D g)
-    → IsLateCause not_accepted fault → IsCauseOf image cannot_listen not_accepted fault
-late_cause image cannot_listen not_accepted (Open fault) late = absurd late
-late_cause image cannot_listen not_accepted (Bind fault closed) late = absurd late
-late_cause image cannot_listen not_accepted (Accept closed) late = late
-late_cause image cannot_listen not_accepted (Close store) late = tt
+pub late_cause : {D : Type 0} {g : Ghosts D} (files : Files D) (cannot_listen not_accepted : Bool) (fault : ServeFault D g)
+    → IsLateCause not_accepted fault → IsCauseOf files cannot_listen not_accepted fault
+late_cause files cannot_listen not_accepted (Open fault) late = absurd late
+late_cause files cannot_listen not_accepted (Bind fault closed) late = absurd late
+late_cause files cannot_listen not_accepted (Accept closed) late = late
+late_cause files cannot_listen not_accepted (Close store) late = tt
 
 -- and none of them is that listening failed
 pub late_not_bind : {D : Type 0} {g : Ghosts D} (not_accepted : Bool) (result : Result (Files D) (ServeFault D g)) (P : Type 0)

@@ -1,19 +1,27 @@
 -- What `serve` leaves of the files of a desk, and why it ended early.
-use Rattle.std.specs.Prelude.{◌≡◌, ◌⊎◌, ℕ, Bool, true, List, Result, Ok, Err, IfOk, ⊤}
+use Rattle.std.specs.Prelude.{◌≡◌, ◌⊎◌, ◌<◌, ℕ, Bool, true, List, [], Result, Ok, Err, IfErr, IfOk, ⊤}
 use Rattle.sqlite_disk.specs.declared.Disk.{Ghosts}
 use Rattle.sqlite_disk.specs.declared.Files.{Files}
 use Rattle.sqlite_wal.specs.Recovery.{Image}
+use Rattle.sqlite_store.specs.declared.store.FileStore.{FileStore}
+use Rattle.sqlite.specs.Files.{image_of, over_files}
 use Rattle.charters.specs.CharterSets.{IsCharter}
 use Rattle.charters.specs.declared.charter.Charter.{Charter}
 use Rattle.registry.specs.History.{History}
+use Rattle.registry.specs.Values.{HistoryFits}
 use Rattle.registry.specs.Verdict.{IsLegal}
 use Rattle.registry.specs.declared.asked.Asked.{Asked}
 use Rattle.command_line.specs.declared.fault.ProgramFault.TheVariants.{Memory, Socket}
+use Rattle.desk.specs.CrashOutcomes.{LeavesAtMost}
+use Rattle.desk.specs.Desk.{Represents}
 use Rattle.desk.specs.Resumed.{IsAtMostOneMore}
+use Rattle.desk.specs.declared.desk.Desk.{Desk}
 use Rattle.desk_files.specs.DeskFiles.{AreFoundFiles}
-use Rattle.desk_files.specs.Refused.{RefusesFiles, RefusesNoLeft}
-use Rattle.tasks.specs.ServedHistories.{KeepServed}
-use Rattle.tasks.specs.Serving.{Transcript}
+use Rattle.desk_files.specs.Lives.{StoreLeavesAtMost}
+use Rattle.desk_files.specs.Refused.{KeepsRefused, RefusesFiles, RefusesNoLeft, RefusesNoLegal}
+use Rattle.web.specs.ScriptAnswer.{Standing}
+use Rattle.tasks.specs.ServedHistories.{ConnectionLeaves, KeepServed}
+use Rattle.tasks.specs.Serving.{AnswersInTurn, Transcript}
 use Rattle.tasks.specs.declared.serve_desk.ServeFault.{ServeFault}
 use Rattle.tasks.specs.declared.serve_desk.ServeFault.TheVariants.{Accept, Bind, Close, Open}
 
@@ -25,6 +33,23 @@ IfClosed (Err (Bind fault closed)) Holds = IfOk closed Holds
 IfClosed (Err (Accept closed)) Holds = IfOk closed Holds
 IfClosed (Err (Close store)) Holds = ⊤
 
+-- this holds of the store that is left, where the desk in the files was opened and they were not closed
+abbrev pub IfUnclosed : {D : Type 0} {g : Ghosts D} → Result (Files D) (ServeFault D g) → (FileStore D g → Type 0) → Type 0
+IfUnclosed (Ok files) Holds = ⊤
+IfUnclosed (Err (Open fault)) Holds = ⊤
+IfUnclosed (Err (Bind fault closed)) Holds = IfErr closed Holds
+IfUnclosed (Err (Accept closed)) Holds = IfErr closed Holds
+IfUnclosed (Err (Close store)) Holds = Holds store
+
+-- How many connections there were: all of the count where only the close was left, fewer where the next one could not be
+-- accepted, and none where nothing was bound.
+abbrev pub IsServedCount : {D : Type 0} {g : Ghosts D} → Result (Files D) (ServeFault D g) → ℕ → ℕ → Type 0
+IsServedCount (Ok files) served count = served ≡ count
+IsServedCount (Err (Open fault)) served count = served ≡ 0
+IsServedCount (Err (Bind fault closed)) served count = served ≡ 0
+IsServedCount (Err (Accept closed)) served count = served < count
+IsServedCount (Err (Close store)) served count = served ≡ count
+
 -- From files that hold a legal history, or that with one of the pending requests, to files of a history to which these
 -- connections on the day lead: from that history, or from it with one of the requests. Where none is pending, it is from
 -- that history.
@@ -35,13 +60,44 @@ KeepsFiles g image day passed files =
     → (history : History) × IsAtMostOneMore charter before pending history
     × KeepServed g charter day passed history files
 
+-- From a history with requests pending these connections on the day lead to a legal one, of values of their types where
+-- the history before was so, and what is left allows that one with what is then pending.
+pub record LeavesServed (charter : Charter) (day : ℕ) (passed : List Transcript) (before : Standing)
+    (Allows : History → List Asked → Type 0) : Type 0 where
+  pub after : Standing
+  pub leads : AnswersInTurn (ConnectionLeaves charter day) before passed after
+  pub legal : IsLegal charter after.history
+  pub fits : HistoryFits before.history → HistoryFits after.history
+  pub left : Allows after.history after.pending
+
+-- From a desk of which a crash leaves at most a history that it has with requests pending, to a store of which one leaves
+-- at most that to which these connections on the day lead.
+abbrev pub LeavesStore : {D : Type 0} {g : Ghosts D} → ℕ → Desk (FileStore D g) → List Transcript → FileStore D g → Type 0
+LeavesStore day desk passed store =
+    (charter : Charter) (before : Standing)
+    → Represents over_files charter desk before.history
+    → LeavesAtMost over_files charter desk before.history before.pending
+    → LeavesServed charter day passed before (StoreLeavesAtMost over_files charter store)
+
+-- As KeepsFiles, to a store of which a crash leaves at most the history to which the connections lead, with what is then
+-- pending.
+abbrev pub LeavesUnclosed : {D : Type 0} {g : Ghosts D} → Image → ℕ → List Transcript → FileStore D g → Type 0
+LeavesUnclosed image day passed store =
+    (charter : Charter) (before : History) (pending : List Asked)
+    → IsCharter charter → IsLegal charter before → AreFoundFiles image charter before pending
+    → (history : History) × IsAtMostOneMore charter before pending history
+    × LeavesServed charter day passed (record { history = history; pending = [] }) (StoreLeavesAtMost over_files charter store)
+
 -- Each fault with its cause: the desk in the files was not opened, which is not for its schema where they may be left of
--- a legal history; listening failed; or the last connection could not be accepted.
-abbrev pub IsCauseOf : {D : Type 0} {g : Ghosts D} → Image → Bool → Bool → ServeFault D g → Type 0
-IsCauseOf image cannot_listen not_accepted (Open fault) = RefusesFiles image fault × RefusesNoLeft image fault
-IsCauseOf image cannot_listen not_accepted (Bind fault closed) = (cannot_listen ≡ true) × ((fault ≡ Socket) ⊎ (fault ≡ Memory))
-IsCauseOf image cannot_listen not_accepted (Accept closed) = not_accepted ≡ true
-IsCauseOf image cannot_listen not_accepted (Close store) = ⊤
+-- a legal history, and leaves no more of them than before; listening failed; or the last connection could not be
+-- accepted.
+abbrev pub IsCauseOf : {D : Type 0} {g : Ghosts D} → Files D → Bool → Bool → ServeFault D g → Type 0
+IsCauseOf {D} {g} files cannot_listen not_accepted (Open fault) =
+    RefusesFiles (image_of g files) fault × RefusesNoLeft (image_of g files) fault × RefusesNoLegal files fault
+    × KeepsRefused files fault
+IsCauseOf files cannot_listen not_accepted (Bind fault closed) = (cannot_listen ≡ true) × ((fault ≡ Socket) ⊎ (fault ≡ Memory))
+IsCauseOf files cannot_listen not_accepted (Accept closed) = not_accepted ≡ true
+IsCauseOf files cannot_listen not_accepted (Close store) = ⊤
 
 -- a cause that comes once the desk was opened and the socket bound
 abbrev pub IsLateCause : {D : Type 0} {g : Ghosts D} → Bool → ServeFault D g → Type 0

@@ -1,12 +1,15 @@
 //! The task `serve`: from the files of a desk to the files that it leaves.
-ghost use Rattle.std.specs.Prelude.{◌≡◌, ◌≤◌, List, length, IfErr, IsTrue, OnOk};
+ghost use Rattle.std.specs.Prelude.{◌≡◌, List, length, IfErr, IsTrue};
 ghost use Rattle.sqlite.specs.Files.{image_of, over_files};
+ghost use Rattle.sqlite_store.specs.FileStore.{view};
+ghost use Rattle.sqlite_trees.specs.View.{IsClean};
 ghost use Rattle.sqlite_wal.specs.Reads.{AreClean};
 ghost use Rattle.registry.specs.History.{History};
 ghost use Rattle.charters.specs.declared.charter.Charter as shown;
 ghost use Rattle.desk.specs.Desk.{IsOnCleanDisk, Represents};
 ghost use Rattle.tasks.specs.Connections.{Accepts, Logs};
-ghost use Rattle.tasks.specs.ServedFiles.{IfClosed, IfNotBind, IsCauseOf, IsLateCause, KeepsFiles};
+ghost use Rattle.tasks.specs.ServedFiles.{IfClosed, IfNotBind, IfUnclosed, IsCauseOf, IsLateCause};
+ghost use Rattle.tasks.specs.ServedFiles.{IsServedCount, KeepsFiles, LeavesStore, LeavesUnclosed};
 ghost use Rattle.tasks.specs.ServedHistories.{KeepServed};
 ghost use Rattle.tasks.specs.Serving.{Transcript, fault_lines};
 
@@ -50,15 +53,17 @@ pub fn serve_files<D: Disk + Drop, C: Connections, L: Log>(
     requires log { IsTrue (D.Disk.is_usable files.log) }
     requires db { IsTrue (D.Disk.is_usable files.db) }
     // `passed` are the connections: there are as many, they were accepted, the files have what they
-    // lead to, and the log has the lines of those that failed.
-    ensures served { (passed : List Transcript)
-        × (length passed ≤ count) × OnOk result (length passed ≡ count)
+    // lead to, a store that was not closed leaves no more, and the log has the lines of those that
+    // failed.
+    ensures served { (passed : List Transcript) × IsServedCount result (length passed) count
         × Accepts (C.accepted connections.old) (C.accepted connections.new) passed
         × Logs (L.has_lost log.old) (L.has_lost log.new) (L.contents log.old)
         (L.contents log.new) (fault_lines 1 passed)
         × IfClosed result (λ left. AreClean D.Disk left.log left.db
-        → KeepsFiles D.Disk (image_of D.Disk files) day passed left) }
-    ensures err { IfErr result (IsCauseOf (image_of D.Disk files)
+        → KeepsFiles D.Disk (image_of D.Disk files) day passed left)
+        × IfUnclosed result (λ store. IsClean (view store)
+        → LeavesUnclosed (image_of D.Disk files) day passed store) }
+    ensures err { IfErr result (IsCauseOf files
         (C.cannot_listen connections.new) (C.has_failed connections.new)) }
     ensures listens { IfNotBind result
         (C.cannot_listen connections.new ≡ C.cannot_listen connections.old) }
@@ -88,14 +93,17 @@ pub fn serve_desk<D: Disk + Drop, C: Connections, L: Log>(
 ) -> Result<Files<D>, ServeFault<D>>
     ensures clean { IfClosed result (λ files. AreClean D.Disk files.log files.db
         → IsOnCleanDisk over_files desk) }
-    ensures served { (passed : List Transcript)
-        × (length passed ≤ count) × OnOk result (length passed ≡ count)
+    ensures clean_store { IfUnclosed result (λ store. IsClean (view store)
+        → IsOnCleanDisk over_files desk) }
+    ensures served { (passed : List Transcript) × IsServedCount result (length passed) count
         × Accepts (C.accepted connections.old) (C.accepted connections.new) passed
         × Logs (L.has_lost log.old) (L.has_lost log.new) (L.contents log.old)
         (L.contents log.new) (fault_lines 1 passed)
         × IfClosed result (λ files. AreClean D.Disk files.log files.db
         → (charter : shown.Charter) (history : History) → Represents over_files charter desk history
-        → KeepServed D.Disk charter day passed history files) }
+        → KeepServed D.Disk charter day passed history files)
+        × IfUnclosed result (λ store. IsClean (view store)
+        → LeavesStore day desk passed store) }
     ensures err { IfErr result (IsLateCause (C.has_failed connections.new)) }
     ensures listens { C.cannot_listen connections.new ≡ C.cannot_listen connections.old }
 {

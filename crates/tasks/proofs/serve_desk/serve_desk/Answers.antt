@@ -1,29 +1,49 @@
-use Rattle.std.proofs.Common.{◌≡◌, OnOk, length, subst}
-use Rattle.tasks.proofs.HistoryLemmas.{at_most, if_ok_both}
-use Rattle.tasks.proofs.ServedFileLemmas.{keep_served}
+use Rattle.std.proofs.Common.{◌≡◌, length, subst}
+use Rattle.std.specs.Prelude.{◌<◌, OnErr, OnOk}
+use Rattle.std.proofs.lemmas.Result.{IfErr-weaker}
+use Rattle.tasks.proofs.HistoryLemmas.{if_ok_both}
+use Rattle.tasks.proofs.ServedFileLemmas.{keep_served, leaves_store}
 use Rattle.tasks.proofs.serve_desk.serve_desk.Goals as goal
 
 pub returns-in-Ok-close_desk-clause-served : goal.returns-in-Ok-close_desk-clause-served
 returns-in-Ok-close_desk-clause-served g c =
     let (passed, all, few, accepted, in_turn, leaves, logged) = c.serve_on.ensures.served in (
       passed,
-      at_most c.serve_on.result all few,
       subst (λ r. OnOk r (length passed ≡ c.args.count)) c.in-Ok.is all,
       accepted,
       logged,
-      λ clean. keep_served g.D.Disk c.args.day passed c.args.desk c.serve_on.new.desk _ in_turn
-          (c.in-Ok-close_desk.ensures.clean clean) (c.in-Ok-close_desk.ensures.kept clean),
+      (λ clean. keep_served g.D.Disk c.args.day passed c.args.desk c.serve_on.new.desk _ in_turn
+          (c.in-Ok-close_desk.ensures.clean clean) (c.in-Ok-close_desk.ensures.kept clean)),
+      tt,
+    )
+
+pub returns-in-Err-close_desk-clause-served : goal.returns-in-Err-close_desk-clause-served
+returns-in-Err-close_desk-clause-served g c =
+    let (passed, all, few, accepted, in_turn, leaves, logged) = c.serve_on.ensures.served in (
+      passed,
+      subst (λ r. OnOk r (length passed ≡ c.args.count)) c.in-Ok.is all,
+      accepted,
+      logged,
+      tt,
+      leaves_store c.args.day passed c.args.desk c.serve_on.new.desk c.in-Err-close_desk.store leaves
+          c.in-Err-close_desk.ensures.err,
     )
 
 pub returns-in-Err-clause-served : goal.returns-in-Err-clause-served
 returns-in-Err-clause-served g c =
     let (passed, all, few, accepted, in_turn, leaves, logged) = c.serve_on.ensures.served in (
       passed,
-      at_most c.serve_on.result all few,
-      tt,
+      subst (λ r. OnErr r (length passed < c.args.count)) c.in-Err.is few,
       accepted,
       logged,
       if_ok_both c.close_desk-in-Err.result _ _ _ (λ files cleaned keeps clean.
           keep_served g.D.Disk c.args.day passed c.args.desk c.serve_on.new.desk files in_turn (cleaned clean) (keeps clean))
           c.close_desk-in-Err.ensures.clean c.close_desk-in-Err.ensures.kept,
+      IfErr-weaker c.close_desk-in-Err.result _ _ (λ store kept.
+          leaves_store c.args.day passed c.args.desk c.serve_on.new.desk store leaves kept) c.close_desk-in-Err.ensures.err,
     )
+
+pub returns-in-Err-clause-clean_store : goal.returns-in-Err-clause-clean_store
+returns-in-Err-clause-clean_store g c =
+    IfErr-weaker c.close_desk-in-Err.result _ _ (λ store kept clean. c.serve_on.ensures.later.clean (kept.clean clean))
+    c.close_desk-in-Err.ensures.err

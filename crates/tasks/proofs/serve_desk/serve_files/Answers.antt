@@ -1,17 +1,16 @@
-use Rattle.std.proofs.Common.{◌≡◌, ◌∙◌, [], OnOk, arith, refl, subst}
+use Rattle.std.proofs.Common.{◌≡◌, ◌∙◌, [], OnOk, refl, subst}
 use Rattle.std.proofs.lemmas.Result.{IfErr-weaker}
 use Rattle.sqlite.specs.Files.{image_of}
 use Rattle.tasks.proofs.ConnectionLemmas.{accepts-then, logs-none}
 use Rattle.tasks.proofs.HistoryLemmas.{if_ok_both}
-use Rattle.tasks.proofs.ServedFileLemmas.{if_closed, keep_served, keeps_files, late_cause, late_not_bind}
+use Rattle.tasks.proofs.ServedFileLemmas.{if_closed, if_unclosed, keep_served, keeps_files, late_cause, late_not_bind, leaves_none, leaves_store, leaves_unclosed}
 use Rattle.tasks.proofs.serve_desk.serve_files.Goals as goal
 
 pub returns-in-Ok-listen-clause-served : goal.returns-in-Ok-listen-clause-served
 returns-in-Ok-listen-clause-served g c =
-    let (passed, few, all, accepted, logged, closed) = c.serve_desk.ensures.served in (
+    let (passed, counted, accepted, logged, closed, unclosed) = c.serve_desk.ensures.served in (
       passed,
-      few,
-      all,
+      counted,
       accepts-then (g.C.Connections.accepted c.args.connections.now) (g.C.Connections.accepted c.listen.new.self)
           (g.C.Connections.accepted c.serve_desk.new.connections) [] passed c.listen.ensures.none accepted,
       logged,
@@ -19,13 +18,16 @@ returns-in-Ok-listen-clause-served g c =
           keeps_files g.D.Disk (image_of g.D.Disk c.args.files) c.args.day passed c.in-Ok.desk files
           (c.in-Ok.ensures.resumed (cleaned clean)) (keeps clean))
           c.serve_desk.ensures.clean closed,
+      if_unclosed c.serve_desk.result _ _ _ (λ store cleaned leaves clean.
+          leaves_unclosed (image_of g.D.Disk c.args.files) c.args.day passed c.in-Ok.desk store
+          (c.in-Ok.ensures.resumed (cleaned clean)) (leaves clean))
+          c.serve_desk.ensures.clean_store unclosed,
     )
 
 pub returns-in-Err-listen-clause-served : goal.returns-in-Err-listen-clause-served
 returns-in-Err-listen-clause-served g c = (
   [],
-  omega arith,
-  tt,
+  refl,
   c.listen.ensures.none,
   logs-none _ _,
   if_ok_both c.close_desk.result _ _ _ (λ files cleaned keeps clean.
@@ -33,11 +35,16 @@ returns-in-Err-listen-clause-served g c = (
       (c.in-Ok.ensures.resumed (cleaned clean))
       (keep_served g.D.Disk c.args.day [] c.in-Ok.desk c.in-Ok.desk files refl (cleaned clean) (keeps clean)))
       c.close_desk.ensures.clean c.close_desk.ensures.kept,
+  IfErr-weaker c.close_desk.result _ _ (λ store kept clean.
+      leaves_unclosed (image_of g.D.Disk c.args.files) c.args.day [] c.in-Ok.desk store
+      (c.in-Ok.ensures.resumed (kept.clean clean))
+      (leaves_store c.args.day [] c.in-Ok.desk c.in-Ok.desk store (leaves_none c.args.day c.in-Ok.desk) kept clean))
+      c.close_desk.ensures.err,
 )
 
 pub returns-in-Ok-listen-clause-err : goal.returns-in-Ok-listen-clause-err
 returns-in-Ok-listen-clause-err g c =
-    IfErr-weaker c.serve_desk.result _ _ (λ fault. late_cause (image_of g.D.Disk c.args.files) _ _ fault) c.serve_desk.ensures.err
+    IfErr-weaker c.serve_desk.result _ _ (λ fault. late_cause c.args.files _ _ fault) c.serve_desk.ensures.err
 
 pub returns-in-Ok-listen-clause-listens : goal.returns-in-Ok-listen-clause-listens
 returns-in-Ok-listen-clause-listens g c =
