@@ -2,3 +2,4 @@ mod ConnectionLemmas
 pub mod ServingLemmas
 pub mod HistoryLemmas
 pub mod ServedFileLemmas
+pub mod LivesLemmas

@@ -4,6 +4,7 @@
 pub mod check_files;
 pub mod fault;
 pub mod help;
+pub mod lives;
 mod run;
 pub mod serve;
 pub mod serve_desk;
