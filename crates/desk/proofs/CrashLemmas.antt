@@ -20,7 +20,7 @@ use Rattle.registry.specs.declared.command.Command.{Command}
 use Rattle.tables.specs.TablesHold.{TablesHold}
 use Rattle.transactions.specs.Databases.{IsDeskTrees}
 use Rattle.store.specs.StoreRows.{HoldsAfter, IsRead, MayLeave, LeavesOnly}
-use Rattle.desk.specs.Answer.{is_accepted, AnswersCommand, AnswersRequest}
+use Rattle.desk.specs.Answer.{is_accepted, AnswersCommand, AnswersRequest, IsAnswered}
 use Rattle.desk.specs.CrashOutcomes.{asked_on, AreKept, IsKept, LeavesAlong, MayBeLeft, StaysOpen, pending_after, pending_after_all}
 use Rattle.desk.specs.Desk.{charter_of, HoldsHistory, HoldsRowsOf, IsOnCleanDisk}
 use Rattle.desk.specs.Run.{Runs}
@@ -161,6 +161,25 @@ module _ {S : Type 0} (g : Ghosts S) where
     left = failed_leaves history day caller command change reply old mid new read clean was accepted answers done crash;
   }
 
+  -- what was answered where a command was accepted and its change was made
+  abbrev pub accepted_answer : GrowthIsLegal → GrowthFits → (history : History) (day : ℕ) (caller : List ℕ) (command : Command) (change : Change) (reply : Reply) (old mid new : Desk S)
+      → EntryFits (record { day = day; caller = caller; command = command }) → IsLegal (charter_of old) history → HoldsRowsOf g mid history
+      → IsAccepted (charter_of old) history day caller command change → AnswersAccepted command change reply
+      → HoldsAfter g mid.store new.store (changed_rows change) → IsOnCleanDisk g new → StaysOpen g new
+      → IsAnswered g (charter_of old) history day caller (CommandRequest command) reply new
+  accepted_answer grown fits history day caller command change reply old mid new values legal held accepted answers applied clean opened = record {
+    after = accepted.after;
+    legal = grown (charter_of old) history day caller command accepted.after legal accepted.leaves;
+    values = λ fit. fits (charter_of old) history day caller command accepted.after values fit accepted.leaves;
+    answers = answers (charter_of old) history day caller accepted;
+    rows_after = (
+      changed_rows change held.0,
+      rows_carried (charter_of old) history day caller command change held.0 accepted held.1,
+      applied held.0 held.2,
+      λ _ shut. absurd (true≢false (sym (opened clean) ∙ shut)),
+    );
+  }
+
   -- a command that was accepted, whose change was made
   pub accepted_kept : GrowthIsLegal → GrowthFits → (history : History) (day : ℕ) (caller : List ℕ) (command : Command) (change : Change) (reply : Reply) (old mid new : Desk S)
       → EntryFits (record { day = day; caller = caller; command = command }) → IsRead g old.store mid.store → IsLegal (charter_of old) history → HoldsRowsOf g mid history
@@ -168,18 +187,7 @@ module _ {S : Type 0} (g : Ghosts S) where
       → HoldsAfter g mid.store new.store (changed_rows change) → LeavesOnly g mid.store new.store (changed_rows change) → IsOnCleanDisk g new → StaysOpen g new
       → IsKept g (charter_of old) history (asked_on day caller (CommandRequest command)) reply old new
   accepted_kept grown fits history day caller command change reply old mid new values read legal held accepted answers applied only clean opened = record {
-    answered = record {
-      after = accepted.after;
-      legal = grown (charter_of old) history day caller command accepted.after legal accepted.leaves;
-      values = λ fit. fits (charter_of old) history day caller command accepted.after values fit accepted.leaves;
-      answers = answers (charter_of old) history day caller accepted;
-      rows_after = (
-        changed_rows change held.0,
-        rows_carried (charter_of old) history day caller command change held.0 accepted held.1,
-        applied held.0 held.2,
-        λ _ shut. absurd (true≢false (sym (opened clean) ∙ shut)),
-      );
-    };
+    answered = accepted_answer grown fits history day caller command change reply old mid new values legal held accepted answers applied clean opened;
     left = made_leaves history day caller command change (pending_after (asked_on day caller (CommandRequest command)) reply) old mid new read held accepted only;
   }
 

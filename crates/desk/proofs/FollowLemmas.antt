@@ -2,7 +2,7 @@
 use Rattle.std.proofs.Common.{◌≡◌, ◌⊎◌, inl, inr, ◌↔◌, ℕ, Bool, true, false, ◌||◌, List, [], ◌∷◌, Option, Some, None, Result, Ok, Err, refl, sym, ap, arith, ◌∙◌, ◌==◌, ◌≤◌, if◌then◌else◌, filter, length, subst, Contains}
 use Rattle.std.specs.Global.{Vec}
 use Rattle.std.specs.List.{list_any}
-use Rattle.std.specs.Prelude.{IfSome, OnErr, OnOk, is_ok, is_err, is_some, option_map, option_to_list}
+use Rattle.std.specs.Prelude.{Any, IfSome, OnErr, OnOk, is_ok, is_err, is_some, option_map, option_to_list}
 use Rattle.std.proofs.lemmas.Bool.{eqb-true, false_from_ne_true, false≢true, true≢false}
 use Rattle.addr.specs.Address.{last_of, Address}
 use Rattle.addr.proofs.AddressLemmas.{between_at, first-last}
@@ -13,15 +13,26 @@ use Rattle.kept.proofs.ExceptionLemmas.{after_alike}
 use Rattle.kept.proofs.Follows.{follow_keeps, none_given, none_joined}
 use Rattle.kept.proofs.Members.{at_head, head_or_tail, in_filter, none_in_nil}
 use Rattle.kept.specs.Changes.{AreJoined, IsSpared, IsWithSame}
-use Rattle.kept.specs.Days.{IsDayOfRows}
+use Rattle.kept.specs.Days.{IsDayOf, IsDayOfRows}
+use Rattle.kept.proofs.DailyVrps.{given_on}
+use Rattle.charters.specs.declared.charter.Charter.{Charter}
+use Rattle.registry.specs.DailyVrps.{IsVrpOn}
+use Rattle.registry.specs.History.{History}
+use Rattle.registry.specs.Verdict.{IsLegal}
+use Rattle.registry.specs.declared.asked.Request.{Request}
+use Rattle.registry.specs.declared.asked.Request.TheVariants.{Command as CommandRequest, Query as QueryRequest}
+use Rattle.registry.specs.declared.command.Query.{Query}
+use Rattle.slurm.specs.Filter.{FilterMatches}
+use Rattle.slurm.specs.declared.filter.Filter.{Filter}
+use Rattle.slurm.specs.declared.set.NamedSlurm.{NamedSlurm}
 use Rattle.kept.specs.Giving.{AreGivingOn}
-use Rattle.kept.specs.KeptDay.{exceptions_of, KeptDay}
+use Rattle.kept.specs.KeptDay.{exceptions_of, HasExceptions, KeptDay}
 use Rattle.addr.specs.declared.prefix.Prefix.{Prefix}
 use Rattle.registry.specs.Answer.{edit_imported, holder_of, imported, is_transfer}
 use Rattle.payload.specs.VrpSet as set
 use Rattle.registry.specs.Edits.{begun, ended, ends, HasEditsOf, IsEditOf, IsHold, IsHoldEndingNone}
 use Rattle.registry.specs.Rows.{Rows}
-use Rattle.registry.specs.RowsOfAll.{AllRows, IsGivenOn, changed_rows}
+use Rattle.registry.specs.RowsOfAll.{AllRows, HasRows, IsGivenOn, changed_rows}
 use Rattle.registry.specs.declared.authorization.Auth.{Auth}
 use Rattle.registry.specs.declared.authorization.AuthTerms.{AuthTerms}
 use Rattle.registry.specs.declared.authorization.RoaPrefix.{RoaPrefix}
@@ -40,7 +51,7 @@ use Rattle.slurm.specs.SlurmSets.{union}
 use Rattle.store.specs.Given.{GivenOnce}
 use Rattle.loads.specs.Loads.{auths_held, AreHeld, AreLoaded}
 use Rattle.desk.proofs.GivenEdits.{edits_given_by_enough, ending_keeps_once, enough_amended, enough_created, enough_loaded, enough_withdrawn}
-use Rattle.desk.specs.DayAfter.{has_made_none, DayAfterCommand, PutsOn, StaysUnless}
+use Rattle.desk.specs.DayAfter.{has_made_none, DayAfterCommand, DropsForGain, PutsOn, StaysUnless}
 use Rattle.desk.specs.Prepared.{day_of}
 use Rattle.desk.specs.declared.reply.Reply.{Reply}
 use Rattle.desk.specs.steps.EditsGiven.{auths_of, begun_if_any, ended_if_any, AreEnough}
@@ -315,3 +326,47 @@ pub drops_first : (first : HolderChange) (second : Option HolderChange) (one oth
     → MayDrop (Holders first second) one other kept
 drops_first first None one other kept adds = adds
 drops_first first (Some second) one other kept adds = inl adds
+
+-- ---- what drops the day
+
+-- what the edit puts into what is kept is on the day after the history of the rows with the edit
+adds_on : (charter : Charter) (rows : AllRows) (after : History) (change : HolderChange) (one : Option (Vec Auth)) (k : KeptDay) → IsLegal charter after
+    → HasRows (changed_rows (Holders change None) rows) after → GivenOnce rows → AreEnough change.edit (auths_of rows change.holder) (listed one)
+    → HasExceptions k (union rows.files) → (adds : AddsSome change.edit one k) → IsVrpOn after k.day adds.0
+adds_on charter rows after change one k legal has once enough exceptions adds =
+    let v = adds.0 in
+    inl (
+      (given_on charter (changed_rows (Holders change None) rows) after legal has k.day v).0 ((edits_given_by_enough rows change (listed one) k.day v once enough).1 (inr adds.1.0)),
+      subst (λ (fs : List Filter). ¬ Any (λ f. FilterMatches f v) fs) (exceptions.filters ∙ ap (λ (fs : List NamedSlurm). (union fs).filters) has.files) adds.1.1,
+    )
+
+if_both : {P Q R : KeptDay → Type 0} (old : Option KeptDay) → IfSome old P → IfSome old Q → ((k : KeptDay) → P k → Q k → R k) → IfSome old R
+if_both None one other so = tt
+if_both (Some k) one other so = so k one other
+
+-- where a command drops the day, a VRP came to it
+pub drops_for_gain : (command : Command) (change : Change) (one other : Option (Vec Auth)) (charter : Charter) (rows : AllRows) (before after : History) (old new : Option KeptDay)
+    → IsLegal charter after → HasRows (changed_rows change rows) after → GivenOnce rows → AreEnoughFor change one other rows → HasEditsOf command change
+    → IfSome old (IsDayOf before) → IfSome old (λ k. HasExceptions k (union rows.files)) → FollowsDay change one other old new
+    → DropsForGain (CommandRequest command) before after (day_of old) (day_of new)
+drops_for_gain (SlurmCommand files) change one other charter rows before after old new legal has once enough edits day exceptions follows = tt
+drops_for_gain (Transfer p giver taker) (Holders first (Some second)) one other charter rows before after old new legal has once enough edits day exceptions follows =
+    stays_unless _ _ old new (of_each old (λ kept adds. absurd (two_add_none first.edit second.edit one other kept edits.1 edits.3 adds))) follows
+drops_for_gain command (Holders first None) one other charter rows before after old new legal has once enough edits day exceptions follows =
+    stays_unless _ _ old new
+    (if_both old day exceptions (λ k is has_them adds. (adds.0, adds_on charter rows after first one k legal has once enough has_them adds, λ was. adds.1.2 ((is adds.0).1 was))))
+    follows
+drops_for_gain command change one other charter rows before after old new legal has once enough edits day exceptions follows = absurd edits
+
+pub drops_for_files : (command : Command) (files : List NamedSlurm) (before after : History) (old new : Option ℕ) → HasEditsOf command (Exceptions files)
+    → DropsForGain (CommandRequest command) before after old new
+drops_for_files (SlurmCommand more) files before after old new edits = tt
+drops_for_files command files before after old new edits = absurd edits
+
+pub drops_by_query : (request : Request) (query : Query) (before after : History) (old new : Option ℕ) → request ≡ QueryRequest query → DropsForGain request before after old new
+drops_by_query request query before after old new is = rw is tt
+
+-- a day that stays is not dropped
+pub drops_nothing : (command : Command) (before after : History) (old new : Option ℕ) → new ≡ old → DropsForGain (CommandRequest command) before after old new
+drops_nothing (SlurmCommand files) before after old new same = tt
+drops_nothing command before after old new same = inl same

@@ -15,6 +15,8 @@ use Rattle.registry.specs.Rows.{Rows, RowsIfAny}
 use Rattle.registry.specs.Terms.{authorizations_made}
 use Rattle.registry.specs.declared.authorization.Auth.{Auth}
 use Rattle.registry.specs.declared.change.Change.{Change}
+use Rattle.registry.specs.declared.change.Change.TheVariants.{Holders}
+use Rattle.registry.specs.declared.change.HolderChange.{HolderChange}
 use Rattle.registry.specs.Verdict.{IsLegal}
 use Rattle.registry.proofs.Held.{active-numbered}
 use Rattle.registry.proofs.Numbers.{Numbered, later}
@@ -151,6 +153,24 @@ module _ {S : Type 0} (g : Ghosts S) where
           let of = keeps clean in
           some desk.kept of.0 (of.1 clean opened) (held.2 clean opened) of.2
       go false shut = held.3 clean shut
+
+  -- rows that an open connection shows have the same files
+  same_files : (store : StoreView S) (a b : AllRows) → HasCleanDisk (connection_state g store) → IsTrue (connection_state g store).is_open
+      → Holds g store a → Holds g store b → a.files ≡ b.files
+  same_files store a b clean opened one other = held_alike a.files b.files _ (one clean opened).files (other clean opened).files
+
+  -- where a change was made that brings no files, what was kept has the exceptions of whatever rows were held
+  pub exceptions_held : (old mid new : StoreView S) (was : Option KeptDay) (first : HolderChange) (second : Option HolderChange) (rows : AllRows) → HoldsKept g old was → IsRead g old mid
+      → HasCleanDisk (connection_state g mid) → HasCleanDisk (connection_state g new) → IsTrue (connection_state g new).is_open
+      → HoldsAfter g mid new (changed_rows (Holders first second)) → Holds g mid rows → IfSome was (λ k. HasExceptions k (union rows.files))
+  exceptions_held old mid new was first second rows keeps read before clean opened after held =
+      let of = keeps (read.clean before) in
+      let same = same_files new (changed_rows (Holders first second) of.0) (changed_rows (Holders first second) rows) clean opened (after of.0 (read.rows before of.0 of.1)) (after rows held) in
+      go of.0 was same of.2
+    where
+      go : (a : AllRows) (was : Option KeptDay) → a.files ≡ rows.files → IfSome was (IsDayOfRows a) → IfSome was (λ k. HasExceptions k (union rows.files))
+      go a None same is = tt
+      go a (Some k) same is = subst (HasExceptions k) (ap union same) is.exceptions
 
   -- an answer whether a holder is registered is one of an open connection: of a shut one nothing is known
   answered_open : (store : StoreView S) (holder : List ℕ) (registered : Bool)

@@ -10,3 +10,4 @@ pub mod GivenEdits
 pub mod FollowLemmas
 pub mod ExchangeLemmas
 pub mod DayLemmas
+pub mod DropLemmas

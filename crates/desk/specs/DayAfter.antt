@@ -1,5 +1,8 @@
 -- What a request makes of the day whose VRPs are kept.
-use Rattle.std.specs.Prelude.{◌≡◌, ◌≢◌, ◌⊎◌, ℕ, zero, ◌≤◌, Bool, true, false, List, [], ◌∷◌, Contains, Option, Some, None, IfSome}
+use Rattle.std.specs.Prelude.{◌≡◌, ◌≢◌, ◌⊎◌, ℕ, zero, ◌≤◌, Bool, true, false, List, [], ◌∷◌, Contains, Option, Some, None, IfSome, ⊤}
+use Rattle.addr.specs.declared.vrp.Vrp.{Vrp}
+use Rattle.registry.specs.DailyVrps.{IsVrpOn}
+use Rattle.registry.specs.History.{History}
 use Rattle.registry.specs.declared.authorization.ImportRow.{ImportRow}
 use Rattle.registry.specs.declared.asked.Asked.{Asked}
 use Rattle.registry.specs.declared.asked.Request.{Request}
@@ -35,6 +38,16 @@ StaysUnless Days old new = (new ≡ old) ⊎ ((new ≡ None) × IfSome old Days)
 abbrev pub DayAfterCommand : Command → Reply → Option ℕ → Option ℕ → Type 0
 DayAfterCommand (Slurm files) reply old new = new ≡ None
 DayAfterCommand command reply old new = StaysUnless (PutsOn command reply) old new
+
+-- some VRP is on the day after the one history, and was not on it after the other
+abbrev pub GainsVrpOn : History → History → ℕ → Type 0
+GainsVrpOn before after day = (v : Vrp) × IsVrpOn after day v × ¬ IsVrpOn before day v
+
+-- From the one history to the other, a command that is not new SLURM files drops the day only if a VRP comes to it.
+abbrev pub DropsForGain : Request → History → History → Option ℕ → Option ℕ → Type 0
+DropsForGain (CommandRequest (Slurm files)) before after old new = ⊤
+DropsForGain (CommandRequest command) before after old new = StaysUnless (GainsVrpOn before after) old new
+DropsForGain (QueryRequest query) before after old new = ⊤
 
 -- A query for the VRPs of a day keeps that day. If it was not kept, the reply may be Unavailable, and then no day is
 -- kept.

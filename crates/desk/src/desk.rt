@@ -22,7 +22,7 @@ ghost use Rattle.desk.specs.HolderAnswers.{IsAnswerByEntries, KeepsOthers, RunsB
 ghost use Rattle.desk.specs.Desk.{charter_of, store_of, ContinuesHistories, HoldsHistory};
 ghost use Rattle.desk.specs.Desk.{IsOnCleanDisk, KeepsRows, OfHistories, OfRows};
 ghost use Rattle.desk.specs.DeskView.{HoldsKept};
-ghost use Rattle.desk.specs.DayAfter.{DayAfter, DayAfterAll};
+ghost use Rattle.desk.specs.DayAfter.{DayAfter, DayAfterAll, DropsForGain};
 ghost use Rattle.desk.specs.Prepared.{day_of};
 
 mod by_key;
@@ -216,6 +216,11 @@ impl<S: Alter> Desk<S> {
             self.old self.new) }
         ensures kept_day { DayAfter day request.now result
             (day_of self.old.kept) (day_of self.new.kept) }
+        ensures dropped { OfHistories S.Store self.old self.new (λ history.
+            (is : IsAnswered S.Store (charter_of self.old) history day caller.now request.now
+            result self.new)
+            × DropsForGain request.now history is.after
+            (day_of self.old.kept) (day_of self.new.kept)) }
     {
         crate::laws::answers_by_entries();
         match request {

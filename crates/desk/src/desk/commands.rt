@@ -4,9 +4,9 @@ ghost use Rattle.registry.specs.Answer.{imported, RowsOfNamed};
 ghost use Rattle.registry.specs.Rows.{rows_if_any, RowsIfAny};
 ghost use Rattle.loads.specs.Loads.{AreLoaded};
 ghost use Rattle.store.specs.StoreRows.{IfClean, IsRead, OfHeldRows};
-ghost use Rattle.desk.specs.Answer.{is_accepted, only_reads};
+ghost use Rattle.desk.specs.Answer.{is_accepted, only_reads, IsAnswered};
 ghost use Rattle.desk.specs.CrashOutcomes.{asked_on, IsKept, StaysOpen};
-ghost use Rattle.desk.specs.DayAfter.{has_made_none, DayAfter};
+ghost use Rattle.desk.specs.DayAfter.{has_made_none, DayAfter, DropsForGain};
 ghost use Rattle.desk.specs.Prepared.{day_of};
 ghost use Rattle.desk.specs.Desk.{charter_of, IsOnCleanDisk, KeepsRows, OfHistories, OfRows};
 ghost use Rattle.desk.specs.HolderAnswers.{may_change, may_except, KeepsOthers};
@@ -66,6 +66,11 @@ impl<S: Alter> Desk<S> {
         ensures is_open { is_accepted result ≡ true → StaysOpen S.Store self.new }
         ensures kept_day { DayAfter day (Request.Command command.now) result
             (day_of self.old.kept) (day_of self.new.kept) }
+        ensures dropped { OfHistories S.Store self.old self.new (λ history.
+            (is : IsAnswered S.Store (charter_of self.old) history day caller.now
+            (Request.Command command.now) result self.new)
+            × DropsForGain (Request.Command command.now) history is.after
+            (day_of self.old.kept) (day_of self.new.kept)) }
         ensures others { OfHistories S.Store self.old self.new (λ _.
             KeepsOthers S.Store (may_change (Request.Command command.now))
             (may_except (Request.Command command.now)) self.old self.new) }

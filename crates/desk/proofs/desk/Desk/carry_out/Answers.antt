@@ -6,7 +6,9 @@ use Rattle.desk.specs.declared.desk.Desk.{Desk}
 use Rattle.registry.specs.declared.asked.Request.TheVariants.{Command as CommandRequest}
 use Rattle.desk.proofs.CrashLemmas.{accepted_kept, failed_kept, read_kept}
 use Rattle.desk.proofs.DeskLemmas.{still_held, accepted_acts, all_kept, changed_kept}
-use Rattle.desk.proofs.FollowLemmas.{apart_by, day_by}
+use Rattle.desk.proofs.DropLemmas.{accepted_drops}
+use Rattle.desk.proofs.FollowLemmas.{apart_by, day_by, drops_nothing}
+use Rattle.desk.specs.Prepared.{day_of}
 use Rattle.desk.proofs.KeptLemmas.{held_read, held_where, kept_followed, kept_where}
 use Rattle.desk.proofs.desk.Desk.carry_out.Goals as goal
 
@@ -87,3 +89,29 @@ pub returns-clause-others : goal.returns-clause-others
 returns-clause-others g c clean history legal held =
     all_kept g.S.Store (may_change (CommandRequest c.args.command.now)) (may_except (CommandRequest c.args.command.now)) c.args.self.now
     (record { store = c.apply.new.self; kept = c.self.inside.kept }) (returns-clause-kept g c refl) clean
+
+pub returns-in-Err-clause-dropped : goal.returns-in-Err-clause-dropped
+returns-in-Err-clause-dropped g c clean history legal held =
+    let is = (returns-in-Err-clause-left g c clean history legal held).answered in
+    (is, drops_nothing c.args.command.now history is.after (day_of c.args.self.now.kept) (day_of c.decide.new.self.kept) (ap day_of c.in-Err.ensures.same))
+
+pub returns-clause-dropped : goal.returns-clause-dropped
+returns-clause-dropped g c clean history legal held =
+    let is = (returns-clause-left g c clean history legal held).answered in
+    let same : c.self.inside.kept ≡ c.args.self.now.kept = ap (λ (d : Desk _). d.kept) c.self.view_is ∙ c.in-Ok.ensures.same in
+    (is, drops_nothing c.args.command.now history is.after (day_of c.args.self.now.kept) (day_of c.self.inside.kept) (ap day_of same))
+
+pub returns-in-Ok-apply-clause-dropped : goal.returns-in-Ok-apply-clause-dropped
+returns-in-Ok-apply-clause-dropped g c clean history legal held =
+    let old = c.args.self.now in
+    let decided = c.in-Ok.decided in
+    let mid : Desk _ = record { store = c.self.inside.store; kept = c.self.inside.kept } in
+    let new : Desk _ = record { store = c.apply.new.self; kept = c.follow.new.kept } in
+    let before = c.in-Ok-apply.ensures.clean clean in
+    let read = rw (← c.self.view_is) at c.in-Ok.ensures.read in
+    let same : c.self.inside.kept ≡ old.kept = ap (λ (d : Desk _). d.kept) c.self.view_is ∙ c.in-Ok.ensures.same in
+    accepted_drops g.S.Store c.growth_is_legal.ensures c.growth_fits.ensures history c.args.day c.args.caller.now c.args.command.now decided.change c.accepted-reply.result
+    old mid new decided.first decided.second c.entry_fits.ensures read before legal held
+    ((rw (← c.self.view_is) at c.in-Ok.ensures.decides.answer) before history legal (held.0, held.1, held.2))
+    c.accepted-reply.ensures.answers (c.in-Ok-apply.ensures.ok clean) clean c.in-Ok-apply.ensures.is_open c.keeps_its_rows.ensures
+    (c.in-Ok-apply.ensures.once clean) ((rw (← c.self.view_is) at c.in-Ok.ensures.decides.enough) before) c.in-Ok.ensures.decides.shape (rw same at c.follow.ensures.day)

@@ -5,6 +5,8 @@ use Rattle.registry.specs.declared.asked.Request.TheVariants.{Command as Command
 use Rattle.desk.specs.CrashOutcomes.{asked_on}
 use Rattle.desk.proofs.CrashLemmas.{kept_crash, read_kept}
 use Rattle.desk.proofs.DeskLemmas.{all_kept}
+use Rattle.desk.proofs.FollowLemmas.{drops_by_query}
+use Rattle.desk.specs.Prepared.{day_of}
 use Rattle.desk.proofs.desk.Desk.handle.Goals as goal
 
 pub returns-in-Query-clause-left : goal.returns-in-Query-clause-left
@@ -57,3 +59,11 @@ returns-in-Command-clause-kept_day g c = rw c.in-Command.is c.carry_out.ensures.
 
 pub returns-in-Query-clause-kept_day : goal.returns-in-Query-clause-kept_day
 returns-in-Query-clause-kept_day g c = rw c.in-Query.is c.answer.ensures.kept_day
+
+pub returns-in-Command-clause-dropped : goal.returns-in-Command-clause-dropped
+returns-in-Command-clause-dropped g c clean history legal held = rw c.in-Command.is (c.carry_out.ensures.dropped clean history legal held)
+
+pub returns-in-Query-clause-dropped : goal.returns-in-Query-clause-dropped
+returns-in-Query-clause-dropped g c clean history legal held =
+    let is = returns-in-Query-clause-answered g c clean history legal held in
+    (is, drops_by_query c.args.request.now c.in-Query.query history is.after (day_of c.args.self.now.kept) (day_of c.answer.new.self.kept) c.in-Query.is)
