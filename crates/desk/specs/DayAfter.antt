@@ -1,6 +1,7 @@
 -- What a request makes of the day whose VRPs are kept.
 use Rattle.std.specs.Prelude.{◌≡◌, ◌≢◌, ◌⊎◌, ℕ, zero, ◌≤◌, Bool, true, false, List, [], ◌∷◌, Contains, Option, Some, None, IfSome, ⊤}
 use Rattle.addr.specs.declared.vrp.Vrp.{Vrp}
+use Rattle.charters.specs.declared.charter.Charter.{Charter}
 use Rattle.registry.specs.DailyVrps.{IsVrpOn}
 use Rattle.registry.specs.History.{History}
 use Rattle.registry.specs.declared.authorization.ImportRow.{ImportRow}
@@ -11,7 +12,7 @@ use Rattle.registry.specs.declared.command.Command.{Command}
 use Rattle.registry.specs.declared.command.Command.TheVariants.{Create, Amend, Import, Slurm}
 use Rattle.registry.specs.declared.command.Query.{Query}
 use Rattle.registry.specs.declared.command.Query.TheVariants.{Payloads as PayloadsQuery, Validity as ValidityQuery}
-use Rattle.desk.specs.Answer.{is_accepted}
+use Rattle.desk.specs.Answer.{is_accepted, AnswersRequest}
 use Rattle.desk.specs.declared.reply.Reply.{Reply}
 use Rattle.desk.specs.declared.reply.Reply.TheVariants.{Imported, Unavailable}
 
@@ -74,3 +75,15 @@ DayAfterAll (asked ∷ more) (reply ∷ replies) old new =
     (mid : Option ℕ) × DayAfter asked.day asked.request reply old mid
     × DayAfterAll more replies mid new
 DayAfterAll _ _ old new = ⊥
+
+-- the same over the histories, each request on the one that those before it left
+abbrev pub DropsForGainAll :
+    Charter → History → List Asked → List Reply → History → Option ℕ → Option ℕ → Type 0
+DropsForGainAll charter before [] [] after old new = (after ≡ before) × (new ≡ old)
+DropsForGainAll charter before (asked ∷ more) (reply ∷ replies) after old new =
+    (next : History) × (mid : Option ℕ)
+    × AnswersRequest charter before asked.day asked.caller asked.request reply next
+    × DayAfter asked.day asked.request reply old mid
+    × DropsForGain asked.request before next old mid
+    × DropsForGainAll charter next more replies after mid new
+DropsForGainAll _ _ _ _ _ old new = ⊥

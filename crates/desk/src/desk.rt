@@ -22,7 +22,7 @@ ghost use Rattle.desk.specs.HolderAnswers.{IsAnswerByEntries, KeepsOthers, RunsB
 ghost use Rattle.desk.specs.Desk.{charter_of, store_of, ContinuesHistories, HoldsHistory};
 ghost use Rattle.desk.specs.Desk.{IsOnCleanDisk, KeepsRows, OfHistories, OfRows};
 ghost use Rattle.desk.specs.DeskView.{HoldsKept};
-ghost use Rattle.desk.specs.DayAfter.{DayAfter, DayAfterAll, DropsForGain};
+ghost use Rattle.desk.specs.DayAfter.{DayAfter, DayAfterAll, DropsForGainAll, DropsForGain};
 ghost use Rattle.desk.specs.Prepared.{day_of};
 
 mod by_key;
@@ -251,6 +251,11 @@ impl<S: Alter> Desk<S> {
             self.old self.new) }
         ensures kept_day { IfOk result (λ replies. DayAfterAll asked.now replies.items
             (day_of self.old.kept) (day_of self.new.kept)) }
+        ensures dropped { IfOk result (λ replies. OfHistories S.Store self.old self.new (λ history.
+            (are : AreAnswered S.Store (charter_of self.old) history asked.now replies.items
+            self.new)
+            × DropsForGainAll (charter_of self.old) history asked.now replies.items are.after
+            (day_of self.old.kept) (day_of self.new.kept))) }
     {
         crate::laws::answers_by_entries();
         histories::laws::growth_is_legal();

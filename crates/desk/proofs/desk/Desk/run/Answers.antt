@@ -5,6 +5,7 @@ use Rattle.desk.proofs.CrashLemmas.{left_more}
 use Rattle.desk.proofs.HolderLemmas.{runs_by_entries}
 use Rattle.desk.specs.Prepared.{day_of}
 use Rattle.desk.proofs.DayLemmas.{day_more}
+use Rattle.desk.proofs.DropLemmas.{drop_next}
 use Rattle.transactions.proofs.StatementLemmas.{taken_more}
 use Rattle.desk.proofs.RunLemmas.{kept_more, others_more}
 use Rattle.desk.proofs.desk.Desk.run.Goals as goal
@@ -23,6 +24,8 @@ loop-one-init g c = record {
         left = λ pending left. left;
       });
   others = λ clean history legal held rows holds. (rows, holds, λ h other. refl, λ other. refl);
+  dropped = λ clean history legal held.
+      rw c.in_ok-replies.ensures.items (record { after = history; legal = legal; values = λ fit. fit; runs = refl; rows_after = held }, (refl, refl));
   kept_day = rw c.in_ok-replies.ensures.items refl;
 }
 
@@ -49,6 +52,11 @@ loop-one-preserved g c =
           others_more g.S.Store c.args.asked.now c.loop-one.one-index c.one-item.result c.args.self.now c.loop-one.self c.handle-reply.new.self
           c.loop-one-test.true c.one-item.is (so_far.others before history legal held)
           (c.handle-reply.ensures.others clean is.after (rw so_far.chartered is.legal) is.rows_after);
+      dropped = λ clean history legal held.
+          drop_next g.S.Store (charter_of c.args.self.now) (charter_of c.loop-one.self) history c.args.asked.now c.loop-one.one-index c.one-item.result
+          c.loop-one.replies.items c.push.new.self.items c.handle-reply.result c.args.self.now c.loop-one.self c.handle-reply.new.self
+          so_far.chartered c.loop-one-test.true c.one-item.is (rw pushed at c.push.ensures.items) (so_far.dropped (c.handle-reply.ensures.clean clean) history legal held)
+          c.handle-reply.ensures.kept_day (c.handle-reply.ensures.dropped clean);
       kept_day = rw (taken_more c.args.asked.now c.loop-one.one-index c.one-item.result c.loop-one-test.true c.one-item.is, (rw pushed at c.push.ensures.items))
           (day_more (take c.loop-one.one-index c.args.asked.now) c.loop-one.replies.items c.one-item.result c.handle-reply.result
           (day_of c.args.self.now.kept) (day_of c.loop-one.self.kept) (day_of c.handle-reply.new.self.kept) so_far.kept_day c.handle-reply.ensures.kept_day);
@@ -69,6 +77,10 @@ returns-clause-isolated g c clean history legal held =
 pub returns-clause-others : goal.returns-clause-others
 returns-clause-others g c clean history legal held =
     rw (take_all c.loop-one.one-index c.args.asked.now (omega (arith, c.loop-one-test.false))) at (c.loop-one.invariant.others clean history legal held)
+
+pub returns-clause-dropped : goal.returns-clause-dropped
+returns-clause-dropped g c clean history legal held =
+    rw (take_all c.loop-one.one-index c.args.asked.now (omega (arith, c.loop-one-test.false))) at (c.loop-one.invariant.dropped clean history legal held)
 
 pub returns-clause-kept_day : goal.returns-clause-kept_day
 returns-clause-kept_day g c =

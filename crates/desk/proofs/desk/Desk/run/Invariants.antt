@@ -2,7 +2,8 @@ use Rattle.std.proofs.Common.{◌≡◌, ◌≤◌, false, take, length}
 use Rattle.std.specs.List.{list_any}
 use Rattle.std.specs.Prelude.{vec_len, vec_capacity}
 use Rattle.desk.specs.Answer.{is_accepted}
-use Rattle.desk.specs.DayAfter.{DayAfterAll}
+use Rattle.desk.specs.DayAfter.{DayAfterAll, DropsForGainAll}
+use Rattle.desk.specs.Run.{AreAnswered}
 use Rattle.desk.specs.Prepared.{day_of}
 use Rattle.desk.specs.Desk.{charter_of, store_of, IsOnCleanDisk, KeepsRows, OfHistories}
 use Rattle.desk.specs.HolderAnswers.{may_change_any, may_except_any, KeepsOthers}
@@ -19,5 +20,8 @@ invariant-loop-one g l = record {
   kept : list_any is_accepted l.replies.items ≡ false → KeepsRows g.S.Store l.initial.self l.self;
   left : OfHistories g.S.Store l.initial.self l.self (λ history. AreKept g.S.Store (charter_of l.initial.self) history (take l.one-index l.asked) l.replies.items l.initial.self l.self);
   others : OfHistories g.S.Store l.initial.self l.self (λ history. KeepsOthers g.S.Store (may_change_any (take l.one-index l.asked)) (may_except_any (take l.one-index l.asked)) l.initial.self l.self);
+  dropped : OfHistories g.S.Store l.initial.self l.self (λ history.
+      (are : AreAnswered g.S.Store (charter_of l.initial.self) history (take l.one-index l.asked) l.replies.items l.self)
+      × DropsForGainAll (charter_of l.initial.self) history (take l.one-index l.asked) l.replies.items are.after (day_of l.initial.self.kept) (day_of l.self.kept));
   kept_day : DayAfterAll (take l.one-index l.asked) l.replies.items (day_of l.initial.self.kept) (day_of l.self.kept);
 }
