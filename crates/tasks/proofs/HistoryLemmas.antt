@@ -90,11 +90,11 @@ module _ {S : Type 0} (g : Ghosts S) where
       subst (λ (h : History). RepresentsFrom g charter first new h × LeavesAlong g charter old before (λ pending. pending) new h) same
       ((represents_after, λ fits. values_after (values fits)), left)
 
-  kept_leaving : (charter : Charter) (first : History) (old new : Desk S) (before : Standing)
+  kept_leaving : (charter : Charter) (first : Standing) (old new : Desk S) (before : Standing)
       → IsOnCleanDisk g new → StandsFrom g charter first old before → KeepsAll g old new → StandsFrom g charter first new before
-  kept_leaving charter first old new before clean (stands, leaves) keeps =
-      let (stands_after, left) = kept charter first old new before.history clean stands keeps in
-      (stands_after, left before.pending leaves)
+  kept_leaving charter first old new before clean (stands, fitting, leaves) keeps =
+      let (stands_after, left) = kept charter first.history old new before.history clean stands keeps in
+      (stands_after, fitting, left before.pending leaves)
 
   pub each_leads : (charter : Charter) (day : ℕ) (passed : List Transcript) (old new : Desk S) (before : History)
       → AnswersInTurn (Serves g day) old passed new → IsOnCleanDisk g new → Represents g charter old before
@@ -109,9 +109,9 @@ module _ {S : Type 0} (g : Ghosts S) where
   pub each_leaves : (day : ℕ) (passed : List Transcript) (old new : Desk S) → AnswersInTurn (Serves g day) old passed new
       → LeavesInTurn g day old passed new
   each_leaves day passed old new in_turn = λ clean charter before is leaves.
-      let (after, ((represents, values), left), leads) = in_turn_along g (StandsFrom g charter before.history) (RepliesLeaving charter) (replied_leaving g charter before.history) (kept_leaving charter before.history)
-      day passed old new before in_turn clean ((is, λ fits. fits), leaves) in
-      (after, leads, represents, values, left)
+      let (after, ((represents, values), fitting, left), leads) = in_turn_along g (StandsFrom g charter before) (RepliesLeaving charter) (replied_leaving g charter before) (kept_leaving charter before)
+      day passed old new before in_turn clean ((is, λ fits. fits), (λ fits. fits), leaves) in
+      (after, leads, represents, values, fitting, left)
 
 -- ---- files
 

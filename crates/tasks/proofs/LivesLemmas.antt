@@ -21,7 +21,7 @@ pub serves_life : {D : Type 0} (g : Ghosts D) (day : ℕ) (passed : List Transcr
 serves_life g day passed files desk last left resumes leaves clean stopped charter before chartered legal found =
     ∥∥₁_map (resumes charter before.history before.pending chartered legal found) (λ resumed.
     let (history, more, is, none) = resumed in
-    let (after, leads, represents, fits, left_after) = leaves clean charter (record { history = history; pending = [] }) is none in (
+    let (after, leads, represents, fits, asked_fit, left_after) = leaves clean charter (record { history = history; pending = [] }) is none in (
       history,
       more,
       record {
@@ -29,6 +29,7 @@ serves_life g day passed files desk last left resumes leaves clean stopped chart
         leads = leads;
         legal = represents.legal;
         fits = fits;
+        asked_fit = asked_fit;
         left = stopped_leaves_lem g last left charter after.history after.pending stopped left_after;
       },
     ))

@@ -66,18 +66,19 @@ pub leaves_store : {D : Type 0} {g : Ghosts D} (day : ℕ) (passed : List Transc
     (store : FileStore D g) → LeavesInTurn over_files day old passed new → KeepsUnclosed new store
     → IsClean (view store) → LeavesStore day old passed store
 leaves_store day passed old new store leaves kept clean charter before is left =
-    let (after, leads, represents, fits, left_after) = leaves (kept.clean clean) charter before is left in
+    let (after, leads, represents, fits, asked_fit, left_after) = leaves (kept.clean clean) charter before is left in
     record {
       after = after;
       leads = leads;
       legal = represents.legal;
       fits = fits;
+      asked_fit = asked_fit;
       left = kept.left charter after.history after.pending left_after;
     }
 
 -- no connection changes nothing
 pub leaves_none : {D : Type 0} {g : Ghosts D} (day : ℕ) (desk : Desk (FileStore D g)) → LeavesInTurn over_files day desk [] desk
-leaves_none day desk clean charter before is left = (before, refl, is, (λ fits. fits), left)
+leaves_none day desk clean charter before is left = (before, refl, is, (λ fits. fits), (λ fits. fits), left)
 
 -- with the desk that was opened in files, what a crash leaves of it is what one leaves of the files
 pub leaves_unclosed : {D : Type 0} {g : Ghosts D} (image : Image) (day : ℕ) (passed : List Transcript)

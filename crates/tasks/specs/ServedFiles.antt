@@ -1,5 +1,5 @@
 -- What `serve` leaves of the files of a desk, and why it ended early.
-use Rattle.std.specs.Prelude.{◌≡◌, ◌⊎◌, ◌<◌, ℕ, Bool, true, List, [], Result, Ok, Err, IfErr, IfOk, ⊤}
+use Rattle.std.specs.Prelude.{◌≡◌, ◌⊎◌, ◌<◌, ℕ, Bool, true, All, List, [], Result, Ok, Err, IfErr, IfOk, ⊤}
 use Rattle.sqlite_disk.specs.declared.Disk.{Ghosts}
 use Rattle.sqlite_disk.specs.declared.Files.{Files}
 use Rattle.sqlite_wal.specs.Recovery.{Image}
@@ -8,7 +8,7 @@ use Rattle.sqlite.specs.Files.{image_of, over_files}
 use Rattle.charters.specs.CharterSets.{IsCharter}
 use Rattle.charters.specs.declared.charter.Charter.{Charter}
 use Rattle.registry.specs.History.{History}
-use Rattle.registry.specs.Values.{HistoryFits}
+use Rattle.registry.specs.Values.{AskedFits, HistoryFits}
 use Rattle.registry.specs.Verdict.{IsLegal}
 use Rattle.registry.specs.declared.asked.Asked.{Asked}
 use Rattle.command_line.specs.declared.fault.ProgramFault.TheVariants.{Memory, Socket}
@@ -60,14 +60,15 @@ KeepsFiles g image day passed files =
     → (history : History) × IsAtMostOneMore charter before pending history
     × KeepServed g charter day passed history files
 
--- From a history with requests pending these connections on the day lead to a legal one, of values of their types where
--- the history before was so, and what is left allows that one with what is then pending.
+-- From a history with requests pending these connections on the day lead to a legal one, and what is left allows that one
+-- with what is then pending. Both are of values of their types if those before were.
 pub record LeavesServed (charter : Charter) (day : ℕ) (passed : List Transcript) (before : Standing)
     (Allows : History → List Asked → Type 0) : Type 0 where
   pub after : Standing
   pub leads : AnswersInTurn (ConnectionLeaves charter day) before passed after
   pub legal : IsLegal charter after.history
   pub fits : HistoryFits before.history → HistoryFits after.history
+  pub asked_fit : All AskedFits before.pending → All AskedFits after.pending
   pub left : Allows after.history after.pending
 
 -- From a desk of which a crash leaves at most a history that it has with requests pending, to a store of which one leaves

@@ -7,7 +7,7 @@ use crate::serve_desk::serve_files;
 use addr::Day;
 use command_line::{ProgramFault, Task, charter_from};
 use desk::Desk;
-use desk_files::{connect, files_at, make_desk};
+use desk_files::{MakeFault, connect, files_at, make_desk};
 use sqlite_std_file::Unknown;
 use std::fs;
 use std::io::{self, ErrorKind};
@@ -70,8 +70,14 @@ fn run_init_task(rt: &HostRuntime, database: &str, charter: &str) -> Result<(), 
         Ok(conn) => conn,
         Err((fault, _)) => return Err(fault),
     };
-    make_desk(rt.alloc(), conn, &charter)?;
-    Ok(())
+    match make_desk(rt.alloc(), conn, &charter) {
+        Ok(_) => Ok(()),
+        Err(MakeFault::Database(_)) => Err(ProgramFault::Database),
+        Err(MakeFault::Close(store)) => {
+            drop(store.close());
+            Err(ProgramFault::Database)
+        }
+    }
 }
 
 fn run_serve_task<C: Connections>(
