@@ -142,6 +142,35 @@ payloads => {"payloads":[{"asn":64496,"prefix":"192.0.2.0/24","max":24}]}
 ann {"do":"import","holder":"alpha","rows":[{"asn":64496,"prefix":"192.0.2.0/24","max":24,"from":"2026-01-01","until":"2026-12-31"},{"asn":64496,"prefix":"192.0.2.0/25","max":26,"from":"2026-01-01","until":"2026-12-31"}]} => {"made":1,"present":1}
 kept => 2026-03-01
 payloads => {"payloads":[{"asn":64496,"prefix":"192.0.2.0/24","max":24},{"asn":64496,"prefix":"192.0.2.0/25","max":26}]}
+# import_of_rows_that_are_present after holder, authorization
+payloads => {"payloads":[{"asn":64496,"prefix":"192.0.2.0/24","max":24}]}
+ann {"do":"import","holder":"alpha","rows":[{"asn":64496,"prefix":"192.0.2.0/24","max":24,"from":"2026-01-01","until":"2026-12-31"}]} => {"made":0,"present":1}
+kept => 2026-03-01
+payloads => {"payloads":[{"asn":64496,"prefix":"192.0.2.0/24","max":24}]}
+# import_of_a_row_that_begins_later after holder, authorization
+payloads => {"payloads":[{"asn":64496,"prefix":"192.0.2.0/24","max":24}]}
+ann {"do":"import","holder":"alpha","rows":[{"asn":64497,"prefix":"192.0.2.0/25","max":25,"from":"2026-03-02","until":"2026-12-31"}]} => {"made":1,"present":0}
+kept => 2026-03-01
+payloads => {"payloads":[{"asn":64496,"prefix":"192.0.2.0/24","max":24}]}
+# amendment_of_one_that_begins_later after holder, authorization
+payloads => {"payloads":[{"asn":64496,"prefix":"192.0.2.0/24","max":24}]}
+ann {"do":"create","holder":"alpha","asn":64497,"prefix":"192.0.2.0/25","max":25,"from":"2026-03-02","until":"2026-12-31"} => {"done":2}
+kept => 2026-03-01
+ann {"do":"amend","holder":"alpha","number":2,"max":26,"until":"2026-12-31"} => {"done":null}
+kept => 2026-03-01
+payloads => {"payloads":[{"asn":64496,"prefix":"192.0.2.0/24","max":24}]}
+# create_that_a_filter_takes_out after holder, authorization
+slurm {"asn":64497} ; => {"done":null}
+payloads => {"payloads":[{"asn":64496,"prefix":"192.0.2.0/24","max":24}]}
+ann {"do":"create","holder":"alpha","asn":64497,"prefix":"192.0.2.0/25","max":25,"from":"2026-01-01","until":"2026-12-31"} => {"done":2}
+kept => 2026-03-01
+payloads => {"payloads":[{"asn":64496,"prefix":"192.0.2.0/24","max":24}]}
+# create_of_an_asserted_vrp after holder, authorization
+slurm ; {"asn":64498,"prefix":"192.0.2.128/25"} => {"done":null}
+payloads => {"payloads":[{"asn":64496,"prefix":"192.0.2.0/24","max":24},{"asn":64498,"prefix":"192.0.2.128/25","max":25}]}
+ann {"do":"create","holder":"alpha","asn":64498,"prefix":"192.0.2.128/25","max":25,"from":"2026-01-01","until":"2026-12-31"} => {"done":2}
+kept => 2026-03-01
+payloads => {"payloads":[{"asn":64496,"prefix":"192.0.2.0/24","max":24},{"asn":64498,"prefix":"192.0.2.128/25","max":25}]}
 # transfer_that_ends_two after holder, authorization, import, other holder
 bea {"do":"create","holder":"beta","asn":64500,"prefix":"198.51.100.0/24","max":24,"from":"2026-01-01","until":"2026-12-31"} => {"done":1}
 day 2026-12-31
