@@ -7,8 +7,8 @@ Such an edit has a line `# fails: CRATE, TEST, row "ROW"`. Each is planted alone
 try --test` runs the test of that crate: it has to fail with a message that has the row's text in it. That the test
 passes without the edit is for `./roadesk test`.
 
-Needs rt. Ends with 0 where each row failed, with 1 where one did not or an edit could not be planted, and with 77,
-after a line that says so, where there is no rt.
+Needs rt. Ends with 0 where each row failed, with 1 where one did not, a test did not run or an edit could not be
+planted, and with 77, after a line that says so, where there is no rt.
 """
 import pathlib
 import re
@@ -51,7 +51,9 @@ def verdict(edit, named, work):
     how = {"cwd": copy / crate, "stdin": subprocess.DEVNULL, "stdout": subprocess.PIPE, "stderr": subprocess.STDOUT}
     said = subprocess.run(["rt", "try", "--test", "--", test], **how, text=True, errors="replace").stdout
     told = re.search(rf"^test (?:\S+::)?{test} \.\.\. (\w+)\n((?:[ \t].*\n)*)", said, re.M)
-    if told and told[1] == "FAILED" and row in told[2]:
+    if not told:
+        return f"not run\n{said}"
+    if told[1] == "FAILED" and row in told[2]:
         return "fails"
     return f"does not fail\n{said}"
 
