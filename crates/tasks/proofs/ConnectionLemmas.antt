@@ -31,7 +31,7 @@ appends-then (Some old) (Some state) (Some new) first later h k =
 pub logs-none : (lost : Bool) (known : Option (List ℕ)) → Logs lost lost known known []
 logs-none lost known = λ none. (none, appends-none known)
 
-logs-then : (lost_old lost_state lost_new : Bool) (old state new : Option (List ℕ)) (first later : List ℕ)
+pub logs-then : (lost_old lost_state lost_new : Bool) (old state new : Option (List ℕ)) (first later : List ℕ)
     → Logs lost_old lost_state old state first → Logs lost_state lost_new state new later
     → Logs lost_old lost_new old new (first ++ later)
 logs-then lost_old lost_state lost_new old state new first later h k = λ none.

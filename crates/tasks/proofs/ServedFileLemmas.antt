@@ -1,5 +1,5 @@
 -- What connections leave of the files of a desk.
-use Rattle.std.proofs.Common.{◌≡◌, Bool, List, [], Option, Some, None, Result, Ok, Err, IfErr, ℕ, refl, subst, sym}
+use Rattle.std.proofs.Common.{Bool, List, [], Option, Some, None, Result, Ok, Err, IfErr, ℕ, refl, subst, sym}
 use Rattle.std.proofs.lemmas.List.{append-nil}
 use Rattle.sqlite.specs.Files.{over_files}
 use Rattle.sqlite_disk.specs.declared.Disk.{Ghosts}

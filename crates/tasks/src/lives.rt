@@ -1,19 +1,28 @@
-//! A life of `serve` on files whose disk may crash.
+//! The lives of `serve` on files whose disk may crash.
 ghost use Rattle.std.specs.Prelude.{◌≤◌, List, length, IfErr, IfOk, IsTrue};
+ghost use Rattle.std.specs.List.{flat_map};
 ghost use Rattle.sqlite.specs.Files.{image_of};
 ghost use Rattle.sqlite_wal.specs.Reads.{AreClean};
 ghost use Rattle.desk_files.specs.Refused.{KeepsRefused, RefusesFiles, RefusesNoLeft};
 ghost use Rattle.desk_files.specs.Refused.{RefusesNoLegal};
 ghost use Rattle.tasks.specs.Connections.{Accepts, Logs};
-ghost use Rattle.tasks.specs.ServedLives.{ServesLife};
+ghost use Rattle.tasks.specs.ServedLives.{ServesLife, ServesLives};
 ghost use Rattle.tasks.specs.Serving.{Transcript, fault_lines};
 
 use crate::serve::{Connections, Log, serve_on};
 use addr::Day;
 use desk_files::{OpenFault, open_files, stop};
-use sqlite_disk::{Disk, Files};
+use sqlite_disk::{Crash, Disk, Files};
 use sqlite_pager::Options;
 use std::alloc::Global;
+
+/// A life of `serve`: the day, how many connections it has at most, and the options of its opening.
+#[derive(Clone, Copy)]
+pub struct Life {
+    pub day: Day,
+    pub count: u32,
+    pub options: Options,
+}
 
 /// Opens the desk in the files, serves at most this many connections on this day, and returns the
 /// files as a process leaves them that ends then. Neither of them may have failed a sync. As the
@@ -51,4 +60,45 @@ pub fn serve_until_stop<D: Disk + Drop, C: Connections, L: Log>(
     // If a connection cannot be accepted, the process ends there.
     let _ended = serve_on(alloc, connections, count, &mut desk, day, log);
     Ok(stop(desk))
+}
+
+/// Serves each life in turn, and crashes the files before each. A refused opening ends the lives.
+pub fn serve_lives<D: Crash + Drop, C: Connections, L: Log>(
+    alloc: Global,
+    mut files: Files<D>,
+    lives: &[Life],
+    connections: &mut C,
+    log: &mut L,
+) -> Result<Files<D>, OpenFault<D>>
+    ensures clean { IfOk result (λ left. AreClean D.Disk left.log left.db
+        → AreClean D.Disk files.log files.db) }
+    // `served` are the connections of each life: they were accepted, the log has the lines of those
+    // that failed, and a crash leaves of the files at most what the lives lead to.
+    ensures served { (served : List (List Transcript))
+        × Accepts (C.accepted connections.old) (C.accepted connections.new)
+        (flat_map (λ passed. passed) served)
+        × Logs (L.has_lost log.old) (L.has_lost log.new) (L.contents log.old)
+        (L.contents log.new) (flat_map (fault_lines 1) served)
+        × IfOk result (λ left. AreClean D.Disk left.log left.db
+        → ServesLives D.Disk lives.now files served left) }
+{
+    // For the proof: the theorem by which the values of the requests reach the next life.
+    desk::laws::pending_fits();
+    for life in lives {
+        files.log.crash();
+        files.db.crash();
+        files = match serve_until_stop(
+            alloc,
+            files,
+            life.options,
+            connections,
+            life.count,
+            life.day,
+            log,
+        ) {
+            Ok(left) => left,
+            Err(fault) => return Err(fault),
+        };
+    }
+    Ok(files)
 }
