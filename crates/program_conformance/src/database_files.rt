@@ -133,6 +133,17 @@ fn serve_parts<S: Alter>(
     serve(rt, rt, desk, day, &texts, AfterText::ShutsWriting)
 }
 
+/// Ends the desk, and returns whether its files were closed.
+fn closes(desk: Desk<FileStore<FileFrom<Unknown>>>) -> bool {
+    match close_desk(desk) {
+        Ok(_) => true,
+        Err(store) => {
+            drop(store.close());
+            false
+        }
+    }
+}
+
 /// The desk in the database answers these requests, and is closed.
 fn serve_database(
     test: &impl Abort,
@@ -142,7 +153,7 @@ fn serve_database(
 ) -> Result<Served, Fail> {
     let mut desk = open(rt)?;
     let served = serve_parts(rt, &mut desk, day, parts);
-    assert!(test; close_desk(desk).is_ok());
+    assert!(test; closes(desk));
     served
 }
 
