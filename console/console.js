@@ -110,6 +110,15 @@ const stateOf = (auth) => stateOn(auth, $("day").value);
 
 // The desk
 
+/** What the front refuses because too many requests came at once has not reached the desk: it is sent again. */
+async function fetchAgain(address, options) {
+  for (let left = 5; ; left--) {
+    const response = await fetch(address, options);
+    if (response.status !== 429 || left === 0) return response;
+    await new Promise((resume) => setTimeout(resume, 1000));
+  }
+}
+
 /** Sends one request. The result has the text and the reply of an answer, or else what went wrong as `fault`. */
 async function ask(method, path, body, isQuestion = method === "GET") {
   let status = "lost";
@@ -118,7 +127,8 @@ async function ask(method, path, body, isQuestion = method === "GET") {
   try {
     const content = body === undefined || body instanceof Blob ? body : JSON.stringify(body);
     const signal = AbortSignal.timeout(90000);
-    const response = await fetch(location.origin + path, { method, body: content, cache: "no-store", signal });
+    const options = { method, body: content, cache: "no-store", signal };
+    const response = await fetchAgain(location.origin + path, options);
     ({ status } = response);
     text = await response.text();
     if (response.headers.get("Content-Type")?.startsWith("application/json")) reply = JSON.parse(text);
