@@ -81,12 +81,14 @@ FailsToOpen files fault rest =
     IsCleanLeft rest → (error : Error) × IsFaultOf error fault × FailsToOpenFiles files rest error
 
 -- What is left of the files where the desk in them was not opened and the disk returned what was written. Of files that
--- could not be opened it is what SQLite leaves. If the database was refused, a crash leaves no more than before.
+-- could not be opened it is what SQLite leaves. If the database was refused, a crash leaves no more than before, and the
+-- disk had returned what was written before too. That there are no files is no fault of files.
 abbrev pub KeepsRefused : {D : Type 0} {g : Ghosts D} → Files D → OpenFault D g → Type 0
-KeepsRefused files (Path fault) = ⊤
+KeepsRefused files (Path fault) = ⊥
 KeepsRefused files (File fault rest) =
     FailsToOpen files fault rest × (IsCleanLeft rest → sqlite.LeavesFiles files rest)
-KeepsRefused {D} {g} files (Store fault now) = AreClean g now.log now.db → LeavesNoMore g files now
+KeepsRefused {D} {g} files (Store fault now) =
+    AreClean g now.log now.db → AreClean g files.log files.db × LeavesNoMore g files now
 
 -- the same of files that read so, where there were any
 abbrev pub KeepsRefusedOver : {D : Type 0} {g : Ghosts D} → Image → OpenFault D g → Type 0

@@ -249,6 +249,8 @@ fn open_over<D: Disk + Drop>(
         → HasNonePending over_files desk) }
     ensures opened { IfOk result (λ desk. IfClean over_files (store_of desk)
         (IsOpened over_files (file_state conn) (store_of desk))) }
+    ensures given_clean { IfErr result (λ refused. AreClean D.Disk refused.1.log refused.1.db
+        → HasCleanDisk (file_state conn)) }
     ensures err { IfErr result (λ refused. (image : Image) → IsOver conn image
         → RefusedDatabase D.Disk image refused.0 refused.1) }
     ensures not_schema { IfErr result (λ refused. (image : Image) → IsOver conn image

@@ -34,6 +34,8 @@ returns-in-Err-open_over-clause-no_legal g c =
     (c.in-Err-open_over.ensures.not_schema (image_of g.D.Disk c.args.files) c.in-Ok.ensures.over)
 
 pub returns-in-Err-open_over-clause-left : goal.returns-in-Err-open_over-clause-left
-returns-in-Err-open_over-clause-left g c =
-    refused_keeps g.D.Disk g.met.D.Disk.seen_may_stay c.args.files c.in-Err-open_over.fault c.in-Err-open_over.files
-    (c.in-Err-open_over.ensures.err (image_of g.D.Disk c.args.files) c.in-Ok.ensures.over)
+returns-in-Err-open_over-clause-left g c clean = (
+  c.in-Ok.ensures.clean (c.in-Err-open_over.ensures.given_clean clean),
+  refused_keeps g.D.Disk g.met.D.Disk.seen_may_stay c.args.files c.in-Err-open_over.fault c.in-Err-open_over.files
+      (c.in-Err-open_over.ensures.err (image_of g.D.Disk c.args.files) c.in-Ok.ensures.over) clean,
+)

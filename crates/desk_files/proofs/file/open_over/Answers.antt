@@ -12,6 +12,9 @@ returns-in-Ok-clause-resumed g c clean image over =
     let was = over (c.in-Ok.ensures.clean clean) in
     opened_resumes image c.args.conn c.in-Ok.desk was.0 was.1 (c.in-Ok.ensures.resumed clean)
 
+pub returns-in-Err-clause-given_clean : goal.returns-in-Err-clause-given_clean
+returns-in-Err-clause-given_clean g c clean = c.in-Err.ensures.err.clean (c.stop_connection.ensures.clean clean)
+
 pub returns-in-Err-clause-err : goal.returns-in-Err-clause-err
 returns-in-Err-clause-err g c image over =
     refused_database g.D.Disk g.met.D.Disk.seen_may_stay image c.args.conn c.in-Err.conn c.in-Err.fault
