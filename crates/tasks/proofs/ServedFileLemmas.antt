@@ -15,7 +15,7 @@ use Rattle.desk.specs.declared.desk.Desk.{Desk}
 use Rattle.desk_files.specs.DeskFiles.{KeepDesk, ResumesFiles}
 use Rattle.desk_files.specs.Refused.{KeepsUnclosed}
 use Rattle.tasks.specs.Connections.{Accepts}
-use Rattle.tasks.specs.ServedFiles.{IfClosed, IfNotBind, IfUnclosed, IsCauseOf, IsLateCause, KeepsFiles, LeavesStore, LeavesUnclosed}
+use Rattle.tasks.specs.ServedFiles.{IfClosed, IfNotBind, IfNotOpened, IfUnclosed, IsCauseOf, IsLateCause, KeepsFiles, LeavesStore, LeavesUnclosed}
 use Rattle.tasks.specs.ServedHistories.{KeepServed, LeavesInTurn}
 use Rattle.tasks.specs.Serving.{AnswersInTurn, Serves, Transcript}
 use Rattle.tasks.specs.declared.serve_desk.ServeFault.{ServeFault}
@@ -116,6 +116,15 @@ late_not_bind not_accepted (Err (Open fault)) P late holds = absurd late
 late_not_bind not_accepted (Err (Bind fault closed)) P late holds = absurd late
 late_not_bind not_accepted (Err (Accept closed)) P late holds = holds
 late_not_bind not_accepted (Err (Close store)) P late holds = holds
+
+-- and the desk was opened
+pub late_opened : {D : Type 0} {g : Ghosts D} (not_accepted : Bool) (result : Result (Files D) (ServeFault D g)) (P : Type 0)
+    → IfErr result (IsLateCause not_accepted) → IfNotOpened result P
+late_opened not_accepted (Ok files) P late = tt
+late_opened not_accepted (Err (Open fault)) P late = absurd late
+late_opened not_accepted (Err (Bind fault closed)) P late = tt
+late_opened not_accepted (Err (Accept closed)) P late = tt
+late_opened not_accepted (Err (Close store)) P late = tt
 
 -- known connections are as they were
 pub accepts_none : (known : Option (List Transcript)) → Accepts known known []

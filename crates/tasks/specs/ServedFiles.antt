@@ -107,6 +107,14 @@ IsLateCause not_accepted (Bind fault closed) = ⊥
 IsLateCause not_accepted (Accept closed) = not_accepted ≡ true
 IsLateCause not_accepted (Close store) = ⊤
 
+-- this holds, where the desk was not opened
+abbrev pub IfNotOpened : {D : Type 0} {g : Ghosts D} → Result (Files D) (ServeFault D g) → Type 0 → Type 0
+IfNotOpened (Ok files) Holds = ⊤
+IfNotOpened (Err (Open fault)) Holds = Holds
+IfNotOpened (Err (Bind fault closed)) Holds = ⊤
+IfNotOpened (Err (Accept closed)) Holds = ⊤
+IfNotOpened (Err (Close store)) Holds = ⊤
+
 -- this holds, unless `serve` ended early because listening failed
 abbrev pub IfNotBind : {D : Type 0} {g : Ghosts D} → Result (Files D) (ServeFault D g) → Type 0 → Type 0
 IfNotBind (Ok files) Holds = Holds

@@ -8,8 +8,9 @@ ghost use Rattle.registry.specs.History.{History};
 ghost use Rattle.charters.specs.declared.charter.Charter as shown;
 ghost use Rattle.desk.specs.Desk.{IsOnCleanDisk, Represents};
 ghost use Rattle.tasks.specs.Connections.{Accepts, Logs};
-ghost use Rattle.tasks.specs.ServedFiles.{IfClosed, IfNotBind, IfUnclosed, IsCauseOf, IsLateCause};
-ghost use Rattle.tasks.specs.ServedFiles.{IsServedCount, KeepsFiles, LeavesStore, LeavesUnclosed};
+ghost use Rattle.tasks.specs.ServedFiles.{IfClosed, IfNotBind, IfNotOpened, IfUnclosed, IsCauseOf};
+ghost use Rattle.tasks.specs.ServedFiles.{IsLateCause, IsServedCount, KeepsFiles, LeavesStore};
+ghost use Rattle.tasks.specs.ServedFiles.{LeavesUnclosed};
 ghost use Rattle.tasks.specs.ServedHistories.{KeepServed};
 ghost use Rattle.tasks.specs.Serving.{Transcript, fault_lines};
 
@@ -67,6 +68,9 @@ pub fn serve_files<D: Disk + Drop, C: Connections, L: Log>(
         (C.cannot_listen connections.new) (C.has_failed connections.new)) }
     ensures listens { IfNotBind result
         (C.cannot_listen connections.new ≡ C.cannot_listen connections.old) }
+    // So the socket is not bound where the database is refused.
+    ensures unbound { IfNotOpened result
+        ((connections.new ≡ connections.old) × (log.new ≡ log.old)) }
 {
     let desk = match open_files(alloc, files, options) {
         Ok(desk) => desk,

@@ -3,7 +3,7 @@ use Rattle.std.proofs.lemmas.Result.{IfErr-weaker}
 use Rattle.sqlite.specs.Files.{image_of}
 use Rattle.tasks.proofs.ConnectionLemmas.{accepts-then, logs-none}
 use Rattle.tasks.proofs.HistoryLemmas.{if_ok_both}
-use Rattle.tasks.proofs.ServedFileLemmas.{if_closed, if_unclosed, keep_served, keeps_files, late_cause, late_not_bind, leaves_none, leaves_store, leaves_unclosed}
+use Rattle.tasks.proofs.ServedFileLemmas.{if_closed, if_unclosed, keep_served, keeps_files, late_cause, late_not_bind, late_opened, leaves_none, leaves_store, leaves_unclosed}
 use Rattle.tasks.proofs.serve_desk.serve_files.Goals as goal
 
 pub returns-in-Ok-listen-clause-served : goal.returns-in-Ok-listen-clause-served
@@ -52,3 +52,6 @@ returns-in-Ok-listen-clause-listens g c =
     late_not_bind _ c.serve_desk.result _ c.serve_desk.ensures.err
     (c.serve_desk.ensures.listens
     ∙ subst (λ r. OnOk r (g.C.Connections.cannot_listen c.listen.new.self ≡ before)) c.in-Ok-listen.is c.listen.ensures.listens)
+
+pub returns-in-Ok-listen-clause-unbound : goal.returns-in-Ok-listen-clause-unbound
+returns-in-Ok-listen-clause-unbound g c = late_opened _ c.serve_desk.result _ c.serve_desk.ensures.err
