@@ -1,27 +1,35 @@
 -- The lives of `serve` on files whose disk may crash.
-use Rattle.std.proofs.Common.{◌≡◌, ◌<◌, ◌≤◌, ◌+◌, ◌∙◌, ℕ, Bool, List, [], ◌∷◌, ◌++◌, Option, length, get_or, take, ap, refl, subst, sym}
+use Rattle.std.proofs.Common.{◌≡◌, ◌<◌, ◌≤◌, ◌+◌, ◌∙◌, ℕ, Bool, List, [], ◌∷◌, ◌++◌, Option, arith, length, get_or, take, ap, refl, subst, sym}
 use Rattle.std.proofs.Math.Logic.{∥∥₁_elim, ∥∥₁_map}
 use Rattle.std.proofs.lemmas.List.{flat_map_more, take_more}
 use Rattle.std.proofs.lemmas.List.Elements.{All-nil}
 use Rattle.std.specs.List.{flat_map}
-use Rattle.sqlite.specs.Files.{over_files}
+use Rattle.sqlite.specs.Files.{image_of, over_files}
+use Rattle.sqlite.specs.declared.file.Leftover.TheVariants as left
 use Rattle.sqlite_disk.specs.declared.Disk.{Ghosts}
 use Rattle.sqlite_disk.specs.declared.Files.{Files}
 use Rattle.sqlite_store.specs.declared.store.FileStore.{FileStore}
+use Rattle.sqlite_trees.specs.Props.{Trees-set}
+use Rattle.sqlite_wal.proofs.LogLemmas.{SeenMayStay}
 use Rattle.sqlite_wal.specs.Files.{outcomes}
+use Rattle.sqlite_wal.specs.Reads.{AreClean}
 use Rattle.sqlite_wal.specs.Recovery.{Image}
 use Rattle.charters.specs.declared.charter.Charter.{Charter}
 use Rattle.registry.specs.History.{History}
 use Rattle.registry.specs.Values.{AskedFits}
+use Rattle.registry.specs.declared.asked.Asked.{Asked}
 use Rattle.desk.specs.Desk.{IsOnCleanDisk}
-use Rattle.desk.specs.Resumed.{IsAtMostOneMore, PendingFits}
+use Rattle.desk.specs.Resumed.{IsAtMostOneMore, MayBeLeftInEitherSchema, PendingFits}
 use Rattle.desk.specs.declared.desk.Desk.{Desk}
 use Rattle.desk_files.proofs.DeskFileLemmas.{stopped_leaves_lem}
-use Rattle.desk_files.specs.DeskFiles.{LeavesFiles, ResumesLeft}
+use Rattle.desk_files.specs.DeskFiles.{FilesLeaveAtMost, LeavesFiles, ResumesLeft}
+use Rattle.desk_files.specs.Refused.{KeepsRefused, RefusesFiles, RefusesNoLegal}
+use Rattle.desk_files.specs.declared.file.OpenFault.{OpenFault}
+use Rattle.desk_files.specs.declared.file.OpenFault.TheVariants.{File, Path, Store}
 use Rattle.web.specs.ScriptAnswer.{Standing}
 use Rattle.tasks.specs.Connections.{Accepts, Logs}
 use Rattle.tasks.specs.ServedHistories.{ConnectionLeaves, LeavesInTurn}
-use Rattle.tasks.specs.ServedLives.{LivesLead, ServesLife, ServesLives}
+use Rattle.tasks.specs.ServedLives.{LeavesRefused, LivesAllow, LivesLead, RefusesLife, ServesLife, ServesLives}
 use Rattle.tasks.specs.Serving.{AnswersInTurn, fault_lines, Transcript}
 use Rattle.tasks.specs.declared.lives.Life.{Life}
 use Rattle.tasks.proofs.ConnectionLemmas.{accepts-then, logs-then}
@@ -106,6 +114,74 @@ module _ {D : Type 0} (g : Ghosts D) (more_fits : PendingFits) (start old crashe
       take_more lives index life below ∙ ap (λ x. take index lives ++ x ∷ []) (sym here) in
       subst (λ (l : List Life). ServesLives g l start (served ++ passed ∷ []) new) (sym taken)
       (one_more_life (take index lives) served life passed so_far crash few serves)
+
+-- ---- a refused opening
+
+module _ {D : Type 0} (g : Ghosts D) (stays : SeenMayStay g) (more_fits : PendingFits) (lives : List Life) (served : List (List Transcript))
+    (start : Files D) where
+  leads_on : (now : Files D) (Allows : Charter → History → List Asked → Type 0) → ServesLives g lives start served now
+      → ((charter : Charter) (history : History) (pending : List Asked)
+      → FilesLeaveAtMost g charter now history pending → ∥ Allows charter history pending ∥₁)
+      → LivesAllow g lives start served Allows
+  leads_on now Allows led allows charter before chartered legal found =
+      ∥∥₁_elim (led charter before chartered legal found) squash₁ (λ at.
+      ∥∥₁_map (allows charter at.0.history at.0.pending at.4) (λ allowed. (at.0, at.1, at.2, at.3, allowed)))
+
+  leaves_refused : (found : Files D) (fault : OpenFault D g)
+      → (AreClean g found.log found.db → ServesLives g lives start served found)
+      → RefusesNoLegal found fault → KeepsRefused found fault
+      → LeavesRefused g lives start served found fault
+  leaves_refused found (Path fault) led no_legal keeps = absurd keeps
+  leaves_refused found (File fault (left.Files now)) led no_legal keeps = λ was clean.
+      leads_on found _ (led was) (λ charter history pending allowed. ∣ (λ image may. allowed image (keeps.1 clean image may)) ∣₁)
+  leaves_refused found (File fault (left.Unopened now)) led no_legal keeps = tt
+  leaves_refused found (File fault (left.Store now)) led no_legal keeps = λ was clean.
+      leads_on found _ (led was) (λ charter history pending allowed.
+      ∥∥₁_map (allowed (image_of g found) (stays found.log, stays found.db)) (λ held trees may.
+      let same : trees ≡ held.0 = ∥∥₁_elim held.2 (Trees-set _ _) ((keeps.1 clean trees may).1 held.0) in
+      subst (MayBeLeftInEitherSchema charter history pending) (sym same) held.1))
+  leaves_refused found (Store fault now) led no_legal keeps = λ clean.
+      let (was, no_more) = keeps clean in (
+        leads_on found _ (led was) (λ charter history pending allowed. ∣ no_more charter history pending allowed ∣₁),
+        λ is it.
+            ∥∥₁_elim (led was it.charter it.before it.chartered it.legal it.left) (λ x y. absurd x) (λ at.
+            let fits = at.3 it.fits in
+            no_legal clean is (record {
+              charter = it.charter;
+              before = at.0.history;
+              pending = at.0.pending;
+              chartered = it.chartered;
+              named = it.named;
+              legal = at.2;
+              fits = λ after more. more_fits it.charter at.0.history at.0.pending after fits.0 fits.1 more;
+              left = at.4;
+            })),
+      )
+
+module _ {D : Type 0} (g : Ghosts D) (stays : SeenMayStay g) (more_fits : PendingFits) (start old crashed : Files D) where
+  -- the opening of the life at an index was refused
+  pub refuses_life : (lives : List Life) (index : ℕ) (served : List (List Transcript)) (fault : OpenFault D g)
+      → length served ≡ index → index < length lives
+      → (AreClean g old.log old.db → AreClean g start.log start.db)
+      → (AreClean g crashed.log crashed.db → AreClean g old.log old.db)
+      → (AreClean g old.log old.db → ServesLives g (take index lives) start served old)
+      → ((image : Image) → outcomes g crashed.log crashed.db image → outcomes g old.log old.db image)
+      → RefusesFiles (image_of g crashed) fault → RefusesNoLegal crashed fault → KeepsRefused crashed fault
+      → RefusesLife g lives start served fault
+  refuses_life lives index served fault counted below cleaned crash_clean so_far crash refuses no_legal keeps =
+      let led : AreClean g crashed.log crashed.db → ServesLives g (take (length served) lives) start served crashed = λ clean.
+      leads_on g stays more_fits (take (length served) lives) served start old _
+      (subst (λ n. ServesLives g (take n lives) start served old) (sym counted) (so_far (crash_clean clean)))
+      (λ charter history pending allowed. ∣ (λ image may. allowed image (crash image may)) ∣₁) in
+      record {
+        next = omega (arith, counted, below);
+        found = crashed;
+        clean = λ clean. cleaned (crash_clean clean);
+        led = led;
+        refuses = refuses;
+        keeps = keeps;
+        left = leaves_refused g stays more_fits (take (length served) lives) served start crashed fault led no_legal keeps;
+      }
 
 -- ---- what is known
 

@@ -1,12 +1,12 @@
 //! The lives of `serve` on files whose disk may crash.
-ghost use Rattle.std.specs.Prelude.{◌≤◌, List, length, IfErr, IfOk, IsTrue};
+ghost use Rattle.std.specs.Prelude.{◌≡◌, ◌≤◌, List, length, IfErr, IfOk, IsTrue, OnErr, OnOk};
 ghost use Rattle.std.specs.List.{flat_map};
 ghost use Rattle.sqlite.specs.Files.{image_of};
 ghost use Rattle.sqlite_wal.specs.Reads.{AreClean};
 ghost use Rattle.desk_files.specs.Refused.{KeepsRefused, RefusesFiles, RefusesNoLeft};
 ghost use Rattle.desk_files.specs.Refused.{RefusesNoLegal};
 ghost use Rattle.tasks.specs.Connections.{Accepts, Logs};
-ghost use Rattle.tasks.specs.ServedLives.{ServesLife, ServesLives};
+ghost use Rattle.tasks.specs.ServedLives.{RefusesLife, ServesLife, ServesLives};
 ghost use Rattle.tasks.specs.Serving.{Transcript, fault_lines};
 
 use crate::serve::{Connections, Log, serve_on};
@@ -48,6 +48,7 @@ pub fn serve_until_stop<D: Disk + Drop, C: Connections, L: Log>(
         (L.contents log.new) (fault_lines 1 passed)
         × IfOk result (λ left. AreClean D.Disk left.log left.db
         → ServesLife D.Disk day files passed left) }
+    ensures unserved { OnErr result ((connections.new ≡ connections.old) × (log.new ≡ log.old)) }
     ensures err { IfErr result (RefusesFiles (image_of D.Disk files)) }
     ensures not_schema { IfErr result (RefusesNoLeft (image_of D.Disk files)) }
     ensures no_legal { IfErr result (RefusesNoLegal files) }
@@ -72,15 +73,18 @@ pub fn serve_lives<D: Crash + Drop, C: Connections, L: Log>(
 ) -> Result<Files<D>, OpenFault<D>>
     ensures clean { IfOk result (λ left. AreClean D.Disk left.log left.db
         → AreClean D.Disk files.log files.db) }
-    // `served` are the connections of each life: they were accepted, the log has the lines of those
-    // that failed, and a crash leaves of the files at most what the lives lead to.
+    // `served` are the connections of each life that was opened: they were accepted, the log has the
+    // lines of those that failed, and a crash leaves of the files at most what the lives lead to.
+    // If an opening was refused, it was that of the next life.
     ensures served { (served : List (List Transcript))
         × Accepts (C.accepted connections.old) (C.accepted connections.new)
         (flat_map (λ passed. passed) served)
         × Logs (L.has_lost log.old) (L.has_lost log.new) (L.contents log.old)
         (L.contents log.new) (flat_map (fault_lines 1) served)
+        × OnOk result (length served ≡ length lives.now)
         × IfOk result (λ left. AreClean D.Disk left.log left.db
-        → ServesLives D.Disk lives.now files served left) }
+        → ServesLives D.Disk lives.now files served left)
+        × IfErr result (RefusesLife D.Disk lives.now files served) }
 {
     // For the proof: the theorem by which the values of the requests reach the next life.
     desk::laws::pending_fits();

@@ -1,4 +1,4 @@
-use Rattle.std.proofs.Common.{List, take}
+use Rattle.std.proofs.Common.{◌≡◌, ◌≤◌, List, length, take}
 use Rattle.std.specs.List.{flat_map}
 use Rattle.sqlite_wal.specs.Reads.{AreClean}
 use Rattle.tasks.specs.Connections.{Accepts, Logs}
@@ -8,6 +8,7 @@ use Rattle.tasks.proofs.lives.serve_lives.Given as goal
 
 abbrev pub invariant-loop-life : goal.invariant-loop-life
 invariant-loop-life g l = (served : List (List Transcript))
+    × (length served ≡ l.life-index) × (l.life-index ≤ length l.lives)
     × (AreClean g.D.Disk l.files.log l.files.db → AreClean g.D.Disk l.initial.files.log l.initial.files.db)
     × Accepts (g.C.Connections.accepted l.fn.connections) (g.C.Connections.accepted l.connections) (flat_map (λ passed. passed) served)
     × Logs (g.L.Log.has_lost l.fn.log) (g.L.Log.has_lost l.log) (g.L.Log.contents l.fn.log) (g.L.Log.contents l.log)
