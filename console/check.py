@@ -356,7 +356,7 @@ def check_sentences(page):
     def keys(table):
         return set(page.imported("sentences", f"Object.keys(module.SENTENCES.{table})"))
 
-    named = rules.split("| rule | holds where |")[1]
+    named = rules.split("| rule | holds if |")[1]
     words = {word for row in re.findall(r"^\| ([a-z, ]+) \|", named, re.M) for word in row.split(", ")}
     expect("a sentence for each rule", keys("denied"), words)
     expect("a sentence for each malformed number", keys("malformed"), numbers("Malformed requests"))
