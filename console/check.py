@@ -507,36 +507,30 @@ def check_list(page):
 
 def check_later_days(page):
     """A change that shows on another day than the desk's says so, by its button too."""
-    def reported(verb):
+    def expect_report(name, verb, day, route):
         said = page.wait("change-said", "From ")
-        return [line in said for line in ["Today: nothing changes.", "cannot know what else"]] + [
+        found = [line in said for line in ["Today: nothing changes.", "cannot know what else"]] + [
             re.search(r"From .*?\.(?= For)", said)[0], page.text("confirm"),
             "danger" in page.get("confirm").get_attribute("class")]
+        expect(name, found, [True, True, f"From {day}: {route} becomes Invalid.",
+                             f"{verb}: 1 route becomes Invalid from {day}", True])
+        page.click("cancel")
 
     page.click("create")
     page.put(terms_asn="AS64777", terms_prefix="2001:db8:1::/48")
     page.day("terms-from", "2026-03-02")
     page.click("ask-report")
-    expect("a create that begins tomorrow", reported("Create"),
-           [True, True, "From 2026-03-02: 2001:db8:1::/48 AS64499 becomes Invalid.",
-            "Create: 1 route becomes Invalid from 2026-03-02", True])
-    page.click("cancel")
+    expect_report("a create that begins tomorrow", "Create", "2026-03-02", "2001:db8:1::/48 AS64499")
     page.open_auth(2)
     page.click("amend")
     page.day("terms-until", "2026-04-30")
     page.click("ask-report")
-    expect("an amendment that ends earlier", reported("Amend"),
-           [True, True, "From 2026-05-01: 192.0.2.128/25 AS64497 becomes Invalid.",
-            "Amend: 1 route becomes Invalid from 2026-05-01", True])
-    page.click("cancel")
+    expect_report("an amendment that ends earlier", "Amend", "2026-05-01", "192.0.2.128/25 AS64497")
     (WORK / "later.csv").write_text(
         "asn,prefix,maxlength,from,until\nAS64777,2001:db8:1::/48,48,2026-04-01,2026-12-31\n")
     page.click("import")
     page.put(import_file=str(WORK / "later.csv"))
-    expect("an import of rows that begin later", reported("Import"),
-           [True, True, "From 2026-04-01: 2001:db8:1::/48 AS64499 becomes Invalid.",
-            "Import: 1 route becomes Invalid from 2026-04-01", True])
-    page.click("cancel")
+    expect_report("an import of rows that begin later", "Import", "2026-04-01", "2001:db8:1::/48 AS64499")
     # The desk's day is its own, whatever this browser takes it for.
     expect("the desk's day was found", page.run("return document.getElementById('day').value"), DAY)
 
