@@ -128,6 +128,31 @@ def listed(holder="alpha", user="ann"):
             for a in json.loads(curl(user, f"/holders/{holder}/auths")).get("listed", [])]
 
 
+class Steal:
+    """The time that the host of a virtual machine takes from its processors, by the clock of a trace."""
+
+    def __init__(self):
+        self.readings = [self.read()]
+        threading.Thread(target=self.watch, daemon=True).start()
+
+    def read(self):
+        """When the kernel was asked and when it had answered, in microseconds, and the milliseconds lost until then."""
+        asked = time.monotonic()
+        ticks = int(Path("/proc/stat").read_text().split()[8])
+        return asked * 1e6, time.monotonic() * 1e6, ticks * 1000 / os.sysconf("SC_CLK_TCK")
+
+    def watch(self):
+        while True:
+            time.sleep(0.005)
+            self.readings.append(self.read())
+
+    def between(self, start, end):
+        """What all processors lost, in milliseconds. The kernel tells it by ticks, so it is read 20 ms late."""
+        before = [lost for _, answered, lost in self.readings if answered <= start]
+        after = [lost for asked, _, lost in self.readings if asked >= end + 20000]
+        return min(after, default=self.readings[-1][2]) - max(before, default=self.readings[0][2])
+
+
 # The browser
 
 
@@ -301,7 +326,10 @@ class Page:
         return lines
 
     def tasks(self, mark):
-        """The tasks of the page's thread since the last mark up to this one, in milliseconds of the processor."""
+        """
+        The tasks of the page's thread since the last mark up to this one: when each began and ended, and its milliseconds
+        of the processor.
+        """
         self.run("performance.mark(arguments[0])", mark)
         for _ in range(20):
             time.sleep(0.2)
@@ -314,7 +342,7 @@ class Page:
         marked = next(event for event in self.trace if event["name"] == mark)
         of_page = [event for event in self.trace if [event["pid"], event["tid"]] == [marked["pid"], marked["tid"]]]
         self.trace = [event for event in self.trace if event["ts"] > marked["ts"]]
-        return [event.get("tdur", event["dur"]) / 1000 for event in of_page
+        return [(event["ts"], event["ts"] + event["dur"], event.get("tdur", event["dur"]) / 1000) for event in of_page
                 if event["name"] == "RunTask" and "dur" in event and event["ts"] <= marked["ts"]]
 
     def check_log(self):
@@ -1065,11 +1093,14 @@ def check_slurm_sets(page):
 def check_pauses():
     """
     1000 authorizations are listed, filtered, sorted and opened three times without a task of over 50 ms. The time is that
-    of the thread, which other processes of the machine do not lengthen.
+    of the thread, which other processes of the machine do not lengthen. The host of a virtual machine does: the kernel
+    counts to the thread that runs what the host takes meanwhile. So a round is done again where a task may be over 50 ms
+    by that alone; one that is over 50 ms without it fails, and so does the check where no three rounds can be judged.
     """
     rows = "".join(f"AS{65000 + at % 7},2001:db8:{at:x}::/48,48,2026-03-01,2026-12-31\n"
                    for at in range(1000, 2000 - len(listed())))
     (WORK / "many.csv").write_text("asn,prefix,maxlength,from,until\n" + rows)
+    steal = Steal()
     page = Page("ann", traced=True)
     page.open()
     page.click("import")
@@ -1080,14 +1111,17 @@ def check_pauses():
         .observe(document.getElementById('auths'), { childList: true });""")
 
     def longest(step):
-        """The longest task of a step, which has ended when the list has stayed as it is for half a second."""
+        """
+        The longest task of a step, which has ended when the list has stayed as it is for half a second; and how long one
+        was at least, without all that the host took from the machine meanwhile.
+        """
         time.sleep(0.5)
         WebDriverWait(page.driver, 60).until(lambda _: page.run("return performance.now() - redrawn > 500"))
-        return round(max(page.tasks(step), default=-1))
+        tasks = page.tasks(step)
+        at_least = [spent - steal.between(start, end) for start, end, spent in tasks if spent > 50]
+        return round(max((spent for *_, spent in tasks), default=-1)), max(at_least, default=0)
 
-    longest("begin")
-    rounds = []
-    for number in range(3):
+    def do_round(number):
         page.open()
         times = {"list": longest(f"list {number}")}
         page.put(filter="as65003")
@@ -1099,11 +1133,23 @@ def check_pauses():
         page.open_auth(listed()[-1].split()[0])
         page.click("details-close")
         times["open"] = longest(f"open {number}")
-        rounds.append(times)
         expect("all are shown", len(page.table("auths")), 1000)
         longest(f"end {number}")
+        return times
+
+    longest("begin")
+    rounds = []
+    for number in range(12):
+        times = do_round(number)
+        spent = {task: most for task, (most, _) in times.items()}
+        if max(spent.values()) > 50 and all(at_least <= 50 for _, at_least in times.values()):
+            print(f"a round that the host of this machine lengthened is done again: {spent}")
+            continue
+        rounds.append(spent)
+        if len(rounds) == 3:
+            break
     print(f"the longest tasks of each round, in ms of the processor: {rounds}")
-    for task in rounds[0]:
+    for task in times:
         expect(f"{task}: no pause over 50 ms", [0 <= each[task] <= 50 for each in rounds], [True] * 3)
 
 
