@@ -1,4 +1,11 @@
 //! Desks in memory that tests begin with.
+ghost use Rattle.std.specs.Prelude.{◌≡◌, [], ◌∷◌, codes, IfOk};
+ghost use Rattle.sqlite.specs.Held.{state};
+ghost use Rattle.sqlite.specs.Steps.{over_memory};
+ghost use Rattle.charters.specs.Charter.{operators_of};
+ghost use Rattle.store.specs.StoreRows.{IfClean, IsOpened};
+ghost use Rattle.desk.specs.Desk.{store_of, HoldsHistory};
+
 use addr::{Name, Prefix};
 use desk::Desk;
 use policy::Charter;
@@ -18,7 +25,9 @@ fn prefixes(alloc: Global, texts: &[&str]) -> Result<Vec<Prefix>, Fail> {
 }
 
 /// The charter of the operator `reg` and this pool.
-fn charter_with_pool(alloc: Global, pool: &[&str]) -> Result<Charter, Fail> {
+fn charter_with_pool(alloc: Global, pool: &[&str]) -> Result<Charter, Fail>
+    ensures { IfOk result (λ charter. operators_of charter ≡ codes "reg" ∷ []) }
+{
     let operator = Name::read(b"reg").ok_or("a name")?;
     let prefixes = prefixes(alloc, pool)?;
     let operators = vec![in alloc; operator]?;
@@ -26,7 +35,9 @@ fn charter_with_pool(alloc: Global, pool: &[&str]) -> Result<Charter, Fail> {
 }
 
 /// A new desk with the operator `reg` and this pool.
-pub fn desk_of(alloc: Global, pool: &[&str]) -> Result<Desk<MemStore>, Fail> {
+pub fn desk_of(alloc: Global, pool: &[&str]) -> Result<Desk<MemStore>, Fail>
+    ensures { IfOk result (λ desk. HoldsHistory over_memory desk []) }
+{
     let charter = charter_with_pool(alloc, pool)?;
     let Ok(desk) = Desk::open_memory(alloc, &charter) else {
         return Err("no desk".into());
@@ -35,17 +46,24 @@ pub fn desk_of(alloc: Global, pool: &[&str]) -> Result<Desk<MemStore>, Fail> {
 }
 
 /// The charter of the operator `reg` and `EXAMPLE_POOL`.
-pub fn example_charter(alloc: Global) -> Result<Charter, Fail> {
+pub fn example_charter(alloc: Global) -> Result<Charter, Fail>
+    ensures { IfOk result (λ charter. operators_of charter ≡ codes "reg" ∷ []) }
+{
     charter_with_pool(alloc, EXAMPLE_POOL)
 }
 
 /// A new desk with this charter.
-pub fn example_desk(alloc: Global) -> Result<Desk<MemStore>, Fail> {
+pub fn example_desk(alloc: Global) -> Result<Desk<MemStore>, Fail>
+    ensures { IfOk result (λ desk. HoldsHistory over_memory desk []) }
+{
     desk_of(alloc, EXAMPLE_POOL)
 }
 
 /// The desk of a database.
-pub fn opened(alloc: Global, conn: Connection<MemStore>) -> Result<Desk<MemStore>, Fail> {
+pub fn opened(alloc: Global, conn: Connection<MemStore>) -> Result<Desk<MemStore>, Fail>
+    ensures { IfOk result (λ desk. IfClean over_memory (store_of desk)
+        (IsOpened over_memory (state over_memory conn) (store_of desk))) }
+{
     match Desk::open_from(alloc, conn) {
         Ok(desk) => Ok(desk),
         Err(_) => Err("not opened".into()),

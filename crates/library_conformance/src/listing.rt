@@ -1,7 +1,8 @@
 //! What a set of VRPs hands out, as a list.
-ghost use Rattle.std.specs.Prelude.{◌≡◌, ◌++◌, is_some, option_to_list};
+ghost use Rattle.std.specs.Prelude.{◌≡◌, ◌++◌, is_some, option_to_list, IfOk};
 ghost use Rattle.std.proofs.Common.{ap, append_assoc, sym, ◌∙◌};
 ghost use Rattle.std.proofs.lemmas.List.{append-nil};
+ghost use Rattle.payload.specs.VrpSet as set;
 
 use addr::Vrp;
 use payload::{PayloadIndex, Sink, Stop};
@@ -37,7 +38,9 @@ impl Sink for FirstVrps {
 }
 
 /// What a visit hands out.
-pub fn listed<I: PayloadIndex>(alloc: Global, index: &I) -> Result<Vec<Vrp>, Fail> {
+pub fn listed<I: PayloadIndex>(alloc: Global, index: &I) -> Result<Vec<Vrp>, Fail>
+    ensures { IfOk result (λ vrps. vrps.items ≡ set.items (I.vrps index.now)) }
+{
     let mut all = FirstVrps {
         vrps: Vec::new(alloc),
         most: usize::MAX,
