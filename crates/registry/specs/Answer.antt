@@ -1,11 +1,14 @@
 -- What the rules answer, for the rows of a history.
-use Rattle.std.specs.Prelude.{◌≡◌, ℕ, ◌+◌, ◌<◌, ◌==◌, ◌&&◌, ◌↔◌, Bool, true, false, IsTrue, List, ◌∷◌, Option, Some, None, Result, Ok, Err, not, MatchBool, MatchResult, IfSome, IsSomeAnd, length, filter}
+use Rattle.std.specs.Prelude.{◌≡◌, ℕ, ◌+◌, ◌<◌, ◌==◌, ◌&&◌, ◌↔◌, ⊤, Bool, true, false, IsTrue, List, ◌∷◌, Option, Some, None, is_some, option_map, Result, Ok, Err, not, MatchBool, IfSome, IsSomeAnd, length, filter}
 use Rattle.std.specs.List.{list_all, list_any}
-use Rattle.addr.specs.Spans.{is_one_of}
+use Rattle.addr.specs.Address.{Address}
+use Rattle.addr.specs.Spans.{is_one_of, spans_have}
+use Rattle.addr.specs.declared.prefix.Prefix.{Prefix}
+use Rattle.addr.specs.declared.span.Span.{Span}
 use Rattle.registry.specs.declared.authorization.Auth.{Auth}
 use Rattle.registry.specs.declared.authorization.AuthTerms.{AuthTerms}
 use Rattle.registry.specs.declared.limits.TheConstants.{MOST_AUTHORIZATIONS}
-use Rattle.registry.specs.declared.rows.CreateAnswers.{CreateAnswers}
+use Rattle.registry.specs.declared.rows.Answers.{Answers}
 use Rattle.charters.specs.declared.charter.Charter.{Charter}
 use Rattle.registry.specs.declared.command.Command.{Command}
 use Rattle.registry.specs.declared.command.Command.TheVariants.{Register, Delegate, Transfer, Reclaim, Grant, Revoke, Create, Amend, Withdraw, Import, Slurm}
@@ -24,12 +27,12 @@ use Rattle.registry.specs.declared.rule.Refusal.TheVariants.{Denied, Memory}
 use Rattle.registry.specs.History.{History, is_registered}
 use Rattle.registry.specs.HypotheticalHistory.{HypotheticalHistory, IsChangeDenied}
 use Rattle.registry.specs.Import.{ImportGrows, IsImportDenied}
-use Rattle.registry.specs.Resources.{IsFree}
+use Rattle.registry.specs.Resources.{resource_holder, is_held_by, IsFree}
 use Rattle.registry.specs.RoaPrefixes.{with_maxes}
 use Rattle.registry.specs.Terms.{HoldsEntries, gives_some, share_vrp, grant_terms, grants_made, authorizations_made, OfActive}
 use Rattle.registry.specs.Permission.{is_permitted_terms}
 use Rattle.registry.specs.Verdict.{Verdict, ShowVerdict, ListVerdict, IsLegal, auth_of_number, maxes_fit}
-use Rattle.registry.specs.Rows.{Rows, rows_of, rows_if_any, RowsOf, RowsIfAny, Carries}
+use Rattle.registry.specs.Rows.{Rows, rows_of, rows_if_any, grants_if_any, auths_if_any, RowsOf, RowsIfAny, Carries}
 
 abbrev pub is_transfer : Command → Bool
 is_transfer (Transfer p giver taker) = true
@@ -197,6 +200,17 @@ pub record AnswersNumber (history : History) (h : List ℕ) (n : ℕ) (granted :
   pub grants : granted ≡ grant_terms history h
   pub auth : OfActive history h (λ active. auth_of_number n active ≡ found)
 
+-- the runs have the addresses that the holder holds, and no others
+abbrev pub HasRuns : History → List ℕ → List Span → Type 0
+HasRuns history h runs = (a : Address) → spans_have runs a ≡ is_held_by h (resource_holder history a)
+
+-- what a delegation is judged on: there are runs exactly where the holder is registered, and then they have its addresses;
+-- `taken` is true exactly where some address of the prefix has a resource holder
+pub record AnswersDelegate (history : History) (h : List ℕ) (p : Prefix) (runs : Option (List Span)) (taken : Bool) : Type 0 where
+  pub registered : is_some runs ≡ is_registered history h
+  pub holdings : IfSome runs (HasRuns history h)
+  pub free : MatchBool taken (IsFree history p → ⊥) (IsFree history p)
+
 -- how many grants were made at the holder; none where it is not registered
 abbrev pub IsMadeIfAny : History → List ℕ → Option ℕ → Type 0
 IsMadeIfAny history h None = is_registered history h ≡ false
@@ -209,7 +223,7 @@ pub record AnswersGrant (history : History) (h : List ℕ) (granted : List Grant
 
 -- What a create of the terms is judged on: the grants and the counter are those of the history. An answer has to be
 -- right only if the answers before it deny nothing, so that it need not be looked up otherwise.
-pub record AnswersCreate (history : History) (h : List ℕ) (terms : AuthTerms) (granted : List Granted) (answers : CreateAnswers) : Type 0 where
+pub record AnswersCreate (history : History) (h : List ℕ) (terms : AuthTerms) (granted : List Granted) (answers : Answers) : Type 0 where
   pub grants : granted ≡ grant_terms history h
   pub created : answers.created ≡ authorizations_made history h
   pub holds : IsTrue answers.holds ↔ HoldsEntries history h terms.entries
@@ -231,6 +245,26 @@ pub record AnswersAmend (history : History) (h : List ℕ) (n : ℕ) (maxes : Li
   pub number : AnswersNumber history h n granted found
   pub shared : IfSome found (λ x. maxes_fit maxes x.entries ≡ true → ((is_shared ≡ false) ↔ SharesWithNone history h n maxes x))
 
+-- What the rules of a command read is that of the history. Of the rows of the holder, and of the taker of a transfer,
+-- only what these rules read has to be there.
+abbrev pub AreFacts : History → Command → Option HolderRows → Option HolderRows → Answers → Type 0
+AreFacts history (Register h) rows other answers = is_some rows ≡ is_registered history h
+AreFacts history (Delegate h p) rows other answers =
+    AnswersDelegate history h p (option_map (λ (r : HolderRows). r.holdings) rows) answers.taken
+AreFacts history (Transfer p giver taker) rows other answers =
+    RowsIfAny history giver (rows_if_any rows) × RowsIfAny history taker (rows_if_any other)
+AreFacts history (Reclaim h p) rows other answers = RowsIfAny history h (rows_if_any rows)
+AreFacts history (Grant h name role scope until) rows other answers =
+    AnswersGrant history h (grants_if_any rows) (option_map (λ (r : HolderRows). r.granted) rows)
+AreFacts history (Revoke h n) rows other answers = grants_if_any rows ≡ grant_terms history h
+AreFacts history (Create h terms) rows other answers = AnswersCreate history h terms (grants_if_any rows) answers
+AreFacts history (Amend h n maxes until) rows other answers =
+    AnswersAmend history h n maxes.items (grants_if_any rows) (auth_of_number n (auths_if_any rows)) answers.gives
+AreFacts history (Withdraw h n) rows other answers =
+    AnswersNumber history h n (grants_if_any rows) (auth_of_number n (auths_if_any rows))
+AreFacts history (Import h listed) rows other answers = RowsIfAny history h (rows_if_any rows)
+AreFacts history (Slurm files) rows other answers = ⊤
+
 -- what is listed are the active authorizations that the caller may see, by rising number
 abbrev pub IsListed : History → List ℕ → ℕ → List ℕ → List Auth → Type 0
 IsListed history h day caller listed =
@@ -246,16 +280,3 @@ IsListRefusal history h day caller Memory = ListVerdict history h day caller Non
 abbrev pub OfRows : Charter → Option Rows → (History → List ℕ → Type 0) → Type 0
 OfRows charter rows fact =
     (history : History) (h : List ℕ) → IsLegal charter history → RowsIfAny history h rows → fact history h
-
--- what is answered is that of every legal history with these rows of the holder
-abbrev pub AnswersRows : Charter → Option Rows → ℕ → List ℕ → Command → Result Change Refusal → Type 0
-AnswersRows charter rows day caller command result =
-    (history : History) → IsLegal charter history → RowsOfNamed history (holder_of command) rows
-    → IsAnswer charter history day caller command result
-
--- the same for what takes no memory
-abbrev pub JudgesRows : Charter → Option Rows → ℕ → List ℕ → Command → Result Change Rule → Type 0
-JudgesRows charter rows day caller command result =
-    (history : History) → IsLegal charter history → RowsOfNamed history (holder_of command) rows
-    → MatchResult result (IsAccepted charter history day caller command)
-    (λ rule. Verdict charter history day caller command (Some rule))

@@ -1,5 +1,5 @@
 -- Which authorizations an edit ends and begins, and which edits a command makes.
-use Rattle.std.specs.Prelude.{◌≡◌, ℕ, ◌==◌, Bool, true, false, List, [], ◌∷◌, filter, Some, None, if◌then◌else◌, Contains}
+use Rattle.std.specs.Prelude.{◌≡◌, ℕ, ◌==◌, Bool, true, false, List, [], ◌∷◌, filter, Option, Some, None, if◌then◌else◌, Contains, ⊤}
 use Rattle.std.specs.List.{list_any}
 use Rattle.registry.specs.declared.authorization.Auth.{Auth}
 use Rattle.registry.specs.declared.authorization.AuthTerms.{AuthTerms}
@@ -10,8 +10,11 @@ use Rattle.registry.specs.declared.change.Change.{Change}
 use Rattle.registry.specs.declared.change.Change.TheVariants.{Holders, Exceptions}
 use Rattle.registry.specs.declared.change.Edit.{Edit}
 use Rattle.registry.specs.declared.change.Edit.TheVariants.{Register as RegisterEdit, Hold, Grant as GrantEdit, Revoke as RevokeEdit, Create as CreateEdit, Import as ImportEdit, Amend as AmendEdit, Withdraw as WithdrawEdit}
+use Rattle.registry.specs.declared.rows.Answers.{Answers}
+use Rattle.registry.specs.declared.rows.HolderRows.{HolderRows}
 use Rattle.registry.specs.Answer.{holder_of}
 use Rattle.registry.specs.History.{same_name}
+use Rattle.registry.specs.RoaPrefixes.{AreInNumber}
 use Rattle.registry.specs.Terms.{numbered_terms, row_terms}
 
 -- the edit takes away the authorization of this number, or puts another in its place
@@ -58,7 +61,7 @@ IsImportOf rows (ImportEdit auths created) = AreOfRows rows auths.items
 IsImportOf rows _ = ⊥
 
 -- The edit is one that the command makes of its one holder's rows; a transfer and SLURM files make none. A create
--- puts an authorization of its terms, an amend one with its last day, and an import any number of those of its rows.
+-- puts an authorization of its terms, an amend one with its last day and number, and an import any of those of its rows.
 abbrev pub IsEditOf : Command → Edit → Type 0
 IsEditOf (Register holder) edit = edit ≡ RegisterEdit
 IsEditOf (Delegate holder p) edit = IsHoldEndingNone edit
@@ -66,7 +69,7 @@ IsEditOf (Reclaim holder p) edit = IsHold edit
 IsEditOf (Grant holder name role scope until) (GrantEdit g) = Unit {0}
 IsEditOf (Revoke holder n) edit = edit ≡ RevokeEdit n
 IsEditOf (Create holder terms) (CreateEdit x) = IsOfTerms terms x
-IsEditOf (Amend holder n maxes until) (AmendEdit x) = x.until ≡ until
+IsEditOf (Amend holder n maxes until) (AmendEdit x) = (x.until ≡ until) × (x.number ≡ n)
 IsEditOf (Withdraw holder n) edit = edit ≡ WithdrawEdit n
 IsEditOf (Import holder rows) edit = IsImportOf rows.items edit
 IsEditOf _ _ = ⊥
@@ -80,3 +83,9 @@ HasEditsOf (Transfer p giver taker) (Holders first (Some second)) =
 HasEditsOf (Slurm files) (Exceptions more) = more ≡ files
 HasEditsOf command (Holders first None) = (holder_of command ≡ Some first.holder) × IsEditOf command first.edit
 HasEditsOf _ _ = ⊥
+
+-- what is known of the rows and answers that a command was judged on, where no rule denies it
+abbrev pub AreRuled : Command → Option HolderRows → Answers → Type 0
+AreRuled (Register holder) rows answers = rows ≡ None
+AreRuled (Create holder terms) rows answers = (answers.holds ≡ true) × AreInNumber terms.entries
+AreRuled _ rows answers = ⊤

@@ -39,6 +39,11 @@ abbrev pub grants_if_any : Option HolderRows → List Granted
 grants_if_any None = []
 grants_if_any (Some r) = r.grants.items
 
+-- and the authorizations
+abbrev pub auths_if_any : Option HolderRows → List Auth
+auths_if_any None = []
+auths_if_any (Some r) = r.auths.items
+
 -- the rows are those of the holder: the maximal runs of the addresses that it holds, in any order, its
 -- grants that are not revoked, its active authorizations, and how many of each were made
 pub record RowsOf (history : History) (h : List ℕ) (rows : Rows) : Type 0 where

@@ -1,11 +1,11 @@
 //! Authorizations and their terms.
 
-ghost use Rattle.std.specs.Prelude.{◌≡◌, ◌≤◌, ◌↔◌, ◌&&◌, true, IsTrue, IsSome, IfSome, IfOk};
+ghost use Rattle.std.specs.Prelude.{◌≡◌, ◌≤◌, ◌↔◌, ◌&&◌, true, IsTrue, IsSome, IfSome, IfOk, option_copied};
 ghost use Rattle.std.specs.List.{list_any};
 ghost use Rattle.addr.specs.Address.{FitsMaxLength};
 ghost use Rattle.registry.specs.Import.{are_same, has_terms};
 ghost use Rattle.registry.specs.Terms.{numbered_terms, row_terms, terms_overlap, is_entry, are_shared, gives_some, with_terms, IsVrpOf, IsVrpOfEntry};
-ghost use Rattle.registry.specs.Verdict.{fit_lengths, maxes_fit};
+ghost use Rattle.registry.specs.Verdict.{auth_of_number, fit_lengths, maxes_fit};
 
 use crate::RoaPrefixes;
 use addr::{Asn, Day, Prefix, Vrp};
@@ -217,4 +217,11 @@ impl Auth {
     {
         self.asn.0 == vrp.asn.0 && has_entry(self.entries.as_slice(), &vrp.prefix, vrp.max)
     }
+}
+
+/// The authorization that has the number, if there is one.
+pub fn auth_of_number(auths: &[Auth], number: u32) -> Option<&Auth>
+    ensures { option_copied result ≡ auth_of_number number auths.now }
+{
+    auths.iter().find(|auth| auth.number == number)
 }

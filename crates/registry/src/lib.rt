@@ -15,12 +15,12 @@ mod rule;
 mod values;
 
 pub use asked::{Asked, Request};
-pub use authorization::{Auth, AuthTerms, ImportRow, RoaPrefix, fit_lengths};
+pub use authorization::{Auth, AuthTerms, ImportRow, RoaPrefix, auth_of_number, fit_lengths};
 pub use change::{Change, Edit, HolderChange};
 pub use charters::{Charter, CharterFault};
 pub use command::{Command, Proposed, Query};
 pub use grant::{Access, Granted, Role, Scope, are_permitted, has_access};
 pub use limits::{LAST_NUMBER, MOST_AUTHORIZATIONS, MOST_GRANTS};
 pub use roa_prefixes::{RoaPrefixes, RoaPrefixesFault};
-pub use rows::{CreateAnswers, HolderRows, View};
+pub use rows::{Answers, HolderRows, View};
 pub use rule::{Refusal, Rule};

@@ -49,18 +49,31 @@ pub struct View {
     pub taken: bool,
 }
 
-/// What the rules of a create read at a holder, beside its grants. `gives` has to be right only if
-/// `holds` is true, and `is_full` only if also `gives` is false: otherwise an earlier rule denies
-/// the create.
+/// What the rules of a command read beside rows, as yes or no. Each field has to be right only for
+/// the commands that it names. Of a create also `gives` has to be right only if `holds` is true, and
+/// `is_full` only if also `gives` is false: otherwise an earlier rule denies the create.
 #[derive(Clone, Copy)]
-pub struct CreateAnswers {
-    /// How many authorizations were made at the holder.
+pub struct Answers {
+    /// Of a create, how many authorizations were made at the holder.
     pub created: u32,
-    /// Whether the holder holds every address of the terms.
+    /// Of a create, whether the holder holds every address of the terms.
     pub holds: bool,
-    /// Whether an active authorization of the holder gives the AS of the terms with one of their
-    /// entries.
+    /// Whether an active authorization of the holder, of an amendment one of another number, gives
+    /// the AS of the terms with one of their entries.
     pub gives: bool,
-    /// Whether the holder has as many active authorizations as it may have.
+    /// Of a create, whether the holder has as many active authorizations as it may have.
     pub is_full: bool,
+    /// Of a delegation, whether some address of the prefix has a resource holder.
+    pub taken: bool,
+}
+
+impl Answers {
+    /// The answers for a command that reads none of them.
+    pub const NONE: Answers = Answers {
+        created: 0,
+        holds: false,
+        gives: false,
+        is_full: false,
+        taken: false,
+    };
 }

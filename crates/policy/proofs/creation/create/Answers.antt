@@ -1,9 +1,21 @@
-use Rattle.std.proofs.Common.{sym, subst}
+use Rattle.std.proofs.Common.{sym, ap, Some, subst, refl}
+use Rattle.registry.specs.declared.command.Command.TheVariants.{Create}
+use Rattle.registry.specs.Answer.{IsAccepted}
 use Rattle.policy.specs.steps.Creation.{IsCreated}
-use Rattle.policy.proofs.creation.create.Goals as goal
+use Rattle.policy.proofs.creation.create_answered.Goals as goal
 
-pub returns-clause-judged : goal.returns-clause-judged
-returns-clause-judged c charter history h legal are =
+pub returns-clause-answer : goal.returns-clause-answer
+returns-clause-answer c charter history legal are =
     let a = c.args in
-    subst (IsCreated charter history h a.day a.caller.now a.terms.now) (sym c.in_ok-auth.ensures)
-    (c.in_ok-number.ensures.judged charter history h legal (rw c.deref.ensures.value (c.answers_of-answers.ensures history h are.1)))
+    let h = a.holder.now in
+    let t = a.terms.now in
+    let made = subst (IsCreated charter history h a.day a.caller.now t) (sym c.in_ok-auth.ensures)
+    (c.in_ok-number.ensures.judged charter history h legal are) in
+    subst (IsAccepted charter history a.day a.caller.now (Create h t)) (sym c.change_of.ensures) (record {
+      after = _;
+      leaves = (made.verdict, refl);
+      numbered = ap Some made.number;
+      carries = made.carries;
+      sparing = (tt, tt);
+      of_command = (refl, tt);
+    })

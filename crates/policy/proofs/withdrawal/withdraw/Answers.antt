@@ -1,11 +1,24 @@
+use Rattle.std.proofs.Common.{refl, sym, subst}
 use Rattle.std.proofs.lemmas.Result.{err_from_is_err_and}
-use Rattle.policy.proofs.withdrawal.withdraw.Goals as goal
+use Rattle.registry.specs.declared.command.Command.TheVariants.{Withdraw}
+use Rattle.registry.specs.Answer.{IsAccepted}
+use Rattle.policy.proofs.withdrawal.withdraw_found.Goals as goal
 
-pub returns-in_err-may_withdraw-clause-judged : goal.returns-in_err-may_withdraw-clause-judged
-returns-in_err-may_withdraw-clause-judged c charter history h legal are =
+pub returns-in_err-may_withdraw-clause-answer : goal.returns-in_err-may_withdraw-clause-answer
+returns-in_err-may_withdraw-clause-answer c charter history legal are =
     let denied = err_from_is_err_and c.from_residual.result c.from_residual.ensures.1 in
-    rw (denied.1, denied.2) (c.in_err-may_withdraw.ensures charter history h c.args.number legal (c.numbered_of.ensures charter history h legal are))
+    rw (denied.1, denied.2) (c.in_err-may_withdraw.ensures charter history c.args.holder.now c.args.number legal are)
 
-pub returns-clause-judged : goal.returns-clause-judged
-returns-clause-judged c charter history h legal are =
-    c.in_ok-may_withdraw.ensures charter history h c.args.number legal (c.numbered_of.ensures charter history h legal are)
+pub returns-clause-answer : goal.returns-clause-answer
+returns-clause-answer c charter history legal are =
+    let a = c.args in
+    let h = a.holder.now in
+    let done = c.in_ok-may_withdraw.ensures charter history h a.number legal are in
+    subst (IsAccepted charter history a.day a.caller.now (Withdraw h a.number)) (sym c.change_of.ensures) (record {
+      after = _;
+      leaves = (done.verdict, refl);
+      numbered = refl;
+      carries = done.carries;
+      sparing = (tt, tt);
+      of_command = (refl, tt);
+    })
