@@ -1,17 +1,19 @@
 -- The rule that amended terms share no AS, prefix and maxLength with another active authorization.
-use Rattle.std.proofs.Common.{◌≡◌, ℕ, Bool, false, List, Option, Some, None, sym, ◌∙◌, subst, IfSome, IsSomeAnd}
+use Rattle.std.proofs.Common.{◌≡◌, ℕ, Bool, false, List, Option, Some, None, refl, sym, ◌∙◌, subst, IfSome, IsSomeAnd}
 use Rattle.registry.specs.declared.authorization.Auth.{Auth}
 use Rattle.registry.specs.declared.grant.Granted.{Granted}
 use Rattle.registry.specs.Answer.{AnswersNumber, AnswersAmend, SharesWithNone}
 use Rattle.registry.specs.History.{History}
 use Rattle.registry.specs.RoaPrefixes.{with_maxes}
 use Rattle.registry.specs.Terms.{with_terms, authorization_terms, HeldSinceMade, OfActive}
-use Rattle.registry.specs.Verdict.{auth_of_number}
-use Rattle.registry.specs.Rows.{Rows, RowsOf}
+use Rattle.registry.specs.Verdict.{IsLegal, auth_of_number}
+use Rattle.registry.specs.declared.rows.HolderRows.{HolderRows}
+use Rattle.charters.specs.declared.charter.Charter.{Charter}
+use Rattle.registry.specs.Rows.{Rows, RowsOf, RowsIfAny, rows_of, rows_if_any, grants_if_any, auths_if_any}
 use Rattle.registry.proofs.Amended.{shares_with_other}
 use Rattle.registry.proofs.Kept.{Keeps-unique}
 use Rattle.policy.proofs.CarryTerms.{found_number}
-use Rattle.policy.proofs.RowsLemmas.{active-from, answers-rows}
+use Rattle.policy.proofs.RowsLemmas.{active-from, answers-rows, answers-unregistered}
 
 abbrev pub SharesWithNoOther : History → List ℕ → ℕ → List ℕ → ℕ → Type 0
 SharesWithNoOther history h n maxes until =
@@ -38,19 +40,26 @@ abbrev pub IsSharedAmong : List ℕ → List Auth → Bool → Auth → Type 0
 IsSharedAmong maxes auths is_shared x = is_shared ≡ shares_with_other x.number (record x { entries = with_maxes maxes x.entries }) auths
 
 -- what is found among the rows, and whether others of them share with it, is that of the history
-pub amend-rows : (history : History) (h : List ℕ) (n : ℕ) (maxes : List ℕ) (rows : Rows) (gs : List Granted) (found : Option Auth) (is_shared : Bool)
-    → RowsOf history h rows → gs ≡ rows.grants → found ≡ auth_of_number n rows.auths → IfSome found (IsSharedAmong maxes rows.auths is_shared)
-    → AnswersAmend history h n maxes gs found is_shared
-amend-rows history h n maxes rows gs None is_shared are granted is shared =
-    record { number = answers-rows history h n rows gs None are granted is; shared = tt }
-amend-rows history h n maxes rows gs (Some x) is_shared are granted is shared =
+amend-rows : (history : History) (h : List ℕ) (n : ℕ) (maxes : List ℕ) (rows : Rows) (found : Option Auth) (is_shared : Bool)
+    → RowsOf history h rows → found ≡ auth_of_number n rows.auths → IfSome found (IsSharedAmong maxes rows.auths is_shared)
+    → AnswersAmend history h n maxes rows.grants found is_shared
+amend-rows history h n maxes rows None is_shared are is shared =
+    record { number = answers-rows history h n rows rows.grants None are refl is; shared = tt }
+amend-rows history h n maxes rows (Some x) is_shared are is shared =
     let z : Auth = record x { entries = with_maxes maxes x.entries } in
     let same : is_shared ≡ shares_with_other n z rows.auths =
     subst (λ (m : ℕ). is_shared ≡ shares_with_other m z rows.auths) (found_number n rows.auths x (sym is)) shared in
     record {
-      number = answers-rows history h n rows gs (Some x) are granted is;
+      number = answers-rows history h n rows rows.grants (Some x) are refl is;
       shared = λ fit. (
         λ none. (rows.auths, are.auths, sym same ∙ none),
         λ of. same ∙ active-from history h rows (λ active. shares_with_other n z active ≡ false) are of,
       );
     }
+
+-- without rows nothing is found
+pub amend-facts : (charter : Charter) (history : History) (h : List ℕ) (n : ℕ) (maxes : List ℕ) (rows : Option HolderRows) (is_shared : Bool)
+    → IsLegal charter history → RowsIfAny history h (rows_if_any rows) → IfSome (auth_of_number n (auths_if_any rows)) (IsSharedAmong maxes (auths_if_any rows) is_shared)
+    → AnswersAmend history h n maxes (grants_if_any rows) (auth_of_number n (auths_if_any rows)) is_shared
+amend-facts charter history h n maxes None is_shared legal are shared = record { number = answers-unregistered charter history h n legal are; shared = tt }
+amend-facts charter history h n maxes (Some r) is_shared legal are shared = amend-rows history h n maxes (rows_of r) (auth_of_number n r.auths.items) is_shared are.1 refl shared

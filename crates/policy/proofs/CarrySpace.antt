@@ -21,7 +21,7 @@ use Rattle.registry.specs.Resources.{resource_holder, is_held_by, HoldsPrefix, I
 use Rattle.registry.specs.Terms.{terms_overlap, grant_terms, grants_made, authorizations_made, authorization_terms, HeldSinceMade, Keeps, AreActive}
 use Rattle.registry.specs.Verdict.{IsLegal}
 use Rattle.registry.specs.Rows.{Rows, RowsOf, RowsIfAny, edited, edited_if_any, Carries}
-use Rattle.policy.specs.steps.Delegation.{HasRuns}
+use Rattle.registry.specs.Answer.{HasRuns}
 use Rattle.policy.specs.steps.Exchange.{Exchanges}
 use Rattle.registry.proofs.Names.{same_name-same, held_by_itself}
 use Rattle.registry.proofs.Kept.{Keeps-unique}

@@ -1,39 +1,35 @@
 -- What the given rows say of the holder.
-use Rattle.std.proofs.Common.{◌≡◌, ℕ, Bool, true, false, List, [], Option, Some, None, refl, sym, ap, ◌∙◌, subst, Bor, option_copied, is_some, IsSomeAnd, inl, inr}
+use Rattle.std.proofs.Common.{◌≡◌, ℕ, ◌||◌, Bool, true, false, List, [], ◌∷◌, Option, Some, None, refl, sym, ap, ◌∙◌, subst, Bor, option_copied, is_some, IsSomeAnd, inl, inr, arith}
+use Rattle.std.specs.Global.{Vec}
 use Rattle.std.specs.List.{list_any}
 use Rattle.std.specs.Prelude.{option_map, MatchBool}
-use Rattle.std.proofs.lemmas.Bool.{cases_Bool, false≢true}
-use Rattle.charters.specs.declared.charter.Charter.{Charter}
-use Rattle.registry.specs.declared.rows.HolderRows.{HolderRows}
-use Rattle.registry.specs.Answer.{AnswersNumber}
-use Rattle.registry.specs.History.{History, is_registered}
-use Rattle.registry.specs.Rows.{Rows, RowsOf, RowsIfAny, rows_if_any, grants_if_any}
-use Rattle.registry.specs.declared.authorization.Auth.{Auth}
-use Rattle.registry.specs.declared.grant.Granted.{Granted}
-use Rattle.registry.specs.Terms.{grant_terms, authorization_terms, HeldSinceMade, Keeps, OfActive}
-use Rattle.registry.specs.Verdict.{IsLegal, auth_of_number, OfNumber}
+use Rattle.std.proofs.lemmas.Bool.{cases_Bool, false≢true, true≢false}
+use Rattle.addr.specs.Address.{Address, last_of}
 use Rattle.addr.specs.declared.prefix.Prefix.{Prefix}
-use Rattle.registry.specs.Resources.{IsFree}
-use Rattle.policy.specs.steps.Delegation.{AnswersDelegate}
+use Rattle.addr.proofs.AddressLemmas.{between_at, first-last}
+use Rattle.charters.specs.declared.charter.Charter.{Charter}
+use Rattle.registry.specs.declared.authorization.Auth.{Auth}
+use Rattle.registry.specs.declared.authorization.AuthTerms.{AuthTerms}
+use Rattle.registry.specs.declared.authorization.RoaPrefix.{RoaPrefix}
+use Rattle.registry.specs.declared.command.Command.{Command}
+use Rattle.registry.specs.declared.command.Command.TheVariants.{Register, Delegate, Transfer, Reclaim, Grant, Revoke, Create, Amend, Withdraw, Import, Slurm}
+use Rattle.registry.specs.declared.grant.Granted.{Granted}
+use Rattle.registry.specs.declared.rows.Answers.{Answers}
+use Rattle.registry.specs.declared.rows.HolderRows.{HolderRows}
+use Rattle.registry.specs.Answer.{holder_of, is_transfer, AnswersCreate, AnswersDelegate, AnswersNumber, AreFacts, IsMadeIfAny, ReportsTaken, RowsOfNamed}
+use Rattle.registry.specs.History.{History, is_registered}
+use Rattle.registry.specs.Resources.{is_held_by, IsFree}
+use Rattle.registry.specs.RoaPrefixes.{AreInNumber}
+use Rattle.registry.specs.Rows.{Rows, RowsOf, RowsIfAny, rows_of, rows_if_any, grants_if_any, auths_if_any}
+use Rattle.registry.specs.Terms.{entries_have, grant_terms, authorization_terms, HeldSinceMade, HoldsEntries, Keeps, OfActive}
+use Rattle.registry.specs.Verdict.{IsLegal, auth_of_number, OfNumber}
 use Rattle.registry.proofs.Kept.{Keeps-unique}
+use Rattle.registry.proofs.Names.{held_by_itself}
 use Rattle.registry.proofs.Unregistered.{has_nothing}
 
--- there are rows exactly where the holder is registered
-pub registered-with_rows : (history : History) (h : List ℕ) (rows : Option (Bor HolderRows))
-    → RowsIfAny history h (rows_if_any (option_copied rows)) → is_some rows ≡ is_registered history h
-registered-with_rows history h None are = sym are
-registered-with_rows history h (Some r) are = sym are.0
-
--- what a delegation is judged on, of the rows
-pub delegation-answers : (history : History) (h : List ℕ) (p : Prefix) (rows : Option (Bor HolderRows)) (taken : Bool)
-    → RowsIfAny history h (rows_if_any (option_copied rows)) → MatchBool taken (IsFree history p → ⊥) (IsFree history p)
-    → AnswersDelegate history h p (option_map (λ (r : Rows). r.holdings) (rows_if_any (option_copied rows))) taken
-delegation-answers history h p None taken are free = record { registered = sym are; holdings = tt; free = free }
-delegation-answers history h p (Some r) taken are free = record { registered = sym are.0; holdings = are.1.holdings; free = free }
-
 -- the grants of the rows are those of the history: without rows none were made
-pub grants-are : (charter : Charter) (history : History) (h : List ℕ) (rows : Option (Bor HolderRows)) → IsLegal charter history
-    → RowsIfAny history h (rows_if_any (option_copied rows)) → grants_if_any (option_copied rows) ≡ grant_terms history h
+pub grants-are : (charter : Charter) (history : History) (h : List ℕ) (rows : Option HolderRows) → IsLegal charter history
+    → RowsIfAny history h (rows_if_any rows) → grants_if_any rows ≡ grant_terms history h
 grants-are charter history h None legal are = sym (has_nothing charter history h legal are).grants
 grants-are charter history h (Some r) legal are = are.1.grants
 
@@ -73,3 +69,67 @@ registered-by_grant charter history h test legal has =
       | inl registered ↦ registered
       | inr unregistered ↦ absurd (false≢true (ap (list_any test) (sym (has_nothing charter history h legal unregistered).grants) ∙ has))
     ]
+
+-- ---- what is judged on the rows of a holder
+
+pub some_copied : (rows : Option (Bor HolderRows)) → is_some rows ≡ is_some (option_copied rows)
+some_copied None = refl
+some_copied (Some r) = refl
+
+registered-with_rows : (history : History) (h : List ℕ) (rows : Option HolderRows) → RowsIfAny history h (rows_if_any rows) → is_some rows ≡ is_registered history h
+registered-with_rows history h None are = sym are
+registered-with_rows history h (Some r) are = sym are.0
+
+delegation-answers : (history : History) (h : List ℕ) (p : Prefix) (rows : Option HolderRows) (taken : Bool)
+    → RowsIfAny history h (rows_if_any rows) → MatchBool taken (IsFree history p → ⊥) (IsFree history p)
+    → AnswersDelegate history h p (option_map (λ (r : HolderRows). r.holdings) rows) taken
+delegation-answers history h p None taken are free = record { registered = sym are; holdings = tt; free = free }
+delegation-answers history h p (Some r) taken are free = record { registered = sym are.0; holdings = are.1.holdings; free = free }
+
+made-are : (history : History) (h : List ℕ) (rows : Option HolderRows) → RowsIfAny history h (rows_if_any rows) → IsMadeIfAny history h (option_map (λ (r : HolderRows). r.granted) rows)
+made-are history h None are = are
+made-are history h (Some r) are = (are.0, are.1.granted)
+
+pub numbered-are : (charter : Charter) (history : History) (h : List ℕ) (n : ℕ) (rows : Option HolderRows) → IsLegal charter history → RowsIfAny history h (rows_if_any rows)
+    → AnswersNumber history h n (grants_if_any rows) (auth_of_number n (auths_if_any rows))
+numbered-are charter history h n None legal are = answers-unregistered charter history h n legal are
+numbered-are charter history h n (Some r) legal are = answers-rows history h n (rows_of r) r.grants.items (auth_of_number n r.auths.items) are.1 refl refl
+
+-- all that a create of the terms is judged on, at a holder that is not registered
+pub create-unregistered : (charter : Charter) (history : History) (h : List ℕ) (terms : AuthTerms) → IsLegal charter history → is_registered history h ≡ false
+    → AreInNumber terms.entries → (answers : Answers) → answers.created ≡ 0 → answers.holds ≡ false → AnswersCreate history h terms [] answers
+create-unregistered charter history h terms legal unregistered number answers none unheld =
+    let nothing = has_nothing charter history h legal unregistered in record {
+      grants = sym nothing.grants;
+      created = none ∙ sym nothing.created;
+      holds = (λ is. absurd (false≢true (sym unheld ∙ is)), λ held. absurd (holds_none terms.entries number held));
+      gives = λ is. absurd (false≢true (sym unheld ∙ is));
+      is_full = λ is. absurd (false≢true (sym unheld ∙ is));
+    }
+  where
+    holds_none : (es : List RoaPrefix) → AreInNumber es → HoldsEntries history h es → ⊥
+    holds_none [] some held = omega (arith, some.0)
+    holds_none (e ∷ es) some held =
+        let p = e.prefix in
+        let first : Address = record { family = p.family; number = p.first } in
+        let there = ap (λ b. b || entries_have es first) (between_at p.family p.first (last_of p) p.first (omega arith) (first-last p)) in
+        let nothing = has_nothing charter history h legal unregistered in
+        false≢true (sym (nothing.holders first) ∙ ap (is_held_by h) (held first there) ∙ held_by_itself h)
+
+-- what the rules of a command read of the rows; of a delegation also whether the prefix is taken
+pub facts-of_rows : (charter : Charter) (history : History) (command : Command) (rows : Option HolderRows) (answers : Answers) → is_transfer command ≡ false
+    → ((h : List ℕ) (terms : AuthTerms) → ¬ (command ≡ Create h terms)) → ((h : List ℕ) (n : ℕ) (maxes : Vec ℕ) (until : ℕ) → ¬ (command ≡ Amend h n maxes until))
+    → IsLegal charter history → RowsOfNamed history (holder_of command) (rows_if_any rows) → ReportsTaken history command answers.taken
+    → AreFacts history command rows None answers
+facts-of_rows charter history (Register h) rows answers one no_create no_amend legal are taken = registered-with_rows history h rows are
+facts-of_rows charter history (Delegate h p) rows answers one no_create no_amend legal are taken = delegation-answers history h p rows answers.taken are taken
+facts-of_rows charter history (Transfer p giver taker) rows answers one no_create no_amend legal are taken = absurd (true≢false one)
+facts-of_rows charter history (Reclaim h p) rows answers one no_create no_amend legal are taken = are
+facts-of_rows charter history (Grant h name role scope until) rows answers one no_create no_amend legal are taken =
+    record { grants = grants-are charter history h rows legal are; counter = made-are history h rows are }
+facts-of_rows charter history (Revoke h n) rows answers one no_create no_amend legal are taken = grants-are charter history h rows legal are
+facts-of_rows charter history (Create h terms) rows answers one no_create no_amend legal are taken = absurd (no_create h terms refl)
+facts-of_rows charter history (Amend h n maxes until) rows answers one no_create no_amend legal are taken = absurd (no_amend h n maxes until refl)
+facts-of_rows charter history (Withdraw h n) rows answers one no_create no_amend legal are taken = numbered-are charter history h n rows legal are
+facts-of_rows charter history (Import h listed) rows answers one no_create no_amend legal are taken = are
+facts-of_rows charter history (Slurm files) rows answers one no_create no_amend legal are taken = tt

@@ -2,7 +2,6 @@
 pub mod Admission
 pub mod Amendment
 pub mod Creation
-pub mod Delegation
 pub mod Exchange
 pub mod Part
 pub mod Withdrawal

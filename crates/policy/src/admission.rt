@@ -12,9 +12,9 @@ ghost use Rattle.registry.specs.RoaPrefixes.{with_maxes};
 ghost use Rattle.registry.specs.declared.authorization.ImportRow.{ImportRow as ImportRowValue};
 ghost use Rattle.registry.specs.Import.{has_terms, IsPresent};
 ghost use Rattle.registry.specs.Permission.{has_access, is_permitted_terms};
-ghost use Rattle.registry.specs.Answer.{AnswersNumber, IsMadeIfAny, OfRows};
-ghost use Rattle.registry.specs.Verdict.{is_steward, auth_of_number, HasAccessTo};
-ghost use Rattle.registry.specs.Rows.{rows_of, rows_if_any, RowsOf, RowsIfAny, grants_if_any};
+ghost use Rattle.registry.specs.Answer.{AnswersNumber, OfRows};
+ghost use Rattle.registry.specs.Verdict.{is_steward, HasAccessTo};
+ghost use Rattle.registry.specs.Rows.{rows_of, rows_if_any, RowsOf, RowsIfAny, grants_if_any, auths_if_any};
 
 use crate::{Access, Auth, AuthTerms, Charter, Granted, HolderRows, LAST_NUMBER, Rule};
 use addr::{Asn, Day, Holdings, Name, Prefix};
@@ -48,10 +48,19 @@ pub(crate) fn grants_of(rows: Option<&HolderRows>) -> &[Granted]
     }
 }
 
+/// The authorizations of the rows; none if there are no rows.
+pub(crate) fn auths_of(rows: Option<&HolderRows>) -> &[Auth]
+    ensures { result.now ≡ auths_if_any (option_copied rows.entry) }
+{
+    match rows {
+        Some(rows) => &rows.auths,
+        None => &[],
+    }
+}
+
 /// The addresses of the rows, if there are rows.
 pub(crate) fn holdings_of(rows: Option<&HolderRows>) -> Option<&Holdings>
-    ensures { option_copied result
-        ≡ option_map (λ r. r.holdings) (rows_if_any (option_copied rows.entry)) }
+    ensures { option_copied result ≡ option_map (λ r. r.holdings) (option_copied rows.entry) }
 {
     match rows {
         Some(rows) => Some(&rows.holdings),
@@ -61,9 +70,7 @@ pub(crate) fn holdings_of(rows: Option<&HolderRows>) -> Option<&Holdings>
 
 /// How many grants were made at the holder; `None` if there are no rows.
 pub(crate) fn made_of(rows: Option<&HolderRows>) -> Option<u32>
-    ensures { (history : History) (h : List ℕ)
-        → RowsIfAny history h (rows_if_any (option_copied rows.entry))
-        → IsMadeIfAny history h result }
+    ensures { result ≡ option_map (λ r. r.granted) (option_copied rows.entry) }
 {
     match rows {
         Some(rows) => Some(rows.granted),
@@ -141,24 +148,6 @@ fn are_covered(holdings: &Holdings, entries: &[RoaPrefix]) -> bool
         ≡ list_all (λ e. list_any (λ s. span_covers s e.prefix) holdings.now) entries.now }
 {
     entries.iter().all(|entry| holdings.holds(&entry.prefix))
-}
-
-/// The authorization that has the number, if there is one.
-pub(crate) fn auth_of_number(auths: &[Auth], number: u32) -> Option<&Auth>
-    ensures { option_copied result ≡ auth_of_number number auths.now }
-{
-    auths.iter().find(|auth| auth.number == number)
-}
-
-/// The grants of the rows, and their authorization of the number; none if there are no rows.
-pub(crate) fn numbered_of(rows: Option<&HolderRows>, number: u32) -> (&[Granted], Option<&Auth>)
-    ensures { (charter : CharterValue) → OfRows charter (rows_if_any (option_copied rows.entry))
-        (λ history h. AnswersNumber history h number result.0.now (option_copied result.1)) }
-{
-    match rows {
-        Some(rows) => (&rows.grants, auth_of_number(&rows.auths, number)),
-        None => (&[], None),
-    }
 }
 
 /// Whether the caller has the access to each prefix of the terms.

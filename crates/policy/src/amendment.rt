@@ -1,6 +1,6 @@
 //! Amending an authorization.
 
-ghost use Rattle.std.specs.Prelude.{◌≡◌, ℕ, ◌==◌, ◌&&◌, not, List, Some, None, option_copied, IfSome, IfOk};
+ghost use Rattle.std.specs.Prelude.{◌≡◌, ℕ, ◌==◌, ◌&&◌, not, List, Some, option_copied, IfSome, IfOk};
 ghost use Rattle.std.specs.Global.{Vec};
 ghost use Rattle.std.specs.List.{list_any};
 ghost use Rattle.charters.specs.declared.charter.Charter.{Charter as CharterValue};
@@ -10,8 +10,8 @@ ghost use Rattle.registry.specs.History.{History};
 ghost use Rattle.registry.specs.RoaPrefixes.{with_maxes};
 ghost use Rattle.registry.specs.Answer.{AnswersAmend, IsAnswer};
 ghost use Rattle.registry.specs.Edits.{HasEditsOf};
-ghost use Rattle.registry.specs.Terms.{share_vrp, with_terms};
-ghost use Rattle.registry.specs.Verdict.{IsLegal};
+ghost use Rattle.registry.specs.Terms.{share_vrp};
+ghost use Rattle.registry.specs.Verdict.{IsLegal, auth_of_number};
 ghost use Rattle.policy.specs.steps.Admission.{IsAdmitted};
 ghost use Rattle.policy.specs.steps.Amendment.{IsAmended};
 
@@ -22,11 +22,11 @@ use addr::{Day, Name};
 
 /// What an amendment sets.
 #[derive(Clone, Copy)]
-pub struct Amendment<'a> {
+pub(crate) struct Amendment<'a> {
     /// A maxLength for each entry, in order.
-    pub maxes: &'a [u8],
+    pub(crate) maxes: &'a [u8],
     /// The last day in force.
-    pub until: Day,
+    pub(crate) until: Day,
 }
 
 /// The authorization that was found, if all rules of an amendment of it hold; otherwise the first
@@ -59,7 +59,7 @@ fn auth_to_amend<'a>(
 /// The change that an amendment makes, or the first rule that fails. `grants` are the holder's,
 /// `found` is its authorization of the number, if there is one, and `is_shared` is whether another
 /// active one gives an AS, prefix and maxLength that the amended one would give.
-pub fn amend_found(
+pub(crate) fn amend(
     holder: &Name,
     grants: &[Granted],
     found: Option<&Auth>,
@@ -74,15 +74,10 @@ pub fn amend_found(
         (option_copied found.entry) is_shared
         → IsAnswer charter history day caller.now
         (Command.Amend holder.now number asked amendment.entry.until) result }
-    ensures shape { (number : ℕ) (asked : Vec ℕ) → IfOk result (HasEditsOf
+    ensures shape { (number : ℕ) (asked : Vec ℕ) (auths : List AuthValue)
+        → option_copied found.entry ≡ auth_of_number number auths
+        → IfOk result (HasEditsOf
         (Command.Amend holder.now number asked amendment.entry.until)) }
-    ensures amended { IfOk result (λ change. (x : AuthValue)
-        × (option_copied found.entry ≡ Some x)
-        × (change ≡ Change.Holders (record {
-          holder = holder.now;
-          edit = Edit.Amend
-              (with_terms amendment.entry.maxes.now amendment.entry.until x);
-        }) None)) }
 {
     let Amendment { maxes, until } = amendment;
     let auth = auth_to_amend(grants, found, is_shared, day, caller, maxes, until)?;

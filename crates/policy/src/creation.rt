@@ -1,12 +1,13 @@
 //! Creating an authorization.
 
-ghost use Rattle.std.specs.Prelude.{◌≡◌, ℕ, ◌<◌, ◌↔◌, true, false, IsTrue, List, Some, MatchResult, IfOk, OnOk};
+ghost use Rattle.std.specs.Prelude.{◌≡◌, ℕ, ◌<◌, ◌↔◌, true, false, IsTrue, List, Some, option_copied, MatchResult, IfOk, OnOk};
 ghost use Rattle.charters.specs.declared.charter.Charter.{Charter as CharterValue};
 ghost use Rattle.registry.specs.declared.change.Edit.{Edit};
 ghost use Rattle.registry.specs.declared.command.Command.{Command};
 ghost use Rattle.registry.specs.declared.limits.TheConstants.{LAST_NUMBER};
 ghost use Rattle.registry.specs.History.{History};
-ghost use Rattle.registry.specs.Rows.{rows_of, edited, RowsOf};
+ghost use Rattle.registry.specs.RoaPrefixes.{AreInNumber};
+ghost use Rattle.registry.specs.Rows.{rows_of, rows_if_any, grants_if_any, edited, RowsOf};
 ghost use Rattle.registry.specs.Answer.{AnswersCreate, IsAnswer, OfRows};
 ghost use Rattle.registry.specs.Edits.{HasEditsOf, IsOfTerms};
 ghost use Rattle.registry.specs.Terms.{numbered_terms};
@@ -17,15 +18,14 @@ ghost use Rattle.policy.specs.steps.Part.{Judged};
 use crate::admission::{are_dates, gives_terms, holds_entries, is_full, require, require_access};
 use crate::part::change_of;
 use crate::{
-    Access, Auth, AuthTerms, Change, CreateAnswers, Edit, Granted, HolderRows, LAST_NUMBER,
-    Refusal, Rule,
+    Access, Answers, Auth, AuthTerms, Change, Edit, Granted, HolderRows, LAST_NUMBER, Refusal, Rule,
 };
 use addr::{Day, Name};
 use registry::{are_permitted, fit_lengths};
 use std::alloc::AllocError;
 
 /// Whether another authorization may be made: neither too many are active, nor were too many made.
-fn has_room(answers: CreateAnswers) -> bool
+fn has_room(answers: Answers) -> bool
     ensures { IsTrue result ↔ ((answers.is_full ≡ false) × (answers.created < LAST_NUMBER)) }
 {
     !answers.is_full && answers.created < LAST_NUMBER
@@ -34,7 +34,7 @@ fn has_room(answers: CreateAnswers) -> bool
 /// The number of the authorization that a create of the terms makes, or the first rule that fails.
 fn new_number(
     grants: &[Granted],
-    answers: CreateAnswers,
+    answers: Answers,
     day: Day,
     caller: &Name,
     terms: &AuthTerms,
@@ -44,7 +44,7 @@ fn new_number(
         → MatchResult result
         (λ n. IsCreated charter history h day caller.now terms.now (numbered_terms terms.now n))
         (λ rule. Verdict charter history day caller.now (Command.Create h terms.now) (Some rule)) }
-    ensures held { IfOk result (λ _. answers.holds ≡ true) }
+    ensures held { IfOk result (λ _. (answers.holds ≡ true) × AreInNumber terms.now.entries) }
 {
     require_access(grants, day, caller, Access::Alter)?;
     let entries = terms.entries.as_slice();
@@ -60,10 +60,10 @@ fn new_number(
 
 /// The change that a create of the terms makes, or the first rule that fails. `grants` are the
 /// holder's, and `answers` are what else the rules read.
-pub fn create_answered(
+pub(crate) fn create(
     holder: &Name,
     grants: &[Granted],
-    answers: CreateAnswers,
+    answers: Answers,
     day: Day,
     caller: &Name,
     terms: &AuthTerms,
@@ -72,7 +72,7 @@ pub fn create_answered(
         → AnswersCreate history holder.now terms.now grants.now answers
         → IsAnswer charter history day caller.now (Command.Create holder.now terms.now) result }
     ensures shape { IfOk result (HasEditsOf (Command.Create holder.now terms.now)) }
-    ensures held { IfOk result (λ _. answers.holds ≡ true) }
+    ensures ruled { IfOk result (λ _. (answers.holds ≡ true) × AreInNumber terms.now.entries) }
 {
     let number = new_number(grants, answers, day, caller, terms)?;
     let auth = terms.numbered(number)?;
@@ -80,15 +80,30 @@ pub fn create_answered(
 }
 
 /// What the rules of a create of the terms read of these rows, beside the grants.
-pub(crate) fn answers_of(rows: &HolderRows, terms: &AuthTerms) -> CreateAnswers
+fn answers_of(rows: &HolderRows, terms: &AuthTerms) -> Answers
     ensures { (history : History) (h : List ℕ) → RowsOf history h (rows_of rows.now)
         → AnswersCreate history h terms.now rows.now.grants.items result }
 {
-    CreateAnswers {
+    Answers {
         created: rows.created,
         holds: holds_entries(rows, terms.entries.as_slice()),
         gives: gives_terms(rows, terms),
         is_full: is_full(rows),
+        taken: false,
+    }
+}
+
+/// Like `answers_of`, also if there are no rows.
+pub(crate) fn create_answers(rows: Option<&HolderRows>, terms: &AuthTerms) -> Answers
+    ensures { (charter : CharterValue) → OfRows charter (rows_if_any (option_copied rows.entry))
+        (λ history h. AnswersCreate history h terms.now
+        (grants_if_any (option_copied rows.entry)) result) }
+{
+    // For the proof: its contract says that there is an entry, so a holder of the terms has rows.
+    let _entries = terms.entries.as_slice();
+    match rows {
+        Some(rows) => answers_of(rows, terms),
+        None => Answers::NONE,
     }
 }
 
@@ -102,7 +117,7 @@ fn put(rows: &mut HolderRows, auth: &Auth) -> Result<(), AllocError>
 }
 
 /// Puts the authorization that a create of the terms makes among the rows, unless a rule denies it.
-pub(crate) fn create(
+pub(crate) fn create_in(
     rows: &mut HolderRows,
     day: Day,
     caller: &Name,

@@ -1,36 +1,31 @@
 //! Deciding commands.
 
-ghost use Rattle.std.specs.Prelude.{◌≡◌, ℕ, true, false, None, Err, IsTrue, option_copied, MatchBool, IfOk, map, filter};
-ghost use Rattle.std.specs.Global.{Vec};
+ghost use Rattle.std.specs.Prelude.{◌≡◌, ℕ, true, false, None, Err, IsTrue, option_copied, IfOk, map, filter};
 ghost use Rattle.charters.specs.declared.charter.Charter.{Charter as CharterValue};
 ghost use Rattle.registry.specs.History.{History, same_name};
-ghost use Rattle.registry.specs.Resources.{IsFree};
 ghost use Rattle.registry.specs.Terms.{terms_overlap};
 ghost use Rattle.registry.specs.Verdict.{IsLegal};
 ghost use Rattle.registry.specs.Rows.{rows_of, rows_if_any, RowsOf, RowsIfAny};
 ghost use Rattle.policy.specs.steps.Admission.{IsAdmitted};
-ghost use Rattle.registry.specs.Answer.{AnswersRows, JudgesRows, RowsOfNamed, IsAnswer, IsViewOf, is_transfer, takes_memory, holder_of, taker_of};
-ghost use Rattle.registry.specs.Edits.{HasEditsOf};
+ghost use Rattle.registry.specs.Answer.{AreFacts, ReportsTaken, RowsOfNamed, IsAnswer, IsViewOf, is_transfer, takes_memory, holder_of, taker_of};
+ghost use Rattle.registry.specs.Edits.{AreRuled, HasEditsOf};
 
 mod import;
 
-use crate::admission::{
-    auth_of_number, grants_of, holdings_of, holds, made_of, numbered_of, registered, require,
-    rows_with_access,
-};
-use crate::amendment::{Amendment, amend_found, is_found_shared};
-use crate::creation::{answers_of, create_answered};
-use crate::delegation::{delegate_answered, register_answered};
-use crate::granting::{GrantTerms, grant_counted, revoke_among};
+use crate::admission::{auths_of, grants_of, holdings_of, holds, made_of, registered, require};
+use crate::amendment::{Amendment, amend, is_found_shared};
+use crate::creation::{create, create_answers};
+use crate::delegation::{delegate, register};
+use crate::granting::{GrantTerms, grant, revoke};
 use crate::part::change_of;
 use crate::space::{exchange, with_prefix, without_prefix};
-use crate::withdrawal::withdraw_found;
+use crate::withdrawal::withdraw;
 use crate::{
-    Access, Auth, AuthTerms, Change, Charter, Command, Edit, HolderChange, HolderRows, Refusal,
-    Rule, View,
+    Answers, Auth, Change, Charter, Command, HolderChange, HolderRows, Refusal, Rule, View,
 };
 use addr::{Day, Name, Prefix};
 use import::decide_import;
+use registry::auth_of_number;
 use slurm::SlurmSet;
 use std::alloc::{AllocError, Global};
 
@@ -65,47 +60,6 @@ fn numbers_overlapping(
         .collect(alloc)
 }
 
-/// Decides a registration.
-fn decide_register(basis: Basis<'_>, holder: Holder<'_>) -> Result<Change, Rule>
-    ensures answer { JudgesRows basis.entry.charter.now
-        (rows_if_any (option_copied holder.entry.rows)) basis.entry.day basis.entry.caller.now
-        (Command.Register holder.entry.name.now) result }
-    ensures shape { IfOk result (HasEditsOf (Command.Register holder.entry.name.now)) }
-{
-    register_answered(
-        basis.charter,
-        holder.name,
-        holder.rows.is_some(),
-        basis.caller,
-    )
-}
-
-/// Decides a delegation.
-fn decide_delegate(
-    alloc: Global,
-    basis: Basis<'_>,
-    holder: Holder<'_>,
-    taken: bool,
-    prefix: &Prefix,
-) -> Result<Change, Refusal>
-    ensures answer { (history : History) → IsLegal basis.entry.charter.now history
-        → RowsIfAny history holder.entry.name.now (rows_if_any (option_copied holder.entry.rows))
-        → MatchBool taken (IsFree history prefix.now → ⊥) (IsFree history prefix.now)
-        → IsAnswer basis.entry.charter.now history basis.entry.day basis.entry.caller.now
-        (Command.Delegate holder.entry.name.now prefix.now) result }
-    ensures shape { IfOk result (HasEditsOf (Command.Delegate holder.entry.name.now prefix.now)) }
-{
-    delegate_answered(
-        alloc,
-        basis.charter,
-        holder.name,
-        holdings_of(holder.rows),
-        taken,
-        basis.caller,
-        prefix,
-    )
-}
-
 /// The rows of the holder if all rules of a reclaim hold; otherwise the first that fails.
 fn rows_for_reclaim<'a>(
     charter: &Charter,
@@ -132,8 +86,9 @@ fn decide_reclaim(
     holder: Holder<'_>,
     prefix: &Prefix,
 ) -> Result<Change, Refusal>
-    ensures answer { AnswersRows basis.entry.charter.now
-        (rows_if_any (option_copied holder.entry.rows)) basis.entry.day basis.entry.caller.now
+    ensures answer { (history : History) → IsLegal basis.entry.charter.now history
+        → RowsIfAny history holder.entry.name.now (rows_if_any (option_copied holder.entry.rows))
+        → IsAnswer basis.entry.charter.now history basis.entry.day basis.entry.caller.now
         (Command.Reclaim holder.entry.name.now prefix.now) result }
     ensures shape { IfOk result (HasEditsOf (Command.Reclaim holder.entry.name.now prefix.now)) }
 {
@@ -142,106 +97,6 @@ fn decide_reclaim(
     let ended = numbers_overlapping(alloc, &rows.auths, prefix)?;
     let edit = exchange(&rows.holdings, &less, ended)?;
     Ok(change_of(holder.name, edit))
-}
-
-/// Decides a grant.
-fn decide_grant(basis: Basis<'_>, holder: Holder<'_>, terms: &GrantTerms) -> Result<Change, Rule>
-    ensures answer { JudgesRows basis.entry.charter.now
-        (rows_if_any (option_copied holder.entry.rows)) basis.entry.day basis.entry.caller.now
-        (Command.Grant holder.entry.name.now terms.now.caller terms.now.role
-        terms.now.scope terms.now.until) result }
-    ensures shape { IfOk result (HasEditsOf
-        (Command.Grant holder.entry.name.now terms.now.caller
-        terms.now.role terms.now.scope terms.now.until)) }
-{
-    let grants = grants_of(holder.rows);
-    let made = made_of(holder.rows);
-    grant_counted(
-        basis.charter,
-        holder.name,
-        grants,
-        made,
-        basis.day,
-        basis.caller,
-        terms,
-    )
-}
-
-/// Decides a revocation.
-fn decide_revoke(basis: Basis<'_>, holder: Holder<'_>, number: u32) -> Result<Change, Rule>
-    ensures answer { JudgesRows basis.entry.charter.now
-        (rows_if_any (option_copied holder.entry.rows)) basis.entry.day basis.entry.caller.now
-        (Command.Revoke holder.entry.name.now number) result }
-    ensures shape { IfOk result (HasEditsOf (Command.Revoke holder.entry.name.now number)) }
-{
-    revoke_among(
-        basis.charter,
-        holder.name,
-        grants_of(holder.rows),
-        basis.day,
-        basis.caller,
-        number,
-    )
-}
-
-/// Decides a create.
-fn decide_create(basis: Basis<'_>, holder: Holder<'_>, terms: &AuthTerms) -> Result<Change, Refusal>
-    ensures answer { AnswersRows basis.entry.charter.now
-        (rows_if_any (option_copied holder.entry.rows)) basis.entry.day basis.entry.caller.now
-        (Command.Create holder.entry.name.now terms.now) result }
-    ensures shape { IfOk result (HasEditsOf (Command.Create holder.entry.name.now terms.now)) }
-{
-    let rows = rows_with_access(holder.rows, basis.day, basis.caller, Access::Alter)?;
-    let answers = answers_of(rows, terms);
-    create_answered(
-        holder.name,
-        &rows.grants,
-        answers,
-        basis.day,
-        basis.caller,
-        terms,
-    )
-}
-
-/// Decides an amendment.
-fn decide_amend(
-    basis: Basis<'_>,
-    holder: Holder<'_>,
-    number: u32,
-    maxes: &[u8],
-    until: Day,
-) -> Result<Change, Refusal>
-    ensures answer { (asked : Vec ℕ) → asked.items ≡ maxes.now
-        → AnswersRows basis.entry.charter.now
-        (rows_if_any (option_copied holder.entry.rows)) basis.entry.day basis.entry.caller.now
-        (Command.Amend holder.entry.name.now number asked until) result }
-    ensures shape { (asked : Vec ℕ) → IfOk result (HasEditsOf
-        (Command.Amend holder.entry.name.now number asked until)) }
-{
-    let rows = rows_with_access(holder.rows, basis.day, basis.caller, Access::Alter)?;
-    let found = auth_of_number(&rows.auths, number);
-    let is_shared = is_found_shared(&rows.auths, found, maxes);
-    let amendment = Amendment { maxes, until };
-    amend_found(
-        holder.name,
-        &rows.grants,
-        found,
-        is_shared,
-        basis.day,
-        basis.caller,
-        amendment,
-    )
-}
-
-/// Decides a withdrawal.
-fn decide_withdraw(basis: Basis<'_>, holder: Holder<'_>, number: u32) -> Result<Change, Rule>
-    ensures answer { JudgesRows basis.entry.charter.now
-        (rows_if_any (option_copied holder.entry.rows)) basis.entry.day basis.entry.caller.now
-        (Command.Withdraw holder.entry.name.now number) result }
-    ensures shape { IfOk result (HasEditsOf (Command.Withdraw holder.entry.name.now number)) }
-{
-    let (grants, found) = numbered_of(holder.rows, number);
-    withdraw_found(holder.name, grants, found, basis.day, basis.caller, number)
 }
 
 /// The rows of the giver and of the taker if all rules of a transfer hold; otherwise the first that
@@ -318,10 +173,148 @@ fn decide_slurm(alloc: Global, basis: Basis<'_>, files: &SlurmSet) -> Result<Cha
     Ok(Change::Exceptions(files.clone()?))
 }
 
+/// What a command is judged on: rows with at least what its rules read, and answers.
+#[derive(Clone, Copy)]
+pub struct Facts<'a> {
+    /// Rows of the holder that the command names, of a transfer the giver's.
+    pub rows: Option<&'a HolderRows>,
+    /// Of a transfer, rows of the taker.
+    pub taker: Option<&'a HolderRows>,
+    pub answers: Answers,
+}
+
 /// The change that a command of the caller on the day makes, or the first rule that fails.
 ///
-/// The desk calls this for reclaim, import and SLURM files; a transfer has `decide_two`, and the
-/// other commands have functions that take only what their rules read.
+/// If the facts are those of a legal history, the answer is that history's; of other facts nothing
+/// is promised. It allocates only for a delegation, a transfer, a reclaim, a create, an amendment,
+/// an import and SLURM files.
+pub fn judge(
+    alloc: Global,
+    charter: &Charter,
+    facts: Facts<'_>,
+    day: Day,
+    caller: &Name,
+    command: &Command,
+) -> Result<Change, Refusal>
+    ensures answer { (history : History) → IsLegal charter.now history
+        → AreFacts history command.now (option_copied facts.entry.rows)
+        (option_copied facts.entry.taker) facts.entry.answers
+        → IsAnswer charter.now history day caller.now command.now result }
+    ensures memory { result ≡ Err Refusal.Memory → IsTrue (takes_memory command.now) }
+    ensures shape { IfOk result (HasEditsOf command.now) }
+    ensures ruled { IfOk result (λ _.
+        AreRuled command.now (option_copied facts.entry.rows) facts.entry.answers) }
+{
+    let Facts {
+        rows,
+        taker,
+        answers,
+    } = facts;
+    let basis = Basis {
+        charter,
+        day,
+        caller,
+    };
+    match command {
+        Command::Register { holder } => Ok(register(charter, holder, rows.is_some(), caller)?),
+        Command::Delegate { holder, prefix } => {
+            let held = holdings_of(rows);
+            delegate(alloc, charter, holder, held, answers.taken, caller, prefix)
+        }
+        Command::Transfer {
+            prefix,
+            giver,
+            taker: name,
+        } => {
+            let giver = Holder { name: giver, rows };
+            let taker = Holder { name, rows: taker };
+            decide_transfer(alloc, charter, caller, prefix, giver, taker)
+        }
+        Command::Reclaim { holder, prefix } => {
+            decide_reclaim(alloc, basis, Holder { name: holder, rows }, prefix)
+        }
+        Command::Grant {
+            holder,
+            name,
+            role,
+            scope,
+            until,
+        } => {
+            let terms = GrantTerms {
+                caller: *name,
+                role: *role,
+                scope: *scope,
+                until: *until,
+            };
+            let made = made_of(rows);
+            Ok(grant(charter, holder, grants_of(rows), made, day, caller, &terms)?)
+        }
+        Command::Revoke { holder, number } => {
+            Ok(revoke(charter, holder, grants_of(rows), day, caller, *number)?)
+        }
+        Command::Create { holder, terms } => {
+            create(holder, grants_of(rows), answers, day, caller, terms)
+        }
+        Command::Amend {
+            holder,
+            number,
+            maxes,
+            until,
+        } => {
+            let found = auth_of_number(auths_of(rows), *number);
+            let amendment = Amendment {
+                maxes,
+                until: *until,
+            };
+            amend(
+                holder,
+                grants_of(rows),
+                found,
+                answers.gives,
+                day,
+                caller,
+                amendment,
+            )
+        }
+        Command::Withdraw { holder, number } => {
+            let found = auth_of_number(auths_of(rows), *number);
+            Ok(withdraw(holder, grants_of(rows), found, day, caller, *number)?)
+        }
+        Command::Import {
+            holder,
+            rows: listed,
+        } => decide_import(alloc, basis, Holder { name: holder, rows }, listed),
+        Command::Slurm { files } => decide_slurm(alloc, basis, files),
+    }
+}
+
+/// What the rules of a command other than a transfer read beside these rows. `taken` is read only
+/// for a delegation.
+fn answers_for(rows: Option<&HolderRows>, taken: bool, command: &Command) -> Answers
+    requires { is_transfer command.now ≡ false }
+    ensures { (charter : CharterValue) (history : History) → IsLegal charter history
+        → RowsOfNamed history (holder_of command.now) (rows_if_any (option_copied rows.entry))
+        → ReportsTaken history command.now taken
+        → AreFacts history command.now (option_copied rows.entry) None result }
+{
+    match command {
+        Command::Create { terms, .. } => create_answers(rows, terms),
+        Command::Amend { number, maxes, .. } => {
+            let auths = auths_of(rows);
+            Answers {
+                gives: is_found_shared(auths, auth_of_number(auths, *number), maxes),
+                ..Answers::NONE
+            }
+        }
+        _ => Answers {
+            taken,
+            ..Answers::NONE
+        },
+    }
+}
+
+/// The change that a command of the caller on the day makes, or the first rule that fails; a
+/// transfer has `decide_two`. The desk calls `judge`, on less than all rows of a holder.
 ///
 /// If the view has the rows of a legal history, the answer is that history's; of other rows nothing
 /// is promised. It allocates only for a delegation, a reclaim, a create, an amendment, an import
@@ -341,61 +334,13 @@ pub fn decide(
     ensures memory { result ≡ Err Refusal.Memory → IsTrue (takes_memory command.now) }
     ensures shape { IfOk result (HasEditsOf command.now) }
 {
-    let basis = Basis {
-        charter,
-        day,
-        caller,
-    };
     let rows = view.holder.as_ref();
-    match command {
-        Command::Register { holder } => Ok(decide_register(basis, Holder { name: holder, rows })?),
-        Command::Delegate { holder, prefix } => decide_delegate(
-            alloc,
-            basis,
-            Holder { name: holder, rows },
-            view.taken,
-            prefix,
-        ),
-        Command::Transfer { .. } => unreachable!(),
-        Command::Reclaim { holder, prefix } => {
-            decide_reclaim(alloc, basis, Holder { name: holder, rows }, prefix)
-        }
-        Command::Grant {
-            holder,
-            name,
-            role,
-            scope,
-            until,
-        } => {
-            let terms = GrantTerms {
-                caller: *name,
-                role: *role,
-                scope: *scope,
-                until: *until,
-            };
-            Ok(decide_grant(basis, Holder { name: holder, rows }, &terms)?)
-        }
-        Command::Revoke { holder, number } => {
-            Ok(decide_revoke(basis, Holder { name: holder, rows }, *number)?)
-        }
-        Command::Create { holder, terms } => {
-            decide_create(basis, Holder { name: holder, rows }, terms)
-        }
-        Command::Amend {
-            holder,
-            number,
-            maxes,
-            until,
-        } => decide_amend(basis, Holder { name: holder, rows }, *number, maxes, *until),
-        Command::Withdraw { holder, number } => {
-            Ok(decide_withdraw(basis, Holder { name: holder, rows }, *number)?)
-        }
-        Command::Import {
-            holder,
-            rows: listed,
-        } => decide_import(alloc, basis, Holder { name: holder, rows }, listed),
-        Command::Slurm { files } => decide_slurm(alloc, basis, files),
-    }
+    let facts = Facts {
+        rows,
+        taker: None,
+        answers: answers_for(rows, view.taken, command),
+    };
+    judge(alloc, charter, facts, day, caller, command)
 }
 
 /// The change that a transfer makes, or the first rule that fails, on the rows of the giver and of

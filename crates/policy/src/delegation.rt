@@ -1,15 +1,11 @@
 //! Registering a holder, and delegating a prefix to it.
 
-ghost use Rattle.std.specs.Prelude.{◌≡◌, ℕ, List, None, Some, false, is_some, option_copied, MatchBool, MatchResult, IfOk, IfSome};
-ghost use Rattle.addr.specs.Address.{Address};
-ghost use Rattle.addr.specs.Spans.{spans_have};
+ghost use Rattle.std.specs.Prelude.{◌≡◌, ℕ, List, None, Some, false, option_copied, MatchResult, IfOk};
 ghost use Rattle.registry.specs.declared.command.Command.{Command};
-ghost use Rattle.registry.specs.Answer.{IsAccepted, IsAnswer};
+ghost use Rattle.registry.specs.Answer.{AnswersDelegate, HasRuns, IsAccepted, IsAnswer};
 ghost use Rattle.registry.specs.Edits.{HasEditsOf};
 ghost use Rattle.registry.specs.History.{History, is_registered};
-ghost use Rattle.registry.specs.Resources.{resource_holder, is_held_by, IsFree};
 ghost use Rattle.registry.specs.Verdict.{IsLegal, Verdict};
-ghost use Rattle.policy.specs.steps.Delegation.{AnswersDelegate, HasRuns};
 ghost use Rattle.policy.specs.steps.Admission.{IsAdmitted};
 
 use crate::admission::require;
@@ -21,7 +17,7 @@ use std::alloc::Global;
 
 /// The change that the registration of a holder makes, or the first rule that fails. `registered`
 /// is whether the holder is registered already. Allocates nothing.
-pub fn register_answered(
+pub(crate) fn register(
     charter: &Charter,
     holder: &Name,
     registered: bool,
@@ -72,7 +68,7 @@ fn holdings_for_delegation<'a>(
 /// The change that the delegation of a prefix makes, or the first rule that fails. `holdings` are
 /// the holder's addresses, `None` if it is not registered; `taken` is whether some holder has an
 /// address of the prefix.
-pub fn delegate_answered(
+pub(crate) fn delegate(
     alloc: Global,
     charter: &Charter,
     holder: &Name,
@@ -82,10 +78,7 @@ pub fn delegate_answered(
     prefix: &Prefix,
 ) -> Result<Change, Refusal>
     ensures answer { (history : History) (day : ℕ) → IsLegal charter.now history
-        → is_some (option_copied holdings.entry) ≡ is_registered history holder.now
-        → IfSome (option_copied holdings.entry) (λ runs. (a : Address)
-        → spans_have runs a ≡ is_held_by holder.now (resource_holder history a))
-        → MatchBool taken (IsFree history prefix.now → ⊥) (IsFree history prefix.now)
+        → AnswersDelegate history holder.now prefix.now (option_copied holdings.entry) taken
         → IsAnswer charter.now history day caller.now
         (Command.Delegate holder.now prefix.now) result }
     ensures shape { IfOk result (HasEditsOf (Command.Delegate holder.now prefix.now)) }

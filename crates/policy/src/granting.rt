@@ -15,12 +15,12 @@ use addr::{Day, Name};
 
 /// The terms of a grant, before it has a number.
 #[derive(Clone, Copy)]
-pub struct GrantTerms {
-    pub caller: Name,
-    pub role: Role,
-    pub scope: Scope,
+pub(crate) struct GrantTerms {
+    pub(crate) caller: Name,
+    pub(crate) role: Role,
+    pub(crate) scope: Scope,
     /// The last day on which it is current.
-    pub until: Day,
+    pub(crate) until: Day,
 }
 
 impl GrantTerms {
@@ -47,7 +47,7 @@ impl GrantTerms {
 /// The change that a grant of the terms makes, or the first rule that fails. `grants` are the
 /// holder's, and `made` is how many were ever made, `None` if it is not registered. Allocates
 /// nothing.
-pub fn grant_counted(
+pub(crate) fn grant(
     charter: &Charter,
     holder: &Name,
     grants: &[Granted],
@@ -76,7 +76,7 @@ pub fn grant_counted(
 
 /// The change that the revocation of a number makes, or the first rule that fails. `grants` are the
 /// holder's. Allocates nothing.
-pub fn revoke_among(
+pub(crate) fn revoke(
     charter: &Charter,
     holder: &Name,
     grants: &[Granted],

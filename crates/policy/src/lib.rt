@@ -14,16 +14,11 @@ mod space;
 mod what_if;
 mod withdrawal;
 
-pub use amendment::{Amendment, amend_found};
-pub use creation::create_answered;
-pub use decision::{decide, decide_two};
-pub use delegation::{delegate_answered, register_answered};
-pub use granting::{GrantTerms, grant_counted, revoke_among};
+pub use decision::{Facts, decide, decide_two, judge};
 pub use registry::{
-    Access, Auth, AuthTerms, Change, Charter, CharterFault, Command, CreateAnswers, Edit, Granted,
+    Access, Answers, Auth, AuthTerms, Change, Charter, CharterFault, Command, Edit, Granted,
     HolderChange, HolderRows, ImportRow, LAST_NUMBER, Proposed, Query, Refusal, RoaPrefix,
     RoaPrefixes, Role, Rule, Scope, View, laws,
 };
-pub use sight::{see, see_all, see_found};
+pub use sight::{see, see_all};
 pub use what_if::suppose;
-pub use withdrawal::withdraw_found;

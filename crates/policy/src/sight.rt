@@ -4,50 +4,42 @@ ghost use Rattle.std.specs.Prelude.{◌≡◌, ℕ, List, [], ◌∷◌, ◌++�
 ghost use Rattle.charters.specs.declared.charter.Charter.{Charter as CharterValue};
 ghost use Rattle.registry.specs.History.{History};
 ghost use Rattle.registry.specs.Permission.{is_permitted_terms};
-ghost use Rattle.registry.specs.Rows.{rows_if_any};
-ghost use Rattle.registry.specs.Verdict.{ShowVerdict};
+ghost use Rattle.registry.specs.Rows.{rows_if_any, grants_if_any, auths_if_any};
+ghost use Rattle.registry.specs.Verdict.{ShowVerdict, auth_of_number};
 ghost use Rattle.registry.specs.Answer.{AnswersNumber, OfRows, IsShown, IsListed, IsListRefusal};
 
 use crate::admission::{
-    found_with_access, is_permitted_terms, numbered_of, require_access, rows_with_access,
+    auths_of, found_with_access, grants_of, is_permitted_terms, require_access, rows_with_access,
 };
 use crate::{Access, Auth, Granted, HolderRows, Refusal, Rule};
 use addr::{Day, Name};
+use registry::auth_of_number;
 use std::alloc::{AllocError, Global};
 
-/// The authorization that was found, if the caller may see it on the day; otherwise the rule that
-/// denies it. `grants` are the holder's. A hidden authorization and a missing one get the same
-/// reply. Allocates nothing.
-pub fn see_found<'a>(
-    grants: &[Granted],
-    found: Option<&'a Auth>,
-    day: Day,
-    caller: &Name,
-) -> Result<&'a Auth, Rule>
-    ensures { (history : History) (h : List ℕ) (number : ℕ)
-        → AnswersNumber history h number grants.now (option_copied found.entry)
-        → MatchResult result
-        (λ x. IsShown history h day caller.now number x.now)
-        (λ rule. ShowVerdict history h day caller.now number (Some rule)) }
-{
-    require_access(grants, day, caller, Access::Look)?;
-    found_with_access(grants, found, day, caller, Access::Look)
-}
-
-/// The authorization of the number, if the caller may see it on the day, as `see_found` decides.
+/// The authorization of the number, if the caller may see it on the day; otherwise the rule that
+/// denies it. A hidden authorization and a missing one get the same reply. Of the rows it reads the
+/// grants and the authorizations of the number. Allocates nothing.
 pub fn see<'a>(
     rows: Option<&'a HolderRows>,
     day: Day,
     caller: &Name,
     number: u32,
 ) -> Result<&'a Auth, Rule>
-    ensures { (charter : CharterValue) → OfRows charter (rows_if_any (option_copied rows.entry))
+    ensures rows { (charter : CharterValue) → OfRows charter (rows_if_any (option_copied rows.entry))
         (λ history h. MatchResult result
         (λ x. IsShown history h day caller.now number x.now)
         (λ rule. ShowVerdict history h day caller.now number (Some rule))) }
+    ensures part { (history : History) (h : List ℕ)
+        → AnswersNumber history h number (grants_if_any (option_copied rows.entry))
+        (auth_of_number number (auths_if_any (option_copied rows.entry)))
+        → MatchResult result
+        (λ x. IsShown history h day caller.now number x.now)
+        (λ rule. ShowVerdict history h day caller.now number (Some rule)) }
 {
-    let (grants, found) = numbered_of(rows, number);
-    see_found(grants, found, day, caller)
+    let grants = grants_of(rows);
+    let found = auth_of_number(auths_of(rows), number);
+    require_access(grants, day, caller, Access::Look)?;
+    found_with_access(grants, found, day, caller, Access::Look)
 }
 
 /// Puts a copy of the authorization after the others.

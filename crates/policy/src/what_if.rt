@@ -9,9 +9,9 @@ ghost use Rattle.registry.specs.Answer.{OfRows, IsHypotheticalAnswer};
 ghost use Rattle.policy.specs.steps.Part.{Judged};
 ghost use Rattle.policy.specs.steps.HypotheticalChange.{IsHypotheticalChange};
 
-use crate::creation::create;
+use crate::creation::create_in;
 use crate::part::refusal_at;
-use crate::withdrawal::withdraw;
+use crate::withdrawal::withdraw_from;
 use crate::{Charter, HolderRows, Proposed, Refusal, Rule, View};
 use addr::{Day, Name};
 use std::alloc::Global;
@@ -32,9 +32,9 @@ fn apply_change(
 {
     match change {
         Proposed::Create(terms) => {
-            create(rows, day, caller, terms)?;
+            create_in(rows, day, caller, terms)?;
         }
-        Proposed::Withdraw(number) => withdraw(rows, day, caller, *number)?,
+        Proposed::Withdraw(number) => withdraw_from(rows, day, caller, *number)?,
     }
     Ok(())
 }

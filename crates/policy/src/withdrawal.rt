@@ -11,10 +11,11 @@ ghost use Rattle.registry.specs.Edits.{HasEditsOf};
 ghost use Rattle.registry.specs.Verdict.{IsLegal, Verdict};
 ghost use Rattle.policy.specs.steps.Withdrawal.{IsWithdrawn};
 
-use crate::admission::{found_with_access, numbered_of, require_access};
+use crate::admission::{found_with_access, require_access};
 use crate::part::change_of;
 use crate::{Access, Auth, Change, Edit, Granted, HolderRows, Rule};
 use addr::{Day, Name};
+use registry::auth_of_number;
 
 /// `Ok` if all rules of a withdrawal hold; otherwise the first that fails.
 fn may_withdraw(
@@ -37,7 +38,7 @@ fn may_withdraw(
 
 /// The change that the withdrawal of a number makes, or the first rule that fails. `grants` are the
 /// holder's, and `found` is its authorization of the number, if there is one. Allocates nothing.
-pub fn withdraw_found(
+pub(crate) fn withdraw(
     holder: &Name,
     grants: &[Granted],
     found: Option<&Auth>,
@@ -65,7 +66,7 @@ fn take_away(rows: &mut HolderRows, number: u32)
 }
 
 /// Removes the authorization of the number from the rows, unless a rule denies it.
-pub(crate) fn withdraw(
+pub(crate) fn withdraw_from(
     rows: &mut HolderRows,
     day: Day,
     caller: &Name,
@@ -78,8 +79,8 @@ pub(crate) fn withdraw(
         (λ _. IsWithdrawn charter history h day caller.now number)
         (λ rule. Verdict charter history day caller.now (Command.Withdraw h number) (Some rule))) }
 {
-    let (grants, found) = numbered_of(Some(rows), number);
-    may_withdraw(grants, found, day, caller)?;
+    let found = auth_of_number(&rows.auths, number);
+    may_withdraw(&rows.grants, found, day, caller)?;
     take_away(rows, number);
     Ok(())
 }

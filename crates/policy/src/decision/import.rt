@@ -16,7 +16,7 @@ ghost use Rattle.policy.specs.steps.Part.{Judged};
 
 use super::{Basis, Holder};
 use crate::admission::is_present;
-use crate::creation::create;
+use crate::creation::create_in;
 use crate::part::{change_of, refusal_at};
 use crate::{Auth, Change, Edit, HolderRows, ImportRow, Refusal, Rule};
 use addr::{Day, Name};
@@ -43,7 +43,7 @@ fn import_row(
     if is_present(rows, day, caller, &terms) {
         return Ok(());
     }
-    let auth = create(rows, day, caller, &terms)?;
+    let auth = create_in(rows, day, caller, &terms)?;
     auths.push(auth)?;
     Ok(())
 }

@@ -7,7 +7,8 @@ use Rattle.registry.specs.declared.command.Command.TheVariants.{Amend}
 use Rattle.registry.specs.Answer.{IsAccepted}
 use Rattle.registry.specs.Rows.{Carries}
 use Rattle.registry.specs.Terms.{with_terms}
-use Rattle.policy.proofs.amendment.amend_found.Goals as goal
+use Rattle.policy.proofs.CarryTerms.{found_number}
+use Rattle.policy.proofs.amendment.amend.Goals as goal
 
 pub returns-in_err-auth-clause-answer : goal.returns-in_err-auth-clause-answer
 returns-in_err-auth-clause-answer c charter history n asked same legal are =
@@ -38,6 +39,8 @@ returns-clause-answer c charter history n asked same legal are =
       of_command = (refl, tt);
     })
 
-pub returns-clause-amended : goal.returns-clause-amended
-returns-clause-amended c =
-    (c.in_ok-auth.auth.now, c.in_ok-auth.ensures.found, c.change_of.ensures ∙ ap (λ (y : Auth). Holders (record { holder = c.args.holder.now; edit = AmendEdit y }) None) c.in_ok-amended.ensures)
+pub returns-clause-shape : goal.returns-clause-shape
+returns-clause-shape c number asked auths found =
+    let amended = c.in_ok-amended.ensures in
+    let numbered = found_number number auths c.in_ok-auth.auth.now (sym found ∙ c.in_ok-auth.ensures.found) in
+    rw c.change_of.ensures (refl, (ap (λ (y : Auth). y.until) amended, ap (λ (y : Auth). y.number) amended ∙ numbered))

@@ -2,7 +2,7 @@ use Rattle.std.proofs.Common.{sym, ap, Some, subst, refl}
 use Rattle.registry.specs.declared.command.Command.TheVariants.{Create}
 use Rattle.registry.specs.Answer.{IsAccepted}
 use Rattle.policy.specs.steps.Creation.{IsCreated}
-use Rattle.policy.proofs.creation.create_answered.Goals as goal
+use Rattle.policy.proofs.creation.create.Goals as goal
 
 pub returns-clause-answer : goal.returns-clause-answer
 returns-clause-answer c charter history legal are =

@@ -1,6 +1,6 @@
 use Rattle.std.proofs.Common.{sym, subst}
 use Rattle.policy.specs.steps.Creation.{IsCreated}
-use Rattle.policy.proofs.creation.create.Goals as goal
+use Rattle.policy.proofs.creation.create_in.Goals as goal
 
 pub returns-clause-judged : goal.returns-clause-judged
 returns-clause-judged c charter history h legal are =

@@ -3,29 +3,29 @@ use Rattle.std.proofs.lemmas.Result.{err_from_is_err_and}
 use Rattle.registry.specs.declared.command.Command.TheVariants.{Delegate}
 use Rattle.registry.specs.Answer.{edit_number, IsAccepted}
 use Rattle.policy.proofs.CarrySpace.{sparing, carries-delegate}
-use Rattle.policy.proofs.delegation.delegate_answered.Goals as goal
+use Rattle.policy.proofs.delegation.delegate.Goals as goal
 
 pub returns-in_err-held-clause-answer : goal.returns-in_err-held-clause-answer
-returns-in_err-held-clause-answer c history day legal registered holds free =
+returns-in_err-held-clause-answer c history day legal are =
     let refused = err_from_is_err_and c.from_residual.result c.from_residual.ensures.1 in
-    rw (refused.1, refused.2) (c.in_err-held.ensures history day c.args.holder.now (record { registered = registered; holdings = holds; free = free }), refl)
+    rw (refused.1, refused.2) (c.in_err-held.ensures history day c.args.holder.now are, refl)
 
 pub returns-in_err-more-clause-answer : goal.returns-in_err-more-clause-answer
-returns-in_err-more-clause-answer c history day legal registered holds free =
+returns-in_err-more-clause-answer c history day legal are =
     let refused = err_from_is_err_and c.from_residual-in_err-more.result c.from_residual-in_err-more.ensures.1 in
-    rw (refused.1, refused.2) (c.in_ok-held.ensures history day c.args.holder.now (record { registered = registered; holdings = holds; free = free })).0
+    rw (refused.1, refused.2) (c.in_ok-held.ensures history day c.args.holder.now are).0
 
 pub returns-in_err-edit-clause-answer : goal.returns-in_err-edit-clause-answer
-returns-in_err-edit-clause-answer c history day legal registered holds free =
+returns-in_err-edit-clause-answer c history day legal are =
     let refused = err_from_is_err_and c.from_residual-in_err-edit.result c.from_residual-in_err-edit.ensures.1 in
-    rw (refused.1, refused.2) (c.in_ok-held.ensures history day c.args.holder.now (record { registered = registered; holdings = holds; free = free })).0
+    rw (refused.1, refused.2) (c.in_ok-held.ensures history day c.args.holder.now are).0
 
 pub returns-clause-answer : goal.returns-clause-answer
-returns-clause-answer c history day legal registered holds free =
+returns-clause-answer c history day legal are =
     let a = c.args in
     let h = a.holder.now in
     let p = a.prefix.now in
-    let had = c.in_ok-held.ensures history day h (record { registered = registered; holdings = holds; free = free }) in
+    let had = c.in_ok-held.ensures history day h are in
     let rules = had.0.1 in
     subst (IsAccepted a.charter.now history day a.caller.now (Delegate h p)) (sym c.change_of.ensures) (record {
       after = _;

@@ -4,7 +4,7 @@ use Rattle.std.proofs.lemmas.Bool.{not-true, false≢true}
 use Rattle.std.proofs.lemmas.Bool.Decides.{when_false}
 use Rattle.std.proofs.lemmas.Result.{err_from_is_err_and}
 use Rattle.registry.specs.Resources.{IsFree}
-use Rattle.policy.specs.steps.Delegation.{HasRuns}
+use Rattle.registry.specs.Answer.{HasRuns}
 use Rattle.policy.proofs.delegation.holdings_for_delegation.Goals as goal
 
 pub returns-in_err-held : goal.returns-in_err-held

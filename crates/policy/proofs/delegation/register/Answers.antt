@@ -3,7 +3,7 @@ use Rattle.std.proofs.lemmas.Bool.{not-true}
 use Rattle.registry.specs.declared.command.Command.TheVariants.{Register}
 use Rattle.registry.specs.Answer.{IsAccepted}
 use Rattle.policy.proofs.CarrySpace.{carries-register}
-use Rattle.policy.proofs.delegation.register_answered.Goals as goal
+use Rattle.policy.proofs.delegation.register.Goals as goal
 
 pub returns-clause-answer : goal.returns-clause-answer
 returns-clause-answer c history day legal is =

@@ -6,7 +6,7 @@ use Rattle.registry.specs.declared.grant.Granted.{Granted}
 use Rattle.registry.specs.Answer.{IsAccepted, IsMadeIfAny}
 use Rattle.registry.specs.Terms.{grant_terms, grants_made}
 use Rattle.policy.proofs.CarryGrants.{carries-grant}
-use Rattle.policy.proofs.granting.grant_counted.Goals as goal
+use Rattle.policy.proofs.granting.grant.Goals as goal
 
 pub returns-clause-answer : goal.returns-clause-answer
 returns-clause-answer c history legal are =

@@ -6,7 +6,7 @@ use Rattle.registry.specs.declared.command.Command.TheVariants.{Revoke}
 use Rattle.registry.specs.Answer.{IsAccepted}
 use Rattle.policy.proofs.RowsLemmas.{registered-by_grant}
 use Rattle.policy.proofs.CarryGrants.{carries-revoke}
-use Rattle.policy.proofs.granting.revoke_among.Goals as goal
+use Rattle.policy.proofs.granting.revoke.Goals as goal
 
 pub returns-clause-answer : goal.returns-clause-answer
 returns-clause-answer c history legal granted =

@@ -2,7 +2,7 @@ use Rattle.std.proofs.Common.{refl, sym, subst}
 use Rattle.std.proofs.lemmas.Result.{err_from_is_err_and}
 use Rattle.registry.specs.declared.command.Command.TheVariants.{Withdraw}
 use Rattle.registry.specs.Answer.{IsAccepted}
-use Rattle.policy.proofs.withdrawal.withdraw_found.Goals as goal
+use Rattle.policy.proofs.withdrawal.withdraw.Goals as goal
 
 pub returns-in_err-may_withdraw-clause-answer : goal.returns-in_err-may_withdraw-clause-answer
 returns-in_err-may_withdraw-clause-answer c charter history legal are =
