@@ -1,5 +1,5 @@
 -- What a grant, a create and an amendment ask: whether an authorization of a holder gives a VRP, out of the entries that
--- give it, and how many grants and authorizations were made.
+-- give it, and how many authorizations were made.
 use Rattle.std.proofs.Common.{◌≡◌, ℕ, ◌+◌, ◌<◌, ◌≤◌, nat_le, arith, ◌&&◌, ◌||◌, ◌==◌, Bool, true, false, cond, List, [], ◌∷◌, flat_map, filter, drop, length, get_or, Option, Some, None, refl, sym, ap, ap₂, ◌∙◌, IsPermutation}
 use Rattle.std.specs.Prelude.{All}
 use Rattle.std.specs.List.{list_any}
@@ -14,6 +14,7 @@ use Rattle.addr.specs.declared.asn.Asn.{Asn}
 use Rattle.registry.specs.declared.authorization.Auth.{Auth}
 use Rattle.registry.specs.declared.authorization.RoaPrefix.{RoaPrefix}
 use Rattle.registry.specs.declared.limits.TheConstants.{MOST_AUTHORIZATIONS}
+use Rattle.registry.specs.declared.rows.HolderRows.{HolderRows}
 use Rattle.registry.specs.Rows.{Rows}
 use Rattle.registry.specs.Terms.{are_shared, gives_some, is_entry}
 use Rattle.registry.specs.Values.{FitIfAny}
@@ -22,10 +23,9 @@ use Rattle.tables.specs.Decode.{EntryRowFits}
 use Rattle.tables.specs.Groups.{claim_entry}
 use Rattle.tables.specs.TablesHold.{items_if_any}
 use Rattle.tables.specs.declared.entry.EntryRow.{EntryRow}
-use Rattle.tables.specs.declared.holder.Counters.{Counters}
 use Rattle.tables.proofs.TreeRows.{list_any-map}
-use Rattle.loads.specs.Loads.{auths_held, created_if_any, is_other, made_if_any, some_gives}
-use Rattle.loads.specs.steps.Queries.{counters_if_any, entries_given, gives_entry}
+use Rattle.loads.specs.Loads.{auths_held, created_if_any, is_other, some_gives, AreCounted}
+use Rattle.loads.specs.steps.Queries.{entries_given, gives_entry}
 use Rattle.loads.proofs.Loading.{entries_fit}
 
 -- ---- tests of lists
@@ -112,21 +112,13 @@ gives_from but asn es i e ys low is =
 
 -- ---- how many were made
 
-pub made_shown : (o : Option Rows) (c : Counters) → Some c ≡ counters_if_any o → Some c.granted ≡ made_if_any o
-made_shown None c some = cc
-made_shown (Some r) c some = cc
+pub created_shown : (o : Option Rows) (part : HolderRows) → AreCounted o (Some part) → part.created ≡ created_if_any o
+created_shown None part are = absurd (let c = are.created in cc)
+created_shown (Some r) part are = let c = are.created in cc
 
-pub none_made : (o : Option Rows) → None ≡ counters_if_any o → None ≡ made_if_any o
-none_made None none = refl
-none_made (Some r) none = cc
-
-pub created_shown : (o : Option Rows) (c : Counters) → Some c ≡ counters_if_any o → c.created ≡ created_if_any o
-created_shown None c some = cc
-created_shown (Some r) c some = cc
-
-pub none_created : (o : Option Rows) → None ≡ counters_if_any o → 0 ≡ created_if_any o
-none_created None none = refl
-none_created (Some r) none = cc
+pub none_created : (o : Option Rows) → AreCounted o None → 0 ≡ created_if_any o
+none_created None are = refl
+none_created (Some r) are = absurd (let c = are.created in cc)
 
 not_as_many : (m n : ℕ) → n < m → nat_le m n ≡ false
 not_as_many m n less = grind (arith, nat_tests, less)

@@ -7,7 +7,7 @@ use Rattle.std.proofs.Math.Bool.{or-false}
 use Rattle.std.proofs.lemmas.Bool.Decides.{nat_tests}
 use Rattle.std.proofs.lemmas.List.Elements.{All-nil, All-cons, All-from_recursion, recursion_from_All}
 use Rattle.std.proofs.lemmas.List.Folds.{list_any-append}
-use Rattle.std.proofs.lemmas.List.Sorted.{list_any-IsPermutation, length_permutation}
+use Rattle.std.proofs.lemmas.List.Sorted.{list_any-IsPermutation, length_permutation, IsPermutation-refl}
 use Rattle.sqlite.specs.Effect.{Database}
 use Rattle.sqlite.specs.State.{State}
 use Rattle.sqlite.proofs.Callers.{one_permutation}
@@ -27,7 +27,7 @@ use Rattle.tables.specs.Cells.{grant_cells}
 use Rattle.tables.specs.Decode.{ClaimFits, EntryRowFits}
 use Rattle.tables.specs.Groups.{claim_entry}
 use Rattle.tables.specs.TablesHold.{items_if_any, TablesHold}
-use Rattle.loads.specs.Loads.{IsOf, IsOpenWith, AreGrants, AreInOrder, HaveSame, AreLoaded}
+use Rattle.loads.specs.Loads.{IsOf, IsOpenWith, AreCounted, AreGrants, AreInOrder, HaveSame, AreLoaded}
 use Rattle.loads.specs.steps.Queries.{by_column, counters_if_any}
 use Rattle.tables.specs.declared.holder.Counters.{Counters}
 use Rattle.registry.specs.Values.{IsCount, GrantFits, AuthFits, FitIfAny}
@@ -136,6 +136,14 @@ pub never_fit :
     → IsOpenWith (λ all. ¬ All fits (items_if_any items (all.of_holder h))) mid → IsOpenWith (λ all. ¬ FitIfAny (all.of_holder h)) old
 never_fit fits items each h old mid opened same refusal =
     refused_before (λ all. ¬ FitIfAny (all.of_holder h)) old mid opened same (refusal.0, λ charter rows holds fit. refusal.1 charter rows holds (each (rows.of_holder h) fit))
+
+pub none_counted : (o : Option Rows) → None ≡ counters_if_any o → AreCounted o None
+none_counted None none = record { grants = (IsPermutation-refl [], λ k d low high. absurd (omega (arith, high))); granted = refl; created = refl }
+none_counted (Some r) none = cc
+
+pub some_counted : (o : Option Rows) (c : Counters) (part : HolderRows) → Some c ≡ counters_if_any o → part.granted ≡ c.granted → part.created ≡ c.created → AreGrants o part.grants.items → AreCounted o (Some part)
+some_counted None c part none granted created grants = cc
+some_counted (Some r) c part counters granted created grants = record { grants = grants; granted = cc; created = cc }
 
 pub none_loaded : (o : Option Rows) → None ≡ counters_if_any o → AreLoaded o None
 none_loaded None none = tt

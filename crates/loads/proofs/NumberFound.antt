@@ -1,24 +1,20 @@
--- The authorization of a holder that has a number, out of the claims of that number and the rows of its entries.
-use Rattle.std.proofs.Common.{◌≡◌, ◌≢◌, ℕ, ◌<◌, ◌&&◌, ◌↔◌, Bool, true, false, cond, List, [], ◌∷◌, ◌++◌, map, flat_map, filter, find, length, slice_get, option_to_list, Option, Some, None, IsSome, refl, sym, ap, subst, ◌∙◌, arith, IsPermutation, IsSorted}
+-- The authorizations of a holder that have a number, out of the claims of that number and the rows of its entries.
+use Rattle.std.proofs.Common.{◌≡◌, ◌≢◌, ℕ, ◌&&◌, List, [], map, flat_map, filter, Option, Some, None, refl, ap, subst, ◌∙◌, IsPermutation, IsSorted}
 use Rattle.std.specs.Prelude.{All, AllPairs}
 use Rattle.std.specs.List.{AllByRecursion}
-use Rattle.std.proofs.lemmas.List.{length-append}
 use Rattle.std.proofs.lemmas.List.Elements.{All-from_recursion, recursion_from_All}
-use Rattle.std.proofs.lemmas.List.Sorted.{IsPermutation-map, IsPermutation-sym, length_permutation}
+use Rattle.std.proofs.lemmas.List.Sorted.{IsPermutation-map, IsPermutation-sym}
 use Rattle.sqlite.specs.Effect.{Database, IsDatabase}
-use Rattle.sqlite.proofs.Callers.{one_permutation}
-use Rattle.sqlite_value.specs.declared.value.Value.TheVariants.{Text}
 use Rattle.sqlite_trees.proofs.ListLemmas.{IsPermutation-filter, all-filter, all-flat_map, all-map, all_weaker, map-map}
 use Rattle.charters.specs.CharterSets.{CharterSets}
 use Rattle.registry.specs.Rows.{Rows}
 use Rattle.registry.specs.RowsOfAll.{AllRows}
 use Rattle.registry.specs.Values.{AuthFits, FitIfAny}
-use Rattle.registry.specs.Verdict.{auth_of_number}
 use Rattle.registry.specs.declared.authorization.Auth.{Auth}
 use Rattle.tables.specs.declared.claim.Claim.{Claim}
 use Rattle.tables.specs.declared.entry.EntryRow.{EntryRow}
 use Rattle.tables.specs.Authorizations.{AreAuths, NumbersRise, claim_of, entry_rows_of}
-use Rattle.tables.specs.Cells.{claim_cells, claim_row, entry_cells, number_cell}
+use Rattle.tables.specs.Cells.{claim_cells, claim_row, entry_cells}
 use Rattle.tables.specs.Decode.{ClaimFits, EntryRowFits}
 use Rattle.tables.specs.Tables.{claim, contents, desk_tables}
 use Rattle.tables.specs.TablesHold.{TablesHold, claim_part, items_if_any, part_rows}
@@ -26,6 +22,7 @@ use Rattle.tables.proofs.GroupCells.{by_entry}
 use Rattle.tables.proofs.PartLemmas.{names}
 use Rattle.tables.proofs.TreeRows.{filter_twice}
 use Rattle.transactions.specs.Laws.{ClaimsDiffer, number_columns}
+use Rattle.loads.specs.Loads.{AreInOrder}
 use Rattle.loads.specs.steps.Queries.{by_column}
 use Rattle.loads.proofs.AuthsFound.{HasEntries, are_some, held_entries, in_order, key_of}
 use Rattle.loads.proofs.Finding.{claims_kept, claims_numbered, entries_numbered, has_number, is_numbered}
@@ -33,60 +30,6 @@ use Rattle.loads.proofs.Loading.{claim_fits, entries_of_fit}
 
 abbrev auths_if_any : Option Rows → List Auth
 auths_if_any = items_if_any (λ r. r.auths)
-
--- ---- one of a number
-
-pub first_found : {X : Type 0} (p : X → Bool) (xs : List X) → find p xs ≡ slice_get (filter p xs) 0
-first_found p [] = refl
-first_found p (x ∷ xs) = elim (p x) as (λ b. cond b (Some x) (find p xs) ≡ slice_get (cond b (x ∷ filter p xs) (filter p xs)) 0) [ true ↦ refl | false ↦ first_found p xs ]
-
-all_of_number : (n : ℕ) (xs : List Auth) → AllByRecursion (λ x. has_number n x ≡ true) (filter (has_number n) xs)
-all_of_number n [] = tt
-all_of_number n (x ∷ xs) = go (has_number n x) refl (all_of_number n xs)
-  where
-    go : (b : Bool) → has_number n x ≡ b → AllByRecursion (λ y. has_number n y ≡ true) (filter (has_number n) xs)
-        → AllByRecursion (λ y. has_number n y ≡ true) (cond b (x ∷ filter (has_number n) xs) (filter (has_number n) xs))
-    go true is more = (is, more)
-    go false is more = more
-
-at_most_one : (h : List ℕ) (n : ℕ) (xs : List Auth) → AllByRecursion (λ x. has_number n x ≡ true) xs → AllPairs ◌≢◌ (map (key_of h) xs) → length xs < 2
-at_most_one h n [] all apart = omega arith
-at_most_one h n (x ∷ []) all apart = omega arith
-at_most_one h n (x ∷ y ∷ xs) all apart =
-    let same : x.number ≡ y.number = (let one = all.0 in let other = all.1.0 in grind (arith, one, other)) in
-    absurd (apart 0 1 (key_of h x) (omega arith) (omega arith) (ap (λ m. Text h ∷ number_cell m ∷ []) same))
-
-none_alike : {X : Type 0} (ys : List X) → IsPermutation [] ys → ys ≡ []
-none_alike [] same = refl
-none_alike (y ∷ ys) same = absurd (let e = length_permutation _ _ same in cc)
-
--- what is taken from the end of at most one
-pub last_of_one : {X : Type 0} (ys rest : List X) (popped : Option X) → length ys < 2 → ys ≡ rest ++ option_to_list popped → (IsSome popped ↔ (0 < length ys)) → ys ≡ option_to_list popped
-last_of_one [] rest None few is some = refl
-last_of_one [] rest (Some x) few is some = absurd (let e = some.0 refl in omega (arith, e))
-last_of_one (y ∷ []) rest None few is some = absurd (let e = some.1 (omega arith) in cc)
-last_of_one (y ∷ []) [] (Some x) few is some = is
-last_of_one (y ∷ []) (r ∷ rest) (Some x) few is some = absurd (let e = ap length is in let more = length-append rest (x ∷ []) in omega (arith, e, more))
-last_of_one (y ∷ z ∷ ys) rest popped few is some = absurd (omega (arith, few))
-
-first_of_option : {X : Type 0} (o : Option X) → slice_get (option_to_list o) 0 ≡ o
-first_of_option None = refl
-first_of_option (Some x) = refl
-
-few_alike : {X : Type 0} (xs ys : List X) → length xs < 2 → IsPermutation xs ys → ys ≡ xs
-few_alike [] ys few same = none_alike ys same
-few_alike (x ∷ []) ys few same = one_permutation x ys same
-few_alike (x ∷ y ∷ xs) ys few same = absurd (omega (arith, few))
-
-pub popped_number :
-    (n : ℕ) (xs : List Auth) (ys rest : List Auth) (popped : Option Auth) → length (filter (has_number n) xs) < 2 → IsPermutation (filter (has_number n) xs) ys
-    → ys ≡ rest ++ option_to_list popped → (IsSome popped ↔ (0 < length ys)) → filter (has_number n) xs ≡ option_to_list popped
-popped_number n xs ys rest popped few same is some =
-    let alike = few_alike (filter (has_number n) xs) ys few same in
-    sym alike ∙ last_of_one ys rest popped (subst (λ l. length l < 2) (sym alike) few) is some
-
-pub only_number : (n : ℕ) (xs : List Auth) (found : Option Auth) → filter (has_number n) xs ≡ option_to_list found → auth_of_number n xs ≡ found
-only_number n xs found only = first_found (has_number n) xs ∙ ap (λ l. slice_get l 0) only ∙ first_of_option found
 
 -- ---- over the tables
 
@@ -106,9 +49,6 @@ module _
       go : (o : Option Rows) → map number_columns (filter (is_numbered n) (part_rows claim_part h o)) ≡ map (key_of h) (filter (has_number n) (auths_if_any o))
       go None = refl
       go (Some r) = ap (map number_columns) (claims_kept h n r.auths) ∙ map-map number_columns (λ x. claim_row h (claim_of x)) (filter (has_number n) r.auths)
-
-  pub few_numbered : length numbered < 2
-  few_numbered = at_most_one h n numbered (all_of_number n (auths_if_any (all.of_holder h))) numbers_differ
 
   module _ (claims : List Claim) (rows : List EntryRow)
       (same_claims : IsPermutation (items_if_any (claims_numbered n) (all.of_holder h)) claims) (claims_sorted : IsSorted (by_column 0) (map claim_cells claims))
@@ -130,8 +70,8 @@ module _
     have : AllByRecursion HasEntries numbered
     have = all-filter HasEntries (has_number n) (auths_if_any (all.of_holder h)) (held_entries charter all db.trees holds h)
 
-    pub number_found : (auths : List Auth) → AreAuths claims rows auths → IsPermutation numbered auths
-    number_found auths are = (in_order h numbered claims rows have numbers_differ its_claims claims_sorted its_rows sorted auths are).0
+    pub number_found : (auths : List Auth) → AreAuths claims rows auths → AreInOrder (λ (x : Auth). x.number) numbered auths
+    number_found = in_order h numbered claims rows have numbers_differ its_claims claims_sorted its_rows sorted
 
     pub never_no_number : (NumbersRise claims → (auths : List Auth) → ¬ AreAuths claims rows auths) → ⊥
     never_no_number = are_some h numbered claims rows have numbers_differ its_claims claims_sorted its_rows sorted

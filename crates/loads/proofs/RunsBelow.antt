@@ -2,6 +2,7 @@
 use Rattle.std.proofs.Common.{◌≡◌, ◌↔◌, inl, ℕ, pos, ◌^◌, ◌<◌, ◌≤◌, Bool, false, ◌&&◌, List, [], ◌∷◌, filter, map, drop, length, take, ◌++◌, option_to_list, IsSome, Option, Some, None, IsTrue, nat_le, refl, sym, ap, subst, ◌∙◌, arith, is_lt, IsPermutation, IsSortedBy}
 use Rattle.std.proofs.lemmas.Bool.{and_parts, and_from}
 use Rattle.std.proofs.lemmas.Bool.Decides.{nat_tests}
+use Rattle.std.proofs.lemmas.List.{length-append}
 use Rattle.std.proofs.lemmas.List.Sorted.{IsPermutation-sym, IsStrictWeakOrder-flip, ranks_by, sorted_far}
 use Rattle.std.specs.Ordering.{is_ge, nat_cmp}
 use Rattle.sqlite.specs.State.{State, Shown}
@@ -36,8 +37,16 @@ use Rattle.tables.proofs.Selecting.{from_table, picks, outputs}
 use Rattle.transactions.proofs.QueryLemmas.{reads_desk}
 use Rattle.tables.proofs.Texts.{below_tests, last_first, run_below_is}
 use Rattle.loads.proofs.Finding.{of_contents}
-use Rattle.loads.proofs.NumberFound.{last_of_one}
 use Rattle.loads.proofs.Overlapping.{address_le, family_tested}
+
+-- what is taken from the end of at most one
+last_of_one : {X : Type 0} (ys rest : List X) (popped : Option X) → length ys < 2 → ys ≡ rest ++ option_to_list popped → (IsSome popped ↔ (0 < length ys)) → ys ≡ option_to_list popped
+last_of_one [] rest None few is some = refl
+last_of_one [] rest (Some x) few is some = absurd (let e = some.0 refl in omega (arith, e))
+last_of_one (y ∷ []) rest None few is some = absurd (let e = some.1 (omega arith) in cc)
+last_of_one (y ∷ []) [] (Some x) few is some = is
+last_of_one (y ∷ []) (r ∷ rest) (Some x) few is some = absurd (let e = ap length is in let more = length-append rest (x ∷ []) in omega (arith, e, more))
+last_of_one (y ∷ z ∷ ys) rest popped few is some = absurd (omega (arith, few))
 
 abbrev below_query : Query
 below_query = from_table 8 below_tests (col 1 1 ∷ col 1 2 ∷ col 1 3 ∷ col 1 4 ∷ []) last_first (lit (Int (pos 1)))

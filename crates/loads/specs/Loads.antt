@@ -1,5 +1,5 @@
 -- What is loaded of the rows that the tables hold.
-use Rattle.std.specs.Prelude.{◌≡◌, ◌≤◌, ◌==◌, ◌&&◌, ℕ, Bool, true, false, not, nat_le, List, map, filter, length, Option, Some, None, is_some, option_to_list, Contains, IfSome, IsPermutation, IsSortedByKey, IsTrue, ⊤}
+use Rattle.std.specs.Prelude.{◌≡◌, ◌≤◌, ◌==◌, ◌&&◌, ◌↔◌, ℕ, Bool, true, false, not, nat_le, List, map, filter, length, Option, Some, None, is_some, option_map, Contains, IfSome, IsSomeAnd, IsPermutation, IsSortedByKey, IsTrue, ⊤}
 use Rattle.std.specs.List.{list_any}
 use Rattle.std.specs.Ordering.{nat_cmp}
 use Rattle.sqlite.specs.State.{State}
@@ -13,12 +13,14 @@ use Rattle.charters.specs.CharterSets.{CharterSets}
 use Rattle.registry.specs.declared.authorization.Auth.{Auth}
 use Rattle.registry.specs.declared.authorization.AuthTerms.{AuthTerms}
 use Rattle.registry.specs.declared.authorization.RoaPrefix.{RoaPrefix}
+use Rattle.registry.specs.declared.command.Command.{Command}
+use Rattle.registry.specs.declared.command.Command.TheVariants.{Register, Delegate, Transfer, Reclaim, Grant, Revoke, Create, Amend, Withdraw, Import, Slurm}
 use Rattle.registry.specs.declared.grant.Granted.{Granted}
 use Rattle.registry.specs.declared.limits.TheConstants.{MOST_AUTHORIZATIONS}
-use Rattle.registry.specs.declared.rows.CreateAnswers.{CreateAnswers}
+use Rattle.registry.specs.declared.rows.Answers.{Answers}
 use Rattle.registry.specs.declared.rows.HolderRows.{HolderRows}
 use Rattle.registry.specs.RoaPrefixes.{with_maxes}
-use Rattle.registry.specs.Rows.{Rows}
+use Rattle.registry.specs.Rows.{Rows, grants_if_any, auths_if_any}
 use Rattle.registry.specs.RowsOfAll.{AllRows}
 use Rattle.registry.specs.Terms.{IsVrpOfEntry, entries_have, gives_some}
 use Rattle.registry.specs.Values.{VrpFits}
@@ -26,10 +28,7 @@ use Rattle.registry.specs.Verdict.{auth_of_number, maxes_fit}
 use Rattle.slurm.specs.Exceptions.{Exceptions}
 use Rattle.slurm.specs.declared.set.NamedSlurm.{NamedSlurm}
 use Rattle.tables.specs.TablesHold.{items_if_any, TablesHold}
-use Rattle.loads.specs.declared.answers.ForAmend.{ForAmend}
-use Rattle.loads.specs.declared.answers.ForCreate.{ForCreate}
-use Rattle.loads.specs.declared.answers.ForGrant.{ForGrant}
-use Rattle.loads.specs.declared.load.Numbered.{Numbered}
+use Rattle.loads.specs.declared.answers.Loaded.{Loaded}
 
 -- this holds for all rows, and for those of one holder, whatever charter and rows the tables hold
 abbrev pub IsOfAll : (AllRows → Type 0) → State → Type 0
@@ -68,11 +67,10 @@ AreLoaded None (Some loaded) = ⊥
 AreLoaded (Some r) None = ⊥
 AreLoaded (Some r) (Some loaded) = IsLoaded r loaded
 
--- the addresses of a holder as maximal runs, where it is registered
-pub record AreHoldings (rows : Option Rows) (held : Option (List Span)) : Type 0 where
-  pub registered : is_some held ≡ is_some rows
-  pub maximal : IfSome held AreMaximal
-  pub runs : IfSome held (HaveSame (items_if_any (λ r. r.holdings) rows))
+-- the addresses of a holder, as rows exactly where it is registered
+pub record AreHoldings (rows : Option Rows) (part : Option HolderRows) : Type 0 where
+  pub registered : is_some part ≡ is_some rows
+  pub runs : IfSome part (λ p. HaveSame (items_if_any (λ r. r.holdings) rows) p.holdings)
 
 -- the authorizations of a holder; none where it is not registered
 abbrev pub auths_held : Option Rows → List Auth
@@ -82,12 +80,17 @@ auths_held rows = items_if_any (λ r. r.auths) rows
 abbrev pub AreGrants : Option Rows → List Granted → Type 0
 AreGrants rows grants = AreInOrder (λ (g : Granted). g.number) (items_if_any (λ r. r.grants) rows) grants
 
--- what is loaded of a holder and a number: the grants, by rising number, and the authorization of that number, if
--- there is one; no other has the number
-pub record AreNumbered (n : ℕ) (rows : Option Rows) (loaded : Numbered) : Type 0 where
-  pub grants : AreGrants rows loaded.grants.items
-  pub auth : auth_of_number n (auths_held rows) ≡ loaded.auth
-  pub only : filter (λ x. x.number == n) (auths_held rows) ≡ option_to_list loaded.auth
+-- what is loaded of a holder and a number: the grants, and the authorizations of that number, each by rising number
+pub record AreNumbered (n : ℕ) (rows : Option Rows) (part : HolderRows) : Type 0 where
+  pub grants : AreGrants rows part.grants.items
+  pub auths : AreInOrder (λ (x : Auth). x.number) (filter (λ x. x.number == n) (auths_held rows)) part.auths.items
+
+-- what is loaded of a holder and its counters: the grants, by rising number, and the counters, as rows exactly where it is
+-- registered
+pub record AreCounted (rows : Option Rows) (part : Option HolderRows) : Type 0 where
+  pub grants : AreGrants rows (grants_if_any part)
+  pub granted : option_map (λ (p : HolderRows). p.granted) part ≡ option_map (λ (r : Rows). r.granted) rows
+  pub created : option_map (λ (p : HolderRows). p.created) part ≡ option_map (λ (r : Rows). r.created) rows
 
 -- ---- the runs of all holders
 
@@ -102,21 +105,17 @@ pub record AreRunsApart (rows : AllRows) : Type 0 where
       (h k : List ℕ) (s t : Span) (a : Address) → HasRun rows h s → HasRun rows k t
       → span_has s a ≡ true → span_has t a ≡ true → h ≡ k
 
+-- an address of the prefix is in a run of some holder
+abbrev pub MeetsSome : AllRows → Prefix → Type 0
+MeetsSome rows p =
+    (h : List ℕ) × (r : Rows)
+    × (rows.of_holder h ≡ Some r) × (list_any (λ s. span_meets s p) r.holdings ≡ true)
+
 -- The answer is yes only if it is so; and if runs are apart, it is yes whenever it is so.
 abbrev pub IsToldWhereApart : AllRows → Bool → Type 0 → Type 0
 IsToldWhereApart rows told so = (IsTrue told → so) × (AreRunsApart rows → so → IsTrue told)
 
--- ---- what a grant, a create and an amendment are judged on
-
--- how many grants were made at a holder; none where it is not registered
-abbrev pub made_if_any : Option Rows → Option ℕ
-made_if_any None = None
-made_if_any (Some r) = Some r.granted
-
--- what is loaded of a holder for a grant or a revocation: the grants, by rising number, and how many were made
-pub record IsForGrant (rows : Option Rows) (loaded : ForGrant) : Type 0 where
-  pub grants : AreGrants rows loaded.grants.items
-  pub made : loaded.made ≡ made_if_any rows
+-- ---- what commands are judged on
 
 -- the number is not the one that is left out, if there is one
 abbrev pub is_other : Option ℕ → ℕ → Bool
@@ -138,7 +137,7 @@ created_if_any (Some r) = r.created
 
 -- The answers for a create of the terms at a holder. Whether they are given is answered only if they are held, and
 -- whether the holder has as many authorizations as it may have only if they are also not given.
-pub record AreAnswers (terms : AuthTerms) (rows : AllRows) (h : List ℕ) (answers : CreateAnswers) : Type 0 where
+pub record AreAnswers (terms : AuthTerms) (rows : AllRows) (h : List ℕ) (answers : Answers) : Type 0 where
   pub created : answers.created ≡ created_if_any (rows.of_holder h)
   pub holds : IsToldWhereApart rows answers.holds (AreHeld (items_if_any (λ r. r.holdings) (rows.of_holder h)) terms.entries)
   pub gives : IsTrue answers.holds → answers.gives ≡ some_gives None terms.asn terms.entries (auths_held (rows.of_holder h))
@@ -147,18 +146,39 @@ pub record AreAnswers (terms : AuthTerms) (rows : AllRows) (h : List ℕ) (answe
       → answers.is_full
       ≡ (nat_le MOST_AUTHORIZATIONS (created_if_any (rows.of_holder h)) && nat_le MOST_AUTHORIZATIONS (length (auths_held (rows.of_holder h))))
 
--- what is loaded of a holder for a create of the terms: the grants, by rising number, and those answers
-pub record IsForCreate (terms : AuthTerms) (rows : AllRows) (h : List ℕ) (loaded : ForCreate) : Type 0 where
-  pub grants : AreGrants (rows.of_holder h) loaded.grants.items
+-- What is loaded for a delegation of the prefix: the addresses of the holder, and, if runs are apart, whether an address of
+-- the prefix is in a run of some holder.
+pub record IsForDelegate (h : List ℕ) (p : Prefix) (rows : AllRows) (loaded : Loaded) : Type 0 where
+  pub holdings : AreHoldings (rows.of_holder h) loaded.rows
+  pub taken : AreRunsApart rows → (IsTrue loaded.answers.taken ↔ MeetsSome rows p)
+
+-- what is loaded of a holder for a create of the terms: the grants, by rising number, the counters, and those answers
+pub record IsForCreate (h : List ℕ) (terms : AuthTerms) (rows : AllRows) (loaded : Loaded) : Type 0 where
+  pub counted : AreCounted (rows.of_holder h) loaded.rows
   pub answers : AreAnswers terms rows h loaded.answers
 
 -- What is loaded of a holder for an amendment to these maxLengths: what is loaded of the number, and where they fit its
 -- authorization, whether another one gives the AS with an entry of it that has its new maxLength.
-pub record IsForAmend (n : ℕ) (maxes : List ℕ) (rows : Option Rows) (loaded : ForAmend) : Type 0 where
-  pub numbered : AreNumbered n rows loaded.numbered
+pub record IsForAmend (n : ℕ) (maxes : List ℕ) (rows : Option Rows) (loaded : Loaded) : Type 0 where
+  pub numbered : IsSomeAnd loaded.rows (AreNumbered n rows)
   pub shared :
-      IfSome loaded.numbered.auth (λ x. maxes_fit maxes x.entries ≡ true
-      → loaded.is_shared ≡ some_gives (Some n) x.asn (with_maxes maxes x.entries) (auths_held rows))
+      IfSome (auth_of_number n (auths_if_any loaded.rows)) (λ x. maxes_fit maxes x.entries ≡ true
+      → loaded.answers.gives ≡ some_gives (Some n) x.asn (with_maxes maxes x.entries) (auths_held rows))
+
+-- what is loaded for a command
+abbrev pub IsLoadedFor : Command → AllRows → Loaded → Type 0
+IsLoadedFor (Register h) rows loaded = AreCounted (rows.of_holder h) loaded.rows
+IsLoadedFor (Delegate h p) rows loaded = IsForDelegate h p rows loaded
+IsLoadedFor (Transfer p giver taker) rows loaded =
+    AreLoaded (rows.of_holder giver) loaded.rows × AreLoaded (rows.of_holder taker) loaded.taker
+IsLoadedFor (Reclaim h p) rows loaded = AreLoaded (rows.of_holder h) loaded.rows
+IsLoadedFor (Grant h name role scope until) rows loaded = AreCounted (rows.of_holder h) loaded.rows
+IsLoadedFor (Revoke h n) rows loaded = AreCounted (rows.of_holder h) loaded.rows
+IsLoadedFor (Create h terms) rows loaded = IsForCreate h terms rows loaded
+IsLoadedFor (Amend h n maxes until) rows loaded = IsForAmend n maxes.items (rows.of_holder h) loaded
+IsLoadedFor (Withdraw h n) rows loaded = IsSomeAnd loaded.rows (AreNumbered n (rows.of_holder h))
+IsLoadedFor (Import h listed) rows loaded = AreLoaded (rows.of_holder h) loaded.rows
+IsLoadedFor (Slurm files) rows loaded = ⊤
 
 -- the SLURM files that are loaded, each without its name, by rising name
 abbrev pub AreFilesOf : List NamedSlurm → List Exceptions → Type 0
@@ -170,9 +190,3 @@ AllGiveOn rows day =
     (h : List ℕ) (r : Rows) (x : Auth) (e : RoaPrefix)
     → rows.of_holder h ≡ Some r → Contains r.auths x → Contains x.entries e → x.from ≤ day → day ≤ x.until
     → (v : Vrp) × IsVrpOfEntry e x.asn v × VrpFits v
-
--- an address of the prefix is in a run of some holder
-abbrev pub MeetsSome : AllRows → Prefix → Type 0
-MeetsSome rows p =
-    (h : List ℕ) × (r : Rows)
-    × (rows.of_holder h ≡ Some r) × (list_any (λ s. span_meets s p) r.holdings ≡ true)

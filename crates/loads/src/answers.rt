@@ -1,74 +1,97 @@
-//! What the rules of a grant, of a create and of an amendment read, loaded from the tables.
-ghost use Rattle.std.specs.Prelude.{◌≡◌, ◌∷◌, ◌↔◌, [], true, ℕ, Some, Err, IfOk, IfSome, IsPermutation, IsTrue, length, nat_le, option_copied};
+//! What the rules of a command read, loaded from the tables.
+ghost use Rattle.std.specs.Prelude.{◌≡◌, ◌∷◌, ◌↔◌, [], true, ℕ, Option, Some, Err, IfOk, IfSome, IsPermutation, IsTrue, length, nat_le, option_copied};
 ghost use Rattle.std.specs.List.{list_any};
 ghost use Rattle.sqlite.specs.Held.{state};
 ghost use Rattle.registry.specs.declared.limits.TheConstants.{MOST_AUTHORIZATIONS};
 ghost use Rattle.registry.specs.RoaPrefixes.{with_maxes};
+ghost use Rattle.registry.specs.Rows.{Rows};
 ghost use Rattle.registry.specs.Values.{FitIfAny};
 ghost use Rattle.registry.specs.Verdict.{maxes_fit};
 ghost use Rattle.tables.specs.TablesHold.{items_if_any};
 ghost use Rattle.transactions.specs.Queries.{IsAsked, IsClean, IsReadyToAsk};
-ghost use Rattle.loads.specs.Loads.{AreAnswers, AreHeld, IsForAmend, IsForCreate, IsForGrant, IsOf, IsOfAll, IsOpenWith, IsToldWhereApart, auths_held, created_if_any, is_other, made_if_any, some_gives};
+ghost use Rattle.loads.specs.Loads.{AreAnswers, AreCounted, AreHeld, IsForAmend, IsForCreate, IsForDelegate, IsOf, IsOfAll, IsOpenWith, IsToldWhereApart, auths_held, created_if_any, is_other, some_gives};
 ghost use Rattle.loads.specs.steps.Queries.{entries_given};
 
-use crate::below::is_held;
-use crate::load::{Numbered, load_counters, load_grants, load_numbered, load_selected};
-use addr::{Asn, Name};
-use registry::{Auth, AuthTerms, CreateAnswers, Granted, MOST_AUTHORIZATIONS, RoaPrefix};
+use crate::below::{is_held, is_taken};
+use crate::load::{load_counters, load_grants, load_holdings, load_numbered, load_selected};
+use addr::{Asn, Holdings, Name, Prefix};
+use registry::{
+    Answers, Auth, AuthTerms, HolderRows, MOST_AUTHORIZATIONS, RoaPrefix, auth_of_number,
+};
 use sqlite::{Alter, Connection, Error};
 use std::alloc::Global;
 use tables::{
-    EntryRow, SELECT_GIVEN_ENTRIES, SELECT_THOUSANDTH_CLAIM, address_bytes, given_values,
+    Counters, EntryRow, SELECT_GIVEN_ENTRIES, SELECT_THOUSANDTH_CLAIM, address_bytes, given_values,
     name_values,
 };
 use transactions::{StoreFault, ask};
 
-// ---- for a grant
-
-/// What is loaded of a holder for a grant or a revocation.
+/// What is loaded for a command: rows with at least what its rules read, of the holder that it
+/// names, and of the taker of a transfer; and what the rules read beside rows.
 #[derive(Drop)]
-pub struct ForGrant {
-    /// The grants that are not revoked, by rising number.
-    pub grants: Vec<Granted>,
-    /// How many grants were made, the revoked ones too; `None` if the holder is not registered.
-    pub made: Option<u32>,
+pub struct Loaded {
+    pub rows: Option<HolderRows>,
+    pub taker: Option<HolderRows>,
+    pub answers: Answers,
 }
 
-/// How many grants were made at the holder; `None` if it is not registered.
-fn load_made<S: Alter>(
+// ---- for a registration, a grant and a revocation
+
+/// The grants of the holder and its counters, as rows with nothing else, if it is registered.
+pub fn load_grants_counted<S: Alter>(
     conn: &mut Connection<S>,
     alloc: Global,
     holder: &Name,
-) -> Result<Option<u32>, StoreFault>
+) -> Result<Option<HolderRows>, StoreFault>
     requires { IsReadyToAsk S.Store conn.old }
     ensures asked { IsAsked S.Store conn.old conn.new result }
-    ensures found { IsClean S.Store conn.new → IfOk result (λ made.
-        IsOf (λ rows. made ≡ made_if_any rows) holder.now (state S.Store conn.old)) }
+    ensures found { IsClean S.Store conn.new → IfOk result (λ part.
+        IsOf (λ rows. AreCounted rows part) holder.now (state S.Store conn.old)) }
     ensures schema { IsClean S.Store conn.new → result ≡ Err StoreFault.Schema
         → IsOpenWith (λ all. ¬ FitIfAny (all.of_holder holder.now)) (state S.Store conn.old) }
 {
-    match load_counters(conn, alloc, holder)? {
-        Some(counters) => Ok(Some(counters.granted)),
-        None => Ok(None),
-    }
+    let Some(Counters { granted, created }) = load_counters(conn, alloc, holder)? else {
+        return Ok(None);
+    };
+    let grants = load_grants(conn, alloc, holder)?;
+    Ok(Some(HolderRows {
+        holdings: Holdings::new(alloc),
+        grants,
+        auths: Vec::new(alloc),
+        granted,
+        created,
+    }))
 }
 
-/// What the rules of a grant or a revocation at the holder read.
-pub fn load_for_grant<S: Alter>(
+// ---- for a delegation
+
+/// What the rules of a delegation of the prefix to the holder read.
+pub fn load_for_delegate<S: Alter>(
     conn: &mut Connection<S>,
     alloc: Global,
     holder: &Name,
-) -> Result<ForGrant, StoreFault>
+    prefix: &Prefix,
+) -> Result<Loaded, StoreFault>
     requires { IsReadyToAsk S.Store conn.old }
     ensures asked { IsAsked S.Store conn.old conn.new result }
     ensures found { IsClean S.Store conn.new → IfOk result (λ loaded.
-        IsOf (λ rows. IsForGrant rows loaded) holder.now (state S.Store conn.old)) }
+        IsOfAll (λ rows. IsForDelegate holder.now prefix.now rows loaded)
+        (state S.Store conn.old)) }
     ensures schema { IsClean S.Store conn.new → result ≡ Err StoreFault.Schema
         → IsOpenWith (λ all. ¬ FitIfAny (all.of_holder holder.now)) (state S.Store conn.old) }
 {
-    let grants = load_grants(conn, alloc, holder)?;
-    let made = load_made(conn, alloc, holder)?;
-    Ok(ForGrant { grants, made })
+    // All runs, though few are beside the prefix: the edit is made of the maximal runs that the
+    // holder has before and after.
+    let rows = load_holdings(conn, alloc, holder)?;
+    let taken = is_taken(conn, prefix)?;
+    Ok(Loaded {
+        rows,
+        taker: None,
+        answers: Answers {
+            taken,
+            ..Answers::NONE
+        },
+    })
 }
 
 // ---- whether a VRP is given
@@ -161,22 +184,14 @@ fn some_given<S: Alter>(
 
 // ---- for a create
 
-/// How many authorizations were made at the holder; 0 if it is not registered.
-fn load_created<S: Alter>(
-    conn: &mut Connection<S>,
-    alloc: Global,
-    holder: &Name,
-) -> Result<u32, StoreFault>
-    requires { IsReadyToAsk S.Store conn.old }
-    ensures asked { IsAsked S.Store conn.old conn.new result }
-    ensures found { IsClean S.Store conn.new → IfOk result (λ created.
-        IsOf (λ rows. created ≡ created_if_any rows) holder.now (state S.Store conn.old)) }
-    ensures schema { IsClean S.Store conn.new → result ≡ Err StoreFault.Schema
-        → IsOpenWith (λ all. ¬ FitIfAny (all.of_holder holder.now)) (state S.Store conn.old) }
+/// How many authorizations were made at the holder; 0 if there are no rows.
+fn created_of(rows: Option<&HolderRows>) -> u32
+    ensures { (held : Option Rows) → AreCounted held (option_copied rows.entry)
+        → result ≡ created_if_any held }
 {
-    match load_counters(conn, alloc, holder)? {
-        Some(counters) => Ok(counters.created),
-        None => Ok(0),
+    match rows {
+        Some(rows) => rows.created,
+        None => 0,
     }
 }
 
@@ -217,30 +232,31 @@ fn load_full<S: Alter>(conn: &mut Connection<S>, holder: &Name) -> Result<bool, 
     Ok(!found.is_empty())
 }
 
-/// What the rules of a create read beside the grants. Nothing more is read once an answer denies
-/// the create, and authorizations are not counted if fewer were ever made than may be active.
+/// What the rules of a create read beside the grants, if so many authorizations were made at the
+/// holder. Nothing more is read once an answer denies the create, and authorizations are not
+/// counted if fewer were ever made than may be active.
 fn load_answers<S: Alter>(
     conn: &mut Connection<S>,
     alloc: Global,
     holder: &Name,
+    created: u32,
     terms: &AuthTerms,
-) -> Result<CreateAnswers, StoreFault>
-    requires { IsReadyToAsk S.Store conn.old }
+) -> Result<Answers, StoreFault>
+    requires ready { IsReadyToAsk S.Store conn.old }
+    requires is_open { IsClean S.Store conn.old → IsTrue (state S.Store conn.old).is_open }
     ensures asked { IsAsked S.Store conn.old conn.new result }
     ensures found { IsClean S.Store conn.new → IfOk result (λ answers.
-        IsOfAll (λ rows. AreAnswers terms.now rows holder.now answers)
-        (state S.Store conn.old)) }
+        IsOfAll (λ rows. created ≡ created_if_any (rows.of_holder holder.now)
+        → AreAnswers terms.now rows holder.now answers) (state S.Store conn.old)) }
     ensures schema { IsClean S.Store conn.new → result ≡ Err StoreFault.Schema
         → IsOpenWith (λ all. ¬ FitIfAny (all.of_holder holder.now)) (state S.Store conn.old) }
 {
     let entries = terms.entries.as_slice();
-    let created = load_created(conn, alloc, holder)?;
     let holds = are_held(conn, holder, entries)?;
-    let mut answers = CreateAnswers {
+    let mut answers = Answers {
         created,
         holds,
-        gives: false,
-        is_full: false,
+        ..Answers::NONE
     };
     if !holds {
         return Ok(answers);
@@ -253,44 +269,32 @@ fn load_answers<S: Alter>(
     Ok(answers)
 }
 
-/// What is loaded of a holder for a create.
-#[derive(Drop)]
-pub struct ForCreate {
-    /// The grants that are not revoked, by rising number.
-    pub grants: Vec<Granted>,
-    pub answers: CreateAnswers,
-}
-
 /// What the rules of a create of the terms at the holder read.
 pub fn load_for_create<S: Alter>(
     conn: &mut Connection<S>,
     alloc: Global,
     holder: &Name,
     terms: &AuthTerms,
-) -> Result<ForCreate, StoreFault>
+) -> Result<Loaded, StoreFault>
     requires { IsReadyToAsk S.Store conn.old }
     ensures asked { IsAsked S.Store conn.old conn.new result }
     ensures found { IsClean S.Store conn.new → IfOk result (λ loaded.
-        IsOfAll (λ rows. IsForCreate terms.now rows holder.now loaded)
+        IsOfAll (λ rows. IsForCreate holder.now terms.now rows loaded)
         (state S.Store conn.old)) }
     ensures schema { IsClean S.Store conn.new → result ≡ Err StoreFault.Schema
         → IsOpenWith (λ all. ¬ FitIfAny (all.of_holder holder.now)) (state S.Store conn.old) }
 {
-    let grants = load_grants(conn, alloc, holder)?;
-    let answers = load_answers(conn, alloc, holder, terms)?;
-    Ok(ForCreate { grants, answers })
+    let rows = load_grants_counted(conn, alloc, holder)?;
+    let created = created_of(rows.as_ref());
+    let answers = load_answers(conn, alloc, holder, created, terms)?;
+    Ok(Loaded {
+        rows,
+        taker: None,
+        answers,
+    })
 }
 
 // ---- for an amendment
-
-/// What is loaded of a holder for an amendment of one of its authorizations.
-#[derive(Drop)]
-pub struct ForAmend {
-    pub numbered: Numbered,
-    /// Whether another authorization gives a VRP that the amended one would give. False, without a
-    /// query, if none has the number or the maxLengths do not fit it.
-    pub is_shared: bool,
-}
 
 /// Whether another authorization of the holder gives a VRP that the found one would give with the
 /// maxLengths. False, without a query, if none was found or they do not fit it.
@@ -330,7 +334,7 @@ pub fn load_for_amend<S: Alter>(
     holder: &Name,
     number: u32,
     maxes: &[u8],
-) -> Result<ForAmend, StoreFault>
+) -> Result<Loaded, StoreFault>
     requires { IsReadyToAsk S.Store conn.old }
     ensures asked { IsAsked S.Store conn.old conn.new result }
     ensures found { IsClean S.Store conn.new → IfOk result (λ loaded.
@@ -339,10 +343,15 @@ pub fn load_for_amend<S: Alter>(
     ensures schema { IsClean S.Store conn.new → result ≡ Err StoreFault.Schema
         → IsOpenWith (λ all. ¬ FitIfAny (all.of_holder holder.now)) (state S.Store conn.old) }
 {
-    let numbered = load_numbered(conn, alloc, holder, number)?;
-    let is_shared = load_shared(conn, alloc, holder, number, numbered.auth.as_ref(), maxes)?;
-    Ok(ForAmend {
-        numbered,
-        is_shared,
+    let part = load_numbered(conn, alloc, holder, number)?;
+    let found = auth_of_number(&part.auths, number);
+    let gives = load_shared(conn, alloc, holder, number, found, maxes)?;
+    Ok(Loaded {
+        rows: Some(part),
+        taker: None,
+        answers: Answers {
+            gives,
+            ..Answers::NONE
+        },
     })
 }

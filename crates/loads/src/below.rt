@@ -80,7 +80,7 @@ pub(crate) fn is_held<S: Alter>(
 }
 
 /// Whether some holder holds an address of the prefix, if runs are apart.
-pub fn is_taken<S: Alter>(conn: &mut Connection<S>, prefix: &Prefix) -> Result<bool, Error>
+pub(crate) fn is_taken<S: Alter>(conn: &mut Connection<S>, prefix: &Prefix) -> Result<bool, Error>
     requires { IsReadyToAsk S.Store conn.old }
     ensures asked { IsAsked S.Store conn.old conn.new result }
     ensures found { IsClean S.Store conn.new → IfOk result (λ taken.

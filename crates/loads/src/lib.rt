@@ -9,7 +9,8 @@ mod load;
 mod select;
 
 pub use across::some_overlap;
-pub use answers::{ForAmend, ForCreate, ForGrant, load_for_amend, load_for_create, load_for_grant};
-pub use below::is_taken;
+pub use answers::{
+    Loaded, load_for_amend, load_for_create, load_for_delegate, load_grants_counted,
+};
 pub use exceptions::load_files;
-pub use load::{Numbered, is_registered, load_holdings, load_numbered, load_rows, load_vrps};
+pub use load::{is_registered, load_numbered, load_rows, load_vrps};

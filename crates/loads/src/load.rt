@@ -1,5 +1,5 @@
 //! What is loaded from the tables.
-ghost use Rattle.std.specs.Prelude.{◌≡◌, ◌≢◌, ◌↔◌, ◌==◌, ℕ, List, map, filter, is_some, option_to_list, All, AllPairs, Contains, Err, IfOk, IsPermutation, IsSorted};
+ghost use Rattle.std.specs.Prelude.{◌≡◌, ◌≢◌, ◌↔◌, ◌==◌, ℕ, List, map, filter, is_some, All, AllPairs, Contains, Err, IfOk, IsPermutation, IsSorted};
 ghost use Rattle.std.specs.declared.cmp.Ordering.{Ordering};
 ghost use Rattle.sqlite.specs.Given.{IsPlain};
 ghost use Rattle.sqlite.specs.Listing.{understood};
@@ -12,7 +12,6 @@ ghost use Rattle.registry.specs.declared.authorization.Auth.{Auth};
 ghost use Rattle.registry.specs.Rows.{Rows};
 ghost use Rattle.registry.specs.RowsOfAll.{IsGivenOn};
 ghost use Rattle.registry.specs.Values.{FitIfAny};
-ghost use Rattle.registry.specs.Verdict.{auth_of_number};
 ghost use Rattle.loads.specs.Loads.{HaveSame, AreGrants, AreHoldings, AreInOrder, AreLoaded, AreNumbered, AllGiveOn, IsOf, IsOfAll, IsOpenWith, auths_held};
 ghost use Rattle.tables.specs.Tables.{OverDesk};
 ghost use Rattle.tables.specs.TablesHold.{items_if_any};
@@ -150,24 +149,30 @@ fn load_runs<S: Alter>(
     Ok(holdings_of(alloc, &spans)?)
 }
 
-/// The addresses of the holder, if it is registered.
-pub fn load_holdings<S: Alter>(
+/// The addresses of the holder, as rows with nothing else, if it is registered.
+pub(crate) fn load_holdings<S: Alter>(
     conn: &mut Connection<S>,
     alloc: Global,
     holder: &Name,
-) -> Result<Option<Holdings>, StoreFault>
+) -> Result<Option<HolderRows>, StoreFault>
     requires { IsReadyToAsk S.Store conn.old }
     ensures asked { IsAsked S.Store conn.old conn.new result }
-    ensures found { IsClean S.Store conn.new → IfOk result (λ held.
-        IsOf (λ rows. AreHoldings rows held) holder.now (state S.Store conn.old)) }
+    ensures found { IsClean S.Store conn.new → IfOk result (λ part.
+        IsOf (λ rows. AreHoldings rows part) holder.now (state S.Store conn.old)) }
     ensures schema { IsClean S.Store conn.new → result ≡ Err StoreFault.Schema
         → IsOpenWith (λ all. ¬ FitIfAny (all.of_holder holder.now)) (state S.Store conn.old) }
 {
     if !is_registered(conn, alloc, holder)? {
         return Ok(None);
     }
-    let runs = load_runs(conn, alloc, holder)?;
-    Ok(Some(runs))
+    let holdings = load_runs(conn, alloc, holder)?;
+    Ok(Some(HolderRows {
+        holdings,
+        grants: Vec::new(alloc),
+        auths: Vec::new(alloc),
+        granted: 0,
+        created: 0,
+    }))
 }
 
 /// The grants of the holder that are not revoked, by rising number.
@@ -208,20 +213,18 @@ fn load_auths<S: Alter>(
     auths_of(alloc, &claims, &rows)?.ok_or(StoreFault::Schema)
 }
 
-/// The authorization of the holder that has the number, if there is one.
-fn load_auth<S: Alter>(
+/// The authorizations of the holder that have the number. In a history there is one at most.
+fn load_auths_numbered<S: Alter>(
     conn: &mut Connection<S>,
     alloc: Global,
     holder: &Name,
     number: u32,
-) -> Result<Option<Auth>, StoreFault>
+) -> Result<Vec<Auth>, StoreFault>
     requires { IsReadyToAsk S.Store conn.old }
     ensures asked { IsAsked S.Store conn.old conn.new result }
-    ensures found { IsClean S.Store conn.new → IfOk result (λ auth.
-        IsOf (λ rows. auth_of_number number (auths_held rows) ≡ auth)
-        holder.now (state S.Store conn.old)) }
-    ensures only { IsClean S.Store conn.new → IfOk result (λ auth.
-        IsOf (λ rows. filter (λ x. x.number == number) (auths_held rows) ≡ option_to_list auth)
+    ensures found { IsClean S.Store conn.new → IfOk result (λ auths.
+        IsOf (λ rows. AreInOrder (λ (x : Auth). x.number)
+        (filter (λ x. x.number == number) (auths_held rows)) auths.items)
         holder.now (state S.Store conn.old)) }
     ensures schema { IsClean S.Store conn.new → result ≡ Err StoreFault.Schema
         → IsOpenWith (λ all. ¬ FitIfAny (all.of_holder holder.now)) (state S.Store conn.old) }
@@ -232,37 +235,32 @@ fn load_auth<S: Alter>(
     let values = number_values(holder, number);
     let claims: Vec<Claim> = load_selected(conn, alloc, SELECT_NUMBERED_CLAIM, &values)?;
     let rows: Vec<EntryRow> = load_selected(conn, alloc, SELECT_NUMBERED_ENTRIES, &values)?;
-    let mut auths = auths_of(alloc, &claims, &rows)?.ok_or(StoreFault::Schema)?;
-    // The number is that of one authorization at most.
-    Ok(auths.pop())
+    auths_of(alloc, &claims, &rows)?.ok_or(StoreFault::Schema)
 }
 
-/// What is loaded of a holder for a request on one of its authorizations.
-#[derive(Drop)]
-pub struct Numbered {
-    /// The grants that are not revoked, by rising number.
-    pub grants: Vec<Granted>,
-    /// The authorization that has the number, if there is one.
-    pub auth: Option<Auth>,
-}
-
-/// The grants of the holder, and its authorization that has the number.
+/// The grants of the holder and its authorization that has the number, as rows with nothing else.
 pub fn load_numbered<S: Alter>(
     conn: &mut Connection<S>,
     alloc: Global,
     holder: &Name,
     number: u32,
-) -> Result<Numbered, StoreFault>
+) -> Result<HolderRows, StoreFault>
     requires { IsReadyToAsk S.Store conn.old }
     ensures asked { IsAsked S.Store conn.old conn.new result }
-    ensures found { IsClean S.Store conn.new → IfOk result (λ loaded.
-        IsOf (λ rows. AreNumbered number rows loaded) holder.now (state S.Store conn.old)) }
+    ensures found { IsClean S.Store conn.new → IfOk result (λ part.
+        IsOf (λ rows. AreNumbered number rows part) holder.now (state S.Store conn.old)) }
     ensures schema { IsClean S.Store conn.new → result ≡ Err StoreFault.Schema
         → IsOpenWith (λ all. ¬ FitIfAny (all.of_holder holder.now)) (state S.Store conn.old) }
 {
     let grants = load_grants(conn, alloc, holder)?;
-    let auth = load_auth(conn, alloc, holder, number)?;
-    Ok(Numbered { grants, auth })
+    let auths = load_auths_numbered(conn, alloc, holder, number)?;
+    Ok(HolderRows {
+        holdings: Holdings::new(alloc),
+        grants,
+        auths,
+        granted: 0,
+        created: 0,
+    })
 }
 
 /// The rows of the holder, if it is registered.

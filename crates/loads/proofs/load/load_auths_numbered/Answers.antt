@@ -1,24 +1,21 @@
-use Rattle.std.proofs.Common.{[], ◌∷◌, filter, arith, refl, sym, subst, ◌∙◌, IsPermutation}
-use Rattle.std.specs.Prelude.{IfOk, Result}
-use Rattle.std.specs.Global.{Vec}
+use Rattle.std.proofs.Common.{[], ◌∷◌, filter, arith, refl, sym, ◌∙◌}
 use Rattle.sqlite.specs.Held.{state}
 use Rattle.sqlite.specs.State.{HasCleanDisk}
 use Rattle.sqlite_value.specs.declared.value.Value.TheVariants.{Text}
-use Rattle.transactions.specs.declared.fault.StoreFault.{StoreFault}
 use Rattle.transactions.specs.declared.fault.StoreFault.TheVariants.{Schema}
 use Rattle.registry.specs.declared.authorization.Auth.{Auth}
 use Rattle.tables.specs.Cells.{number_cell}
 use Rattle.tables.specs.Decode.{ClaimFits, EntryRowFits}
-use Rattle.tables.specs.TablesHold.{items_if_any}
 use Rattle.tables.proofs.ClaimTexts.{numbered_claim_is, numbered_entries_is}
 use Rattle.tables.proofs.GroupCells.{by_entry}
+use Rattle.loads.specs.Loads.{AreInOrder, IsOf, auths_held}
 use Rattle.loads.specs.steps.Queries.{by_column}
 use Rattle.loads.proofs.AuthsFound.{if_made, only_refused}
 use Rattle.loads.proofs.Finding.{claims_numbered, entries_numbered, has_number, selects_claim, selects_entries}
 use Rattle.loads.proofs.Loading.{held_before, never_fit}
-use Rattle.loads.proofs.NumberFound.{few_numbered, never_no_number, number_found, numbered_claims_fit, numbered_entries_fit, only_number, popped_number}
+use Rattle.loads.proofs.NumberFound.{never_no_number, number_found, numbered_claims_fit, numbered_entries_fit}
 use Rattle.transactions.proofs.QueryLemmas.{refused_by}
-use Rattle.loads.proofs.load.load_auth.Goals as goal
+use Rattle.loads.proofs.load.load_auths_numbered.Goals as goal
 
 pub load_selected-requires-clause-plain : goal.load_selected-requires-clause-plain
 load_selected-requires-clause-plain g c = numbered_claim_is.plain
@@ -46,8 +43,8 @@ returns-in_err-rows-clause-schema g c clean is =
     (c.load_selected-2.ensures.schema h (Text h ∷ number_cell n ∷ []) (entries_numbered n) by_entry c.number_values-values.ensures (selects_entries h n) clean
     (refused_by c.load_selected-2.result c.from_residual-in_err-rows.result c.in_err-rows.field-0.0 c.in_err-rows.was c.from_residual-in_err-rows.ensures.1 is))
 
-pub returns-in_err-auths-clause-schema : goal.returns-in_err-auths-clause-schema
-returns-in_err-auths-clause-schema g c clean is =
+pub returns-clause-found : goal.returns-clause-found
+returns-clause-found g c clean =
     let h = c.args.holder.now in
     let n = c.args.number in
     let old = state g.S.Store c.args.conn.now in
@@ -58,8 +55,27 @@ returns-in_err-auths-clause-schema g c clean is =
     let first : HasCleanDisk old = omega (arith, clean_1, c.load_selected.ensures.asked.survives.clean) in
     let read = c.in_ok-claims.ensures.asked.same clean_1 in
     let opened = read.0.was_open in
-    let refused = refused_by c.ok_or.result c.from_residual-in_err-auths.result c.in_err-auths.field-0.0 c.in_err-auths.was c.from_residual-in_err-auths.ensures.1 is in
-    let none = only_refused c.in_ok-auths_of.field-0 Schema _ _ (rw (c.deref.ensures.value, c.deref-2.ensures.value) at c.in_ok-auths_of.ensures) (sym c.ok_or.ensures.value ∙ refused) in (
+    if_made c.in_ok-auths_of.field-0 Schema c.ok_or.result _ _
+    (λ auths. IsOf (λ held. AreInOrder (λ (x : Auth). x.number) (filter (has_number n) (auths_held held)) auths.items) h old) c.ok_or.ensures.value (rw (c.deref.ensures.value, c.deref-2.ensures.value) at c.in_ok-auths_of.ensures) (λ made are charter all holds.
+    number_found c.claims_differ.ensures charter all old.now (c.schema-schema.ensures.live opened).0 (c.requires.tables first opened) holds h n c.in_ok-claims.claims.items c.in_ok-rows.rows.items
+    (c.in_ok-claims.ensures.found h params (claims_numbered n) (by_column 0) bound_as (selects_claim h n) clean_1 charter all holds)
+    (c.in_ok-claims.ensures.rising h params (claims_numbered n) (by_column 0) bound_as (selects_claim h n) clean_1)
+    (c.in_ok-rows.ensures.found h params (entries_numbered n) by_entry bound_as (selects_entries h n) clean charter all (held_before old mid read.0.now_is charter all holds))
+    (c.in_ok-rows.ensures.rising h params (entries_numbered n) by_entry bound_as (selects_entries h n) clean) made.items are)
+
+pub returns-clause-schema : goal.returns-clause-schema
+returns-clause-schema g c clean is =
+    let h = c.args.holder.now in
+    let n = c.args.number in
+    let old = state g.S.Store c.args.conn.now in
+    let mid = state g.S.Store c.load_selected.new.conn in
+    let params = Text h ∷ number_cell n ∷ [] in
+    let bound_as = c.number_values-values.ensures in
+    let clean_1 : HasCleanDisk mid = omega (arith, clean, c.load_selected-2.ensures.asked.survives.clean) in
+    let first : HasCleanDisk old = omega (arith, clean_1, c.load_selected.ensures.asked.survives.clean) in
+    let read = c.in_ok-claims.ensures.asked.same clean_1 in
+    let opened = read.0.was_open in
+    let none = only_refused c.in_ok-auths_of.field-0 Schema _ _ (rw (c.deref.ensures.value, c.deref-2.ensures.value) at c.in_ok-auths_of.ensures) (sym c.ok_or.ensures.value ∙ is) in (
       opened,
       λ charter all holds fit.
           never_no_number c.claims_differ.ensures charter all old.now (c.schema-schema.ensures.live opened).0 (c.requires.tables first opened) holds h n c.in_ok-claims.claims.items c.in_ok-rows.rows.items
@@ -68,33 +84,3 @@ returns-in_err-auths-clause-schema g c clean is =
           (c.in_ok-rows.ensures.found h params (entries_numbered n) by_entry bound_as (selects_entries h n) clean charter all (held_before old mid read.0.now_is charter all holds))
           (c.in_ok-rows.ensures.rising h params (entries_numbered n) by_entry bound_as (selects_entries h n) clean) none,
     )
-
-pub returns-clause-only : goal.returns-clause-only
-returns-clause-only g c clean charter all holds =
-    let h = c.args.holder.now in
-    let n = c.args.number in
-    let old = state g.S.Store c.args.conn.now in
-    let mid = state g.S.Store c.load_selected.new.conn in
-    let params = Text h ∷ number_cell n ∷ [] in
-    let bound_as = c.number_values-values.ensures in
-    let clean_1 : HasCleanDisk mid = omega (arith, clean, c.load_selected-2.ensures.asked.survives.clean) in
-    let first : HasCleanDisk old = omega (arith, clean_1, c.load_selected.ensures.asked.survives.clean) in
-    let read = c.in_ok-claims.ensures.asked.same clean_1 in
-    let opened = read.0.was_open in
-    let sound = (c.schema-schema.ensures.live opened).0 in
-    let tables = c.requires.tables first opened in
-    let xs = items_if_any (λ r. r.auths) (all.of_holder h) in
-    let Found : Vec Auth → Type 0 = λ auths. IsPermutation (filter (has_number n) xs) auths.items in
-    let same =
-    subst (λ (r : Result (Vec Auth) StoreFault). IfOk r Found) c.in_ok-auths.was
-    (if_made c.in_ok-auths_of.field-0 Schema c.ok_or.result _ _ Found c.ok_or.ensures.value (rw (c.deref.ensures.value, c.deref-2.ensures.value) at c.in_ok-auths_of.ensures) (λ made are.
-    number_found c.claims_differ.ensures charter all old.now sound tables holds h n c.in_ok-claims.claims.items c.in_ok-rows.rows.items
-    (c.in_ok-claims.ensures.found h params (claims_numbered n) (by_column 0) bound_as (selects_claim h n) clean_1 charter all holds)
-    (c.in_ok-claims.ensures.rising h params (claims_numbered n) (by_column 0) bound_as (selects_claim h n) clean_1)
-    (c.in_ok-rows.ensures.found h params (entries_numbered n) by_entry bound_as (selects_entries h n) clean charter all (held_before old mid read.0.now_is charter all holds))
-    (c.in_ok-rows.ensures.rising h params (entries_numbered n) by_entry bound_as (selects_entries h n) clean) made.items are)) in
-    popped_number n xs c.in_ok-auths.auths.items c.pop.new.self.items c.pop.result (few_numbered c.claims_differ.ensures charter all old.now sound tables holds h n) same c.pop.ensures.items
-    (λ some. omega (arith, c.pop.ensures.variant.0 some, c.in_ok-auths.auths.ok), λ below. c.pop.ensures.variant.1 (omega (arith, below, c.in_ok-auths.auths.ok)))
-
-pub returns-clause-found : goal.returns-clause-found
-returns-clause-found g c clean charter all holds = only_number c.args.number (items_if_any (λ r. r.auths) (all.of_holder c.args.holder.now)) c.pop.result (returns-clause-only g c clean charter all holds)
