@@ -1,8 +1,10 @@
 -- The rows of a history rise by number, so they are loaded as they are; and what is answered of them is of the history.
-use Rattle.std.proofs.Common.{◌≡◌, ◌↔◌, ℕ, ◌+◌, ◌<◌, ◌≤◌, ◌==◌, ◌&&◌, Bool, true, false, cond, not, nat_le, IsTrue, List, [], ◌∷◌, ◌++◌, filter, length, Option, Some, None, Less, sym, ap, subst, ◌∙◌, arith, nat_cmp, IfSome}
+use Rattle.std.proofs.Common.{◌≡◌, ◌↔◌, ℕ, ◌+◌, ◌<◌, ◌≤◌, ◌==◌, ◌&&◌, Bool, true, false, cond, not, nat_le, IsTrue, MatchBool, List, [], ◌∷◌, ◌++◌, filter, find, length, Option, Some, None, is_some, Less, refl, sym, ap, subst, ◌∙◌, arith, nat_cmp, IfSome, IsSomeAnd}
 use Rattle.std.specs.Cmp.{nat_cmp_is, nat_cmp_total}
 use Rattle.std.specs.List.{AllByRecursion, list_any}
 use Rattle.std.specs.Ordering.{on}
+use Rattle.std.specs.Prelude.{option_map}
+use Rattle.std.proofs.lemmas.Bool.{cond-true, false≢true}
 use Rattle.std.proofs.lemmas.Bool.Decides.{nat_tests}
 use Rattle.std.proofs.lemmas.Cmp.{on_total}
 use Rattle.sqlite_rules.proofs.ListLemmas.{has_contained, some_from}
@@ -11,32 +13,37 @@ use Rattle.sqlite_trees.proofs.ListLemmas.{ascending_weaker}
 use Rattle.sqlite_keyed.proofs.SortLemmas.{sorted_unique}
 use Rattle.addr.specs.Address.{Address}
 use Rattle.addr.specs.Spans.{span_has, spans_have}
+use Rattle.addr.specs.declared.prefix.Prefix.{Prefix}
 use Rattle.addr.specs.declared.span.Span.{Span}
 use Rattle.addr.proofs.RunLemmas.{maximal_apart}
 use Rattle.charters.specs.declared.charter.Charter.{Charter}
-use Rattle.registry.specs.Answer.{IsMadeIfAny, SharesWithNone}
+use Rattle.registry.specs.Answer.{AnswersCreate, AnswersDelegate, AnswersNumber, HasRuns, IsMadeIfAny, SharesWithNone}
 use Rattle.registry.specs.declared.authorization.Auth.{Auth}
+use Rattle.registry.specs.declared.authorization.AuthTerms.{AuthTerms}
 use Rattle.registry.specs.declared.command.Command.{Command}
-use Rattle.registry.specs.declared.command.Command.TheVariants.{Grant, Revoke}
+use Rattle.registry.specs.declared.command.Command.TheVariants.{Register, Delegate, Transfer, Reclaim, Grant, Revoke, Create, Amend, Withdraw, Import, Slurm}
 use Rattle.registry.specs.declared.grant.Granted.{Granted}
 use Rattle.registry.specs.declared.limits.TheConstants.{MOST_AUTHORIZATIONS}
-use Rattle.registry.specs.History.{History, same_name}
-use Rattle.registry.specs.Resources.{resource_holder, is_held_by}
+use Rattle.registry.specs.declared.rows.HolderRows.{HolderRows}
+use Rattle.registry.specs.History.{History, is_registered, same_name}
+use Rattle.registry.specs.Resources.{resource_holder, is_held_by, IsFree}
 use Rattle.registry.specs.RoaPrefixes.{with_maxes}
-use Rattle.registry.specs.Rows.{Rows, RowsIfAny}
-use Rattle.registry.specs.RowsOfAll.{AllRows, HasRows}
+use Rattle.registry.specs.Rows.{Rows, RowsIfAny, grants_if_any, auths_if_any}
+use Rattle.registry.specs.RowsOfAll.{AllRows, HasRows, IsTaken}
 use Rattle.registry.specs.Terms.{granted_after, grants_made, grants_after, grant_terms, authorizations_made, authorization_terms, gives_some, AreActive, HeldSinceMade, Keeps, OfActive}
-use Rattle.registry.specs.Unregistered.{UnregisteredHaveNothing}
-use Rattle.registry.specs.Verdict.{IsLegal, maxes_fit}
+use Rattle.registry.specs.Verdict.{IsLegal, auth_of_number, maxes_fit}
 use Rattle.registry.proofs.Amended.{shares_with_other}
 use Rattle.registry.proofs.Held.{active-numbered}
 use Rattle.registry.proofs.Kept.{Keeps-unique}
 use Rattle.registry.proofs.Names.{held_by_itself, is_held_by-true}
 use Rattle.registry.proofs.Numbers.{Numbered}
+use Rattle.registry.proofs.Unregistered.{has_nothing}
 use Rattle.histories.proofs.SharedVrps.{share_vrp-flips}
 use Rattle.tables.specs.TablesHold.{items_if_any}
-use Rattle.loads.specs.Loads.{AreInOrder, HasRun, HaveSame, auths_held, created_if_any, made_if_any, some_gives}
-use Rattle.store.specs.Laws.{LoadsAmendOfHistories, LoadsCreateOfHistories, LoadsGrantOfHistories, LoadsHoldingsOfHistories, LoadsNumberOfHistories, LoadsRowsOfHistories, RowsOfTheRegistered, RunsOfHistoriesAreApart}
+use Rattle.loads.specs.declared.answers.Loaded.{Loaded}
+use Rattle.loads.specs.Loads.{AreCounted, AreGrants, AreInOrder, AreNumbered, AreRunsApart, HasRun, HaveSame, IsForCreate, IsForDelegate, MeetsSome, auths_held, created_if_any, some_gives}
+use Rattle.loads.proofs.Giving.{taken_iff}
+use Rattle.store.specs.Laws.{LoadsFactsOfHistories, LoadsNumberOfHistories, LoadsRowsOfHistories}
 
 module _ {X : Type 0} (number : X → ℕ) where
   -- the numbers rise, from above one number up to another
@@ -132,7 +139,7 @@ run_holder history rows h s a has run there =
     is_held_by-true h (resource_holder history a) (sym (of.1.holdings a) ∙ in_runs)
 
 -- an address has one holder
-pub runs_apart : RunsOfHistoriesAreApart
+runs_apart : (history : History) (rows : AllRows) → HasRows rows history → AreRunsApart rows
 runs_apart history rows has = record {
   each = λ h r is. (subst (RowsIfAny history h) is (has.holders h)).1.apart;
   once = λ h k s t a own other in_s in_t.
@@ -141,7 +148,41 @@ runs_apart history rows has = record {
       cc;
 }
 
--- ---- what is judged on answers
+-- ---- what is taken
+
+-- what is taken is not free
+taken_not_free : (rows : AllRows) (history : History) → HasRows rows history → (p : Prefix) → IsTaken rows p → IsFree history p → ⊥
+taken_not_free rows history has p taken free =
+    let of = subst (RowsIfAny history taken.0) taken.2 (has.holders taken.0) in
+    let a = taken.3.0 in
+    false≢true (sym (ap (is_held_by taken.0) (free a taken.3.1)) ∙ sym (of.1.holdings a) ∙ taken.3.2)
+
+-- a holder of an address has rows
+holder_has_rows : (charter : Charter) (rows : AllRows) (history : History) → IsLegal charter history → HasRows rows history → (h : List ℕ) (a : Address) → resource_holder history a ≡ Some h → (r : Rows) × (rows.of_holder h ≡ Some r)
+holder_has_rows charter rows history legal has h a held = go (rows.of_holder h) refl
+  where
+    go : (found : Option Rows) → rows.of_holder h ≡ found → (r : Rows) × (rows.of_holder h ≡ Some r)
+    go (Some r) is = (r, is)
+    go None is =
+        let nothing = has_nothing charter history h legal (subst (RowsIfAny history h) is (has.holders h)) in
+        absurd (false≢true (sym (nothing.holders a) ∙ ap (is_held_by h) held ∙ held_by_itself h))
+
+-- what is not taken is free
+untaken_free : (charter : Charter) (rows : AllRows) (history : History) → IsLegal charter history → HasRows rows history → (p : Prefix) → (IsTaken rows p → ⊥) → IsFree history p
+untaken_free charter rows history legal has p untaken a inside = go (resource_holder history a) refl
+  where
+    go : (held : Option (List ℕ)) → resource_holder history a ≡ held → resource_holder history a ≡ None
+    go None is = is
+    go (Some h) is =
+        let found = holder_has_rows charter rows history legal has h a is in
+        let of = subst (RowsIfAny history h) found.1 (has.holders h) in
+        absurd (untaken (h, found.0, found.1, (a, inside, of.1.holdings a ∙ ap (is_held_by h) is ∙ held_by_itself h)))
+
+tells_taken : (charter : Charter) (rows : AllRows) (history : History) → IsLegal charter history → HasRows rows history → (p : Prefix) (taken : Bool) → IsTrue taken ↔ MeetsSome rows p → MatchBool taken (IsFree history p → ⊥) (IsFree history p)
+tells_taken charter rows history legal has p true tells = taken_not_free rows history has p ((taken_iff rows p).0 (tells.0 refl))
+tells_taken charter rows history legal has p false tells = untaken_free charter rows history legal has p (λ taken. false≢true (tells.1 ((taken_iff rows p).1 taken)))
+
+-- ---- what is judged on what is loaded
 
 -- the rows of a holder after a legal history, those of nobody too
 record IsHeld (history : History) (h : List ℕ) (rows : Option Rows) : Type 0 where
@@ -150,15 +191,15 @@ record IsHeld (history : History) (h : List ℕ) (rows : Option Rows) : Type 0 w
   pub auths : AreActive history h (auths_held rows)
   pub created : created_if_any rows ≡ authorizations_made history h
 
-is_held : UnregisteredHaveNothing → (charter : Charter) (history : History) (h : List ℕ) (rows : Option Rows) → IsLegal charter history → RowsIfAny history h rows → IsHeld history h rows
-is_held have_nothing charter history h None legal unregistered =
-    let nothing = have_nothing charter history h legal unregistered in record {
+is_held : (charter : Charter) (history : History) (h : List ℕ) (rows : Option Rows) → IsLegal charter history → RowsIfAny history h rows → IsHeld history h rows
+is_held charter history h None legal unregistered =
+    let nothing = has_nothing charter history h legal unregistered in record {
       holdings = λ a. sym (nothing.holders a);
       grants = sym nothing.grants;
       auths = subst (λ terms. Keeps (HeldSinceMade history h) terms []) (sym nothing.terms) tt;
       created = sym nothing.created;
     }
-is_held have_nothing charter history h (Some r) legal registered = record {
+is_held charter history h (Some r) legal registered = record {
   holdings = registered.1.holdings;
   grants = registered.1.grants;
   auths = registered.1.auths;
@@ -169,39 +210,71 @@ is_held have_nothing charter history h (Some r) legal registered = record {
 of_these : (history : History) (h : List ℕ) (xs : List Auth) → AreActive history h xs → (P : List Auth → Type 0) → OfActive history h P → P xs
 of_these history h xs active P of = subst P (Keeps-unique (HeldSinceMade history h) (authorization_terms history h) of.0 xs of.1 active) of.2
 
-pub loads_number : UnregisteredHaveNothing → LoadsNumberOfHistories
-loads_number have_nothing charter history h n rows loaded legal of are =
-    let held = is_held have_nothing charter history h rows legal of in record {
-      grants = grants_in_order history h (items_if_any (λ r. r.grants) rows) loaded.grants.items held.grants are.grants;
-      auth = (auths_held rows, held.auths, are.auth);
+granted_loaded : (charter : Charter) (history : History) (h : List ℕ) (rows : Option Rows) (loaded : List Granted) → IsLegal charter history → RowsIfAny history h rows → AreGrants rows loaded → loaded ≡ grant_terms history h
+granted_loaded charter history h rows loaded legal of are =
+    grants_in_order history h (items_if_any (λ r. r.grants) rows) loaded (is_held charter history h rows legal of).grants are
+
+-- those of a number that are loaded in order are those of the number
+numbered_in_order : (history : History) (h : List ℕ) (n : ℕ) (xs loaded : List Auth) → AreActive history h xs → AreInOrder (λ (x : Auth). x.number) (filter (λ (x : Auth). x.number == n) xs) loaded
+    → loaded ≡ filter (λ (x : Auth). x.number == n) xs
+numbered_in_order history h n xs loaded active order =
+    let made = authorizations_made history h in
+    let rise = auths-rise 0 xs made (active-numbered history h xs active) in
+    let kept = rise-filter (λ (x : Auth). x.number) (λ (x : Auth). x.number == n) 0 xs made rise in
+    in_order_same (λ (x : Auth). x.number) (filter (λ (x : Auth). x.number == n) xs) loaded (rise-ascending (λ (x : Auth). x.number) 0 (filter (λ (x : Auth). x.number == n) xs) made kept) order
+
+-- the first that passes is that of all that pass
+find_kept : {X : Type 0} (p : X → Bool) (xs : List X) → find p (filter p xs) ≡ find p xs
+find_kept p [] = refl
+find_kept p (x ∷ xs) = go (find_kept p xs) (p x) refl
+  where
+    go : find p (filter p xs) ≡ find p xs → (b : Bool) → p x ≡ b → find p (cond b (x ∷ filter p xs) (filter p xs)) ≡ cond b (Some x) (find p xs)
+    go rest true is = cond-true _ _ _ is
+    go rest false is = rest
+
+pub loads_number : LoadsNumberOfHistories
+loads_number charter history h n rows part legal of are =
+    let xs = auths_held rows in
+    let active = (is_held charter history h rows legal of).auths in record {
+      grants = granted_loaded charter history h rows part.grants.items legal of are.grants;
+      auth = (xs, active, sym (find_kept (λ (x : Auth). x.number == n) xs) ∙ ap (auth_of_number n) (sym (numbered_in_order history h n xs part.auths.items active are.auths)));
     }
 
-made_loaded : (history : History) (h : List ℕ) (rows : Option Rows) (made : Option ℕ) → RowsIfAny history h rows → made ≡ made_if_any rows → IsMadeIfAny history h made
-made_loaded history h None made unregistered is = subst (IsMadeIfAny history h) (sym is) unregistered
-made_loaded history h (Some r) made registered is = subst (IsMadeIfAny history h) (sym is) (registered.0, registered.1.granted)
+number_facts : (charter : Charter) (history : History) (h : List ℕ) (n : ℕ) (rows : Option Rows) (part : Option HolderRows) → IsLegal charter history → RowsIfAny history h rows → IsSomeAnd part (AreNumbered n rows)
+    → AnswersNumber history h n (grants_if_any part) (auth_of_number n (auths_if_any part))
+number_facts charter history h n rows None legal of none = absurd none
+number_facts charter history h n rows (Some part) legal of are = loads_number charter history h n rows part legal of are
 
-pub loads_grant : UnregisteredHaveNothing → LoadsGrantOfHistories
-loads_grant have_nothing charter history h rows loaded legal of are = record {
-  grants = grants_in_order history h (items_if_any (λ r. r.grants) rows) loaded.grants.items (is_held have_nothing charter history h rows legal of).grants are.grants;
-  counter = made_loaded history h rows loaded.made of are.made;
-}
-
-pub rows_registered : RowsOfTheRegistered
+rows_registered : (history : History) (h : List ℕ) (rows : Option Rows) → RowsIfAny history h rows → is_some rows ≡ is_registered history h
 rows_registered history h None unregistered = sym unregistered
 rows_registered history h (Some r) registered = sym registered.0
 
-pub loads_holdings : UnregisteredHaveNothing → LoadsHoldingsOfHistories
-loads_holdings have_nothing charter history h rows held legal of are =
-    let holds = is_held have_nothing charter history h rows legal of in (
-      are.registered ∙ rows_registered history h rows of,
-      each held are.runs holds.holdings,
-    )
+some_mapped : {X Y : Type 0} (f : X → Y) (o : Option X) → is_some (option_map f o) ≡ is_some o
+some_mapped f None = refl
+some_mapped f (Some x) = refl
+
+register_facts : (history : History) (h : List ℕ) (rows : Option Rows) (part : Option HolderRows) → RowsIfAny history h rows → AreCounted rows part → is_some part ≡ is_registered history h
+register_facts history h rows part of are =
+    sym (some_mapped (λ (p : HolderRows). p.granted) part) ∙ ap is_some are.granted ∙ some_mapped (λ (r : Rows). r.granted) rows ∙ rows_registered history h rows of
+
+made_loaded : (history : History) (h : List ℕ) (rows : Option Rows) (made : Option ℕ) → RowsIfAny history h rows → made ≡ option_map (λ (r : Rows). r.granted) rows → IsMadeIfAny history h made
+made_loaded history h None made unregistered is = subst (IsMadeIfAny history h) (sym is) unregistered
+made_loaded history h (Some r) made registered is = subst (IsMadeIfAny history h) (sym is) (registered.0, registered.1.granted)
+
+delegate_facts : (charter : Charter) (history : History) (h : List ℕ) (p : Prefix) (all : AllRows) (loaded : Loaded) → IsLegal charter history → HasRows all history → IsForDelegate h p all loaded
+    → AnswersDelegate history h p (option_map (λ (r : HolderRows). r.holdings) loaded.rows) loaded.answers.taken
+delegate_facts charter history h p all loaded legal has are =
+    let rows = all.of_holder h in record {
+      registered = some_mapped (λ (r : HolderRows). r.holdings) loaded.rows ∙ are.holdings.registered ∙ rows_registered history h rows (has.holders h);
+      holdings = each loaded.rows are.holdings.runs (is_held charter history h rows legal (has.holders h)).holdings;
+      free = tells_taken charter all history legal has p loaded.answers.taken (are.taken (runs_apart history all has));
+    }
   where
-    each : (held : Option (List Span)) → IfSome held (HaveSame (items_if_any (λ r. r.holdings) rows))
-        → ((a : Address) → spans_have (items_if_any (λ r. r.holdings) rows) a ≡ is_held_by h (resource_holder history a))
-        → IfSome held (λ runs. (a : Address) → spans_have runs a ≡ is_held_by h (resource_holder history a))
+    each : (part : Option HolderRows) → IfSome part (λ r. HaveSame (items_if_any (λ (r : Rows). r.holdings) (all.of_holder h)) r.holdings)
+        → ((a : Address) → spans_have (items_if_any (λ (r : Rows). r.holdings) (all.of_holder h)) a ≡ is_held_by h (resource_holder history a))
+        → IfSome (option_map (λ (r : HolderRows). r.holdings) part) (HasRuns history h)
     each None same holdings = tt
-    each (Some runs) same holdings = λ a. same a ∙ holdings a
+    each (Some part) same holdings = λ a. same a ∙ holdings a
 
 -- no more are active than were made
 no_more : (low : ℕ) (xs : List Auth) (high : ℕ) → Numbered low xs high → low + length xs ≤ high
@@ -217,17 +290,18 @@ room_to many few = grind (arith, nat_tests, few)
 room_from : (many : ℕ) → many < MOST_AUTHORIZATIONS → nat_le MOST_AUTHORIZATIONS many ≡ false
 room_from many few = grind (arith, nat_tests, few)
 
-pub loads_create : UnregisteredHaveNothing → LoadsCreateOfHistories
-loads_create have_nothing charter history h terms all loaded legal has are =
+create_facts : (charter : Charter) (history : History) (h : List ℕ) (terms : AuthTerms) (all : AllRows) (loaded : Loaded) → IsLegal charter history → HasRows all history → IsForCreate h terms all loaded
+    → AnswersCreate history h terms (grants_if_any loaded.rows) loaded.answers
+create_facts charter history h terms all loaded legal has are =
     let rows = all.of_holder h in
-    let held = is_held have_nothing charter history h rows legal (has.holders h) in
+    let held = is_held charter history h rows legal (has.holders h) in
     let answers = are.answers in
     let xs = auths_held rows in
     let most : length xs ≤ created_if_any rows = omega (arith, held.created, no_more 0 xs (authorizations_made history h) (active-numbered history h xs held.auths)) in
     let full : IsTrue loaded.answers.holds → loaded.answers.gives ≡ false → loaded.answers.is_full ≡ nat_le MOST_AUTHORIZATIONS (length xs) =
     λ is none. answers.is_full is none ∙ full_alike (created_if_any rows) (length xs) most in
     record {
-      grants = grants_in_order history h (items_if_any (λ r. r.grants) rows) loaded.grants.items held.grants are.grants;
+      grants = granted_loaded charter history h rows (grants_if_any loaded.rows) legal (has.holders h) are.counted.grants;
       created = answers.created ∙ held.created;
       holds = (
         λ is a there. is_held_by-true h (resource_holder history a) (sym (held.holdings a) ∙ answers.holds.0 is a there),
@@ -256,8 +330,26 @@ shared_by history h n maxes xs is_shared (Some x) active shared = λ fit.
     let same = shared fit ∙ gives_shared n z xs in
     (λ none. (xs, active, sym same ∙ none), λ none. same ∙ of_these history h xs active (λ ys. shares_with_other n z ys ≡ false) none)
 
-pub loads_amend : UnregisteredHaveNothing → LoadsAmendOfHistories
-loads_amend have_nothing charter history h n maxes rows loaded legal of are = record {
-  number = loads_number have_nothing charter history h n rows loaded.numbered legal of are.numbered;
-  shared = shared_by history h n maxes (auths_held rows) loaded.is_shared loaded.numbered.auth (is_held have_nothing charter history h rows legal of).auths are.shared;
+-- ---- for each command
+
+pub loads_facts : LoadsFactsOfHistories
+loads_facts charter history (Register h) rows loaded legal has are = register_facts history h (rows.of_holder h) loaded.rows (has.holders h) are
+loads_facts charter history (Delegate h p) rows loaded legal has are = delegate_facts charter history h p rows loaded legal has are
+loads_facts charter history (Transfer p giver taker) rows loaded legal has are = (
+  loads_rows history giver (rows.of_holder giver) loaded.rows (has.holders giver) are.0,
+  loads_rows history taker (rows.of_holder taker) loaded.taker (has.holders taker) are.1,
+)
+loads_facts charter history (Reclaim h p) rows loaded legal has are = loads_rows history h (rows.of_holder h) loaded.rows (has.holders h) are
+loads_facts charter history (Grant h name role scope until) rows loaded legal has are = record {
+  grants = granted_loaded charter history h (rows.of_holder h) (grants_if_any loaded.rows) legal (has.holders h) are.grants;
+  counter = made_loaded history h (rows.of_holder h) _ (has.holders h) are.granted;
 }
+loads_facts charter history (Revoke h n) rows loaded legal has are = granted_loaded charter history h (rows.of_holder h) (grants_if_any loaded.rows) legal (has.holders h) are.grants
+loads_facts charter history (Create h terms) rows loaded legal has are = create_facts charter history h terms rows loaded legal has are
+loads_facts charter history (Amend h n maxes until) rows loaded legal has are = record {
+  number = number_facts charter history h n (rows.of_holder h) loaded.rows legal (has.holders h) are.numbered;
+  shared = shared_by history h n maxes.items (auths_held (rows.of_holder h)) loaded.answers.gives (auth_of_number n (auths_if_any loaded.rows)) (is_held charter history h (rows.of_holder h) legal (has.holders h)).auths are.shared;
+}
+loads_facts charter history (Withdraw h n) rows loaded legal has are = number_facts charter history h n (rows.of_holder h) loaded.rows legal (has.holders h) are
+loads_facts charter history (Import h listed) rows loaded legal has are = loads_rows history h (rows.of_holder h) loaded.rows (has.holders h) are
+loads_facts charter history (Slurm files) rows loaded legal has are = tt

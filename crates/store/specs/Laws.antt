@@ -1,26 +1,22 @@
 -- What follows for the rows of a history.
-use Rattle.std.specs.Prelude.{◌≡◌, ℕ, List, Option, is_some, IfSome, IsTrue}
+use Rattle.std.specs.Prelude.{◌≡◌, ℕ, List, Option, IsTrue}
 use Rattle.std.specs.List.{AllByRecursion}
 use Rattle.sqlite_trees.specs.Tree.{Trees}
 use Rattle.sqlite_trees.specs.declared.memory.MemStore.{MemStore}
-use Rattle.addr.specs.Address.{Address}
 use Rattle.addr.specs.Name.{is_name}
-use Rattle.addr.specs.Spans.{spans_have}
-use Rattle.addr.specs.declared.span.Span.{Span}
 use Rattle.charters.specs.CharterSets.{IsCharter}
 use Rattle.sqlite.specs.Effect.{Database}
 use Rattle.sqlite.specs.Held.{Held, state}
 use Rattle.sqlite.specs.Steps.{over_memory}
 use Rattle.charters.specs.declared.charter.Charter.{Charter}
-use Rattle.registry.specs.declared.authorization.AuthTerms.{AuthTerms}
 use Rattle.registry.specs.declared.rows.HolderRows.{HolderRows}
-use Rattle.registry.specs.Answer.{AnswersAmend, AnswersCreate, AnswersGrant, AnswersNumber}
-use Rattle.registry.specs.History.{History, is_registered}
-use Rattle.registry.specs.Resources.{resource_holder, is_held_by}
+use Rattle.registry.specs.Answer.{AnswersNumber, AreFacts}
+use Rattle.registry.specs.declared.command.Command.{Command}
+use Rattle.registry.specs.History.{History}
 use Rattle.registry.specs.Rows.{Rows, rows_if_any, RowsIfAny}
 use Rattle.registry.specs.RowsOfAll.{AllRows, HasRows}
 use Rattle.registry.specs.Values.{HistoryFits, FitIfAny, FilesFit}
-use Rattle.registry.specs.Verdict.{IsLegal}
+use Rattle.registry.specs.Verdict.{IsLegal, auth_of_number}
 use Rattle.tables.specs.TablesHold.{TablesHold}
 use Rattle.tables.specs.Tables.{desk_tables}
 use Rattle.moving.specs.OldTables.{IsOldSchema, OldTablesHold}
@@ -28,11 +24,8 @@ use Rattle.transactions.specs.Databases.{IsHonest}
 use Rattle.database.specs.Opening.{IsOfAnotherSchema}
 use Rattle.database.specs.OldTablesRead.{OldTablesRead}
 use Rattle.database.specs.TablesRead.{TablesRead}
-use Rattle.loads.specs.declared.answers.ForAmend.{ForAmend}
-use Rattle.loads.specs.declared.answers.ForCreate.{ForCreate}
-use Rattle.loads.specs.declared.answers.ForGrant.{ForGrant}
-use Rattle.loads.specs.declared.load.Numbered.{Numbered}
-use Rattle.loads.specs.Loads.{AreHoldings, AreLoaded, AreNumbered, IsForAmend, IsForCreate, IsForGrant, AllGiveOn, AreRunsApart}
+use Rattle.loads.specs.declared.answers.Loaded.{Loaded}
+use Rattle.loads.specs.Loads.{AreLoaded, AreNumbered, IsLoadedFor, AllGiveOn}
 use Rattle.store.specs.StoreRows.{AreInRange, StoreView, connection_state, Holds}
 
 -- The rows of a holder after a history, as they are loaded, are its rows after the history.
@@ -42,50 +35,19 @@ LoadsRowsOfHistories =
     → RowsIfAny history h rows → AreLoaded rows loaded
     → RowsIfAny history h (rows_if_any loaded)
 
--- The runs of the rows of a history are apart.
-abbrev pub RunsOfHistoriesAreApart : Type 0
-RunsOfHistoriesAreApart = (history : History) (rows : AllRows) → HasRows rows history → AreRunsApart rows
-
 -- What is loaded of a holder and a number is what a request on that authorization is judged on, after a legal history.
 abbrev pub LoadsNumberOfHistories : Type 0
 LoadsNumberOfHistories =
-    (charter : Charter) (history : History) (h : List ℕ) (n : ℕ) (rows : Option Rows) (loaded : Numbered)
-    → IsLegal charter history → RowsIfAny history h rows → AreNumbered n rows loaded
-    → AnswersNumber history h n loaded.grants.items loaded.auth
+    (charter : Charter) (history : History) (h : List ℕ) (n : ℕ) (rows : Option Rows) (part : HolderRows)
+    → IsLegal charter history → RowsIfAny history h rows → AreNumbered n rows part
+    → AnswersNumber history h n part.grants.items (auth_of_number n part.auths.items)
 
--- So is what is loaded of a holder for a grant or a revocation, for a create of the terms, and for an amendment to the
--- maxLengths.
-abbrev pub LoadsGrantOfHistories : Type 0
-LoadsGrantOfHistories =
-    (charter : Charter) (history : History) (h : List ℕ) (rows : Option Rows) (loaded : ForGrant)
-    → IsLegal charter history → RowsIfAny history h rows → IsForGrant rows loaded
-    → AnswersGrant history h loaded.grants.items loaded.made
-
-abbrev pub LoadsCreateOfHistories : Type 0
-LoadsCreateOfHistories =
-    (charter : Charter) (history : History) (h : List ℕ) (terms : AuthTerms) (rows : AllRows) (loaded : ForCreate)
-    → IsLegal charter history → HasRows rows history → IsForCreate terms rows h loaded
-    → AnswersCreate history h terms loaded.grants.items loaded.answers
-
-abbrev pub LoadsAmendOfHistories : Type 0
-LoadsAmendOfHistories =
-    (charter : Charter) (history : History) (h : List ℕ) (n : ℕ) (maxes : List ℕ) (rows : Option Rows) (loaded : ForAmend)
-    → IsLegal charter history → RowsIfAny history h rows → IsForAmend n maxes rows loaded
-    → AnswersAmend history h n maxes loaded.numbered.grants.items loaded.numbered.auth loaded.is_shared
-
--- The rows of a history are of the holders that are registered after it.
-abbrev pub RowsOfTheRegistered : Type 0
-RowsOfTheRegistered =
-    (history : History) (h : List ℕ) (rows : Option Rows)
-    → RowsIfAny history h rows → is_some rows ≡ is_registered history h
-
--- After a legal history the addresses that are loaded are those of a holder that is registered.
-abbrev pub LoadsHoldingsOfHistories : Type 0
-LoadsHoldingsOfHistories =
-    (charter : Charter) (history : History) (h : List ℕ) (rows : Option Rows) (held : Option (List Span))
-    → IsLegal charter history → RowsIfAny history h rows → AreHoldings rows held
-    → (is_some held ≡ is_registered history h)
-    × IfSome held (λ runs. (a : Address) → spans_have runs a ≡ is_held_by h (resource_holder history a))
+-- So is what is loaded for a command.
+abbrev pub LoadsFactsOfHistories : Type 0
+LoadsFactsOfHistories =
+    (charter : Charter) (history : History) (command : Command) (rows : AllRows) (loaded : Loaded)
+    → IsLegal charter history → HasRows rows history → IsLoadedFor command rows loaded
+    → AreFacts history command loaded.rows loaded.taker loaded.answers
 
 -- The rows of a legal history whose values are those of their types fit, so that no load of a holder
 -- finds a row that shows none.

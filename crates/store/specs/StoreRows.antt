@@ -1,5 +1,5 @@
 -- What a store shows and holds, as it is and after a crash.
-use Rattle.std.specs.Prelude.{◌≡◌, ◌⊎◌, ℕ, List, false, IsTrue, refl}
+use Rattle.std.specs.Prelude.{◌≡◌, ◌⊎◌, ℕ, List, false, IfSome, IsTrue, refl}
 use Rattle.std.specs.Coded.{Coded, code_by, coded×}
 use Rattle.sqlite.specs.Held.{Held, held_code, state}
 use Rattle.sqlite.specs.State.{State, HasCleanDisk}
@@ -7,7 +7,9 @@ use Rattle.sqlite.specs.Store.{Ghosts}
 use Rattle.sqlite_trees.specs.Tree.{Trees}
 use Rattle.charters.specs.contracts.charter.Charter as charter
 use Rattle.charters.specs.CharterSets.{CharterSets, IsCharter}
+use Rattle.registry.specs.Answer.{holder_of, taker_of}
 use Rattle.registry.specs.declared.change.Change.{Change}
+use Rattle.registry.specs.declared.command.Command.{Command}
 use Rattle.registry.specs.RowsOfAll.{AllRows}
 use Rattle.registry.specs.Values.{FilesFit, FitIfAny}
 use Rattle.tables.specs.Tables.{desk_tables}
@@ -42,6 +44,12 @@ Holds g store rows =
 abbrev pub OfHeldRows :
     {S : Type 0} → Ghosts S → StoreView S → (AllRows → Type 0) → Type 0
 OfHeldRows g store so = (rows : AllRows) → Holds g store rows → so rows
+
+-- the rows of each holder that the command names fit
+abbrev pub NamedFit : Command → AllRows → Type 0
+NamedFit command rows =
+    IfSome (holder_of command) (λ h. FitIfAny (rows.of_holder h))
+    × IfSome (taker_of command) (λ h. FitIfAny (rows.of_holder h))
 
 -- this holds, unless the disk returned what was not written
 abbrev pub IfClean : {S : Type 0} → Ghosts S → StoreView S → Type 0 → Type 0

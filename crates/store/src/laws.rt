@@ -1,12 +1,10 @@
 //! Theorems, stated as contracts of functions whose bodies at most call other theorems.
 ghost use Rattle.store.specs.Laws.{AuthsOfHistoriesGive, FilesOfHistoriesFit, HistoriesRead};
-ghost use Rattle.store.specs.Laws.{LoadsAmendOfHistories, LoadsCreateOfHistories};
-ghost use Rattle.store.specs.Laws.{LoadsGrantOfHistories, LoadsHoldingsOfHistories};
-ghost use Rattle.store.specs.Laws.{LoadsNumberOfHistories, LoadsRowsOfHistories};
+ghost use Rattle.store.specs.Laws.{LoadsFactsOfHistories, LoadsNumberOfHistories};
+ghost use Rattle.store.specs.Laws.{LoadsRowsOfHistories, RowsOfHistoriesFit, RowsThatReadFit};
 ghost use Rattle.store.specs.Laws.{MemoryHoldsRows, MemoryIsHonest, MemoryStaysOpen};
 ghost use Rattle.store.specs.Laws.{OldHistoriesRead, OldTablesThatReadAreOurs, RowsInRangeGive};
-ghost use Rattle.store.specs.Laws.{RowsOfHistoriesFit, RowsOfTheRegistered, RowsThatReadFit};
-ghost use Rattle.store.specs.Laws.{RunsOfHistoriesAreApart, TablesThatReadAreOurs};
+ghost use Rattle.store.specs.Laws.{TablesThatReadAreOurs};
 
 /// If the tables hold the rows of a history, the rows that are loaded of a holder are its rows
 /// after that history, as `registry` defines them.
@@ -15,52 +13,18 @@ pub fn rows_of_a_history()
     ensures { LoadsRowsOfHistories }
 {}
 
-/// The runs of the rows of a history are apart, as `Store::is_taken` requires.
-#[tactic(auto, using(crate::proofs::HistoryRows::runs_apart))]
-pub fn runs_of_histories_are_apart()
-    ensures { RunsOfHistoriesAreApart }
-{}
-
 /// If the tables hold the rows of a legal history, the grants and the authorization of a number
 /// that are loaded of a holder are those of that history.
 pub fn number_of_a_history()
     ensures { LoadsNumberOfHistories }
-{
-    registry::laws::unregistered_have_nothing();
-}
+{}
 
-/// If the tables hold the rows of a legal history, what is loaded of a holder for a grant or a
-/// revocation is what the rules read of that history.
-pub fn grant_of_a_history()
-    ensures { LoadsGrantOfHistories }
-{
-    registry::laws::unregistered_have_nothing();
-}
-
-/// If the tables hold the rows of a legal history, what is loaded of a holder for a create is what
-/// the rules read of that history.
-pub fn create_of_a_history()
-    ensures { LoadsCreateOfHistories }
-{
-    registry::laws::unregistered_have_nothing();
-}
-
-/// If the tables hold the rows of a legal history, what is loaded of a holder for an amendment is
-/// what the rules read of that history.
-pub fn amend_of_a_history()
-    ensures { LoadsAmendOfHistories }
-{
-    registry::laws::unregistered_have_nothing();
-}
-
-/// The rows of a history are of the holders that are registered after it, and the addresses that
-/// are loaded of such a holder after a legal history are those that it holds.
-pub fn holdings_of_a_history()
-    ensures registered { RowsOfTheRegistered }
-    ensures holdings { LoadsHoldingsOfHistories }
-{
-    registry::laws::unregistered_have_nothing();
-}
+/// If the tables hold the rows of a legal history, what is loaded for a command is what the rules
+/// read of that history.
+#[tactic(auto, using(crate::proofs::HistoryRows::loads_facts))]
+pub fn facts_of_a_history()
+    ensures { LoadsFactsOfHistories }
+{}
 
 /// The rows of a legal history whose values are those of their types are in their ranges, so that
 /// by clause `schema` no load of a holder answers `Schema`.

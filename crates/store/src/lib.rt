@@ -4,6 +4,6 @@
 pub mod laws;
 mod store;
 
-pub use loads::{ForAmend, ForCreate, ForGrant, Numbered};
+pub use loads::Loaded;
 pub use store::Store;
 pub use transactions::StoreFault;

@@ -10,15 +10,14 @@ ghost use Rattle.database.specs.Opening.{IsOfAnotherSchema};
 ghost use Rattle.store.specs.steps.Commits.{CommitsChange, MayCommit};
 ghost use Rattle.transactions.specs.Statements.{IfCommitted, IfRolledBack, CommitsAtMost};
 
-use addr::{Day, Holdings, Name, Prefix, Vrp};
+use addr::{Day, Name, Prefix, Vrp};
 use database::{make_tables, open_tables};
 use edits::make_change;
 use loads::{
-    ForAmend, ForCreate, ForGrant, Numbered, is_registered, is_taken, load_files, load_for_amend,
-    load_for_create, load_for_grant, load_holdings, load_numbered, load_rows, load_vrps,
-    some_overlap,
+    Loaded, is_registered, load_files, load_for_amend, load_for_create, load_for_delegate,
+    load_grants_counted, load_numbered, load_rows, load_vrps, some_overlap,
 };
-use registry::{AuthTerms, Change, Charter, HolderRows};
+use registry::{Answers, Change, Charter, Command, HolderRows};
 use slurm::Slurm;
 use sqlite::{Alter, Connection, MemStore};
 use std::alloc::Global;
@@ -44,6 +43,17 @@ fn commit_change<S: Alter>(conn: &mut Connection<S>, change: &Change) -> Result<
     make_change(&mut tx, change)?;
     tx.commit()?;
     Ok(())
+}
+
+/// Rows that are loaded alone, where the rules read nothing beside them.
+fn alone(rows: Option<HolderRows>) -> Loaded
+    ensures { result.rows ≡ rows }
+{
+    Loaded {
+        rows,
+        taker: None,
+        answers: Answers::NONE,
+    }
 }
 
 /// The rows of a desk, in a database.
@@ -181,9 +191,9 @@ impl<S: Alter> Store<S> {
     ghost use Rattle.registry.specs.RowsOfAll.{IsTaken, IsGivenOn};
     ghost use Rattle.registry.specs.Values.{FitIfAny, FilesFit};
     ghost use Rattle.store.specs.Given.{GivenOnce};
-    ghost use Rattle.loads.specs.Loads.{AllGiveOn, AreFilesOf, AreHoldings, AreLoaded, AreNumbered};
-    ghost use Rattle.loads.specs.Loads.{AreRunsApart, IsForAmend, IsForCreate, IsForGrant};
-    ghost use Rattle.store.specs.StoreRows.{connection_state, Holds, IsRead, OfHeldRows};
+    ghost use Rattle.loads.specs.Loads.{AllGiveOn, AreCounted, AreFilesOf, AreLoaded};
+    ghost use Rattle.loads.specs.Loads.{AreNumbered, IsLoadedFor};
+    ghost use Rattle.store.specs.StoreRows.{connection_state, Holds, IsRead, NamedFit, OfHeldRows};
     ghost use Rattle.transactions.specs.Databases.{IsDeskWhileOpen};
     ghost use Rattle.store.specs.StoreRows.{IfClean, HoldsAfter, MayLeave, LeavesOnly};
     ghost use Rattle.store.specs.StoreRows.{KeepsSchema, LeavesPlaced};
@@ -210,68 +220,22 @@ impl<S: Alter> Store<S> {
         load_rows(&mut self.conn, alloc, holder)
     }
 
-    /// The grants of the holder, and its authorization that has the number; neither if it is not
-    /// registered.
+    /// The grants of the holder and its authorization that has the number, as rows with nothing
+    /// else; neither if it is not registered.
     pub fn load_numbered(
         &mut self,
         alloc: Global,
         holder: &Name,
         number: u32,
-    ) -> Result<Numbered, StoreFault>
+    ) -> Result<HolderRows, StoreFault>
         ensures read { IsRead S.Store self.old self.new }
-        ensures found { IfClean S.Store self.new (IfOk result (λ loaded.
+        ensures found { IfClean S.Store self.new (IfOk result (λ part.
             OfHeldRows S.Store self.old
-            (λ rows. AreNumbered number (rows.of_holder holder.now) loaded))) }
+            (λ rows. AreNumbered number (rows.of_holder holder.now) part))) }
         ensures schema { IfClean S.Store self.new (result ≡ Err StoreFault.Schema
             → OfHeldRows S.Store self.old (λ rows. ¬ FitIfAny (rows.of_holder holder.now))) }
     {
         load_numbered(&mut self.conn, alloc, holder, number)
-    }
-
-    /// What the rules of a grant or a revocation at the holder read.
-    pub fn load_for_grant(&mut self, alloc: Global, holder: &Name) -> Result<ForGrant, StoreFault>
-        ensures read { IsRead S.Store self.old self.new }
-        ensures found { IfClean S.Store self.new (IfOk result (λ loaded.
-            OfHeldRows S.Store self.old (λ rows. IsForGrant (rows.of_holder holder.now) loaded))) }
-        ensures schema { IfClean S.Store self.new (result ≡ Err StoreFault.Schema
-            → OfHeldRows S.Store self.old (λ rows. ¬ FitIfAny (rows.of_holder holder.now))) }
-    {
-        load_for_grant(&mut self.conn, alloc, holder)
-    }
-
-    /// What the rules of a create of the terms at the holder read.
-    pub fn load_for_create(
-        &mut self,
-        alloc: Global,
-        holder: &Name,
-        terms: &AuthTerms,
-    ) -> Result<ForCreate, StoreFault>
-        ensures read { IsRead S.Store self.old self.new }
-        ensures found { IfClean S.Store self.new (IfOk result (λ loaded.
-            OfHeldRows S.Store self.old (λ rows. IsForCreate terms.now rows holder.now loaded))) }
-        ensures schema { IfClean S.Store self.new (result ≡ Err StoreFault.Schema
-            → OfHeldRows S.Store self.old (λ rows. ¬ FitIfAny (rows.of_holder holder.now))) }
-    {
-        load_for_create(&mut self.conn, alloc, holder, terms)
-    }
-
-    /// What the rules read for an amendment of the holder's authorization of the number to these
-    /// maxLengths.
-    pub fn load_for_amend(
-        &mut self,
-        alloc: Global,
-        holder: &Name,
-        number: u32,
-        maxes: &[u8],
-    ) -> Result<ForAmend, StoreFault>
-        ensures read { IsRead S.Store self.old self.new }
-        ensures found { IfClean S.Store self.new (IfOk result (λ loaded.
-            OfHeldRows S.Store self.old
-            (λ rows. IsForAmend number maxes.now (rows.of_holder holder.now) loaded))) }
-        ensures schema { IfClean S.Store self.new (result ≡ Err StoreFault.Schema
-            → OfHeldRows S.Store self.old (λ rows. ¬ FitIfAny (rows.of_holder holder.now))) }
-    {
-        load_for_amend(&mut self.conn, alloc, holder, number, maxes)
     }
 
     /// Whether the holder is registered.
@@ -284,21 +248,6 @@ impl<S: Alter> Store<S> {
             → OfHeldRows S.Store self.old (λ rows. ¬ FitIfAny (rows.of_holder holder.now))) }
     {
         is_registered(&mut self.conn, alloc, holder)
-    }
-
-    /// The addresses of the holder; `None` if it is not registered.
-    pub fn load_holdings(
-        &mut self,
-        alloc: Global,
-        holder: &Name,
-    ) -> Result<Option<Holdings>, StoreFault>
-        ensures read { IsRead S.Store self.old self.new }
-        ensures found { IfClean S.Store self.new (IfOk result (λ held.
-            OfHeldRows S.Store self.old (λ rows. AreHoldings (rows.of_holder holder.now) held))) }
-        ensures schema { IfClean S.Store self.new (result ≡ Err StoreFault.Schema
-            → OfHeldRows S.Store self.old (λ rows. ¬ FitIfAny (rows.of_holder holder.now))) }
-    {
-        load_holdings(&mut self.conn, alloc, holder)
     }
 
     /// The rows of two holders; of equal names the same rows twice.
@@ -323,6 +272,73 @@ impl<S: Alter> Store<S> {
         Ok((one, other))
     }
 
+    /// What the rules of the command read. Of each rule it loads no more than it needs: of most
+    /// commands a part of the holder's rows, by key.
+    pub fn load_for(&mut self, alloc: Global, command: &Command) -> Result<Loaded, StoreFault>
+        ensures read { IsRead S.Store self.old self.new }
+        ensures found { IfClean S.Store self.new (IfOk result (λ loaded.
+            OfHeldRows S.Store self.old (λ rows. IsLoadedFor command.now rows loaded))) }
+        ensures schema { IfClean S.Store self.new (result ≡ Err StoreFault.Schema
+            → OfHeldRows S.Store self.old (λ rows. ¬ NamedFit command.now rows)) }
+    {
+        match command {
+            Command::Register { holder } => self.load_counted(alloc, holder),
+            Command::Delegate { holder, prefix } => {
+                load_for_delegate(&mut self.conn, alloc, holder, prefix)
+            }
+            Command::Transfer { giver, taker, .. } => {
+                let (rows, taker) = self.load_two(alloc, giver, taker)?;
+                Ok(Loaded {
+                    rows,
+                    taker,
+                    answers: Answers::NONE,
+                })
+            }
+            Command::Reclaim { holder, .. } => self.load_whole(alloc, holder),
+            Command::Grant { holder, .. } => self.load_counted(alloc, holder),
+            Command::Revoke { holder, .. } => self.load_counted(alloc, holder),
+            Command::Create { holder, terms } => {
+                load_for_create(&mut self.conn, alloc, holder, terms)
+            }
+            Command::Amend {
+                holder,
+                number,
+                maxes,
+                ..
+            } => load_for_amend(&mut self.conn, alloc, holder, *number, maxes),
+            Command::Withdraw { holder, number } => {
+                let part = self.load_numbered(alloc, holder, *number)?;
+                Ok(alone(Some(part)))
+            }
+            Command::Import { holder, .. } => self.load_whole(alloc, holder),
+            Command::Slurm { .. } => Ok(alone(None)),
+        }
+    }
+
+    /// The grants of the holder and its counters.
+    fn load_counted(&mut self, alloc: Global, holder: &Name) -> Result<Loaded, StoreFault>
+        ensures read { IsRead S.Store self.old self.new }
+        ensures found { IfClean S.Store self.new (IfOk result (λ loaded.
+            OfHeldRows S.Store self.old
+            (λ rows. AreCounted (rows.of_holder holder.now) loaded.rows))) }
+        ensures schema { IfClean S.Store self.new (result ≡ Err StoreFault.Schema
+            → OfHeldRows S.Store self.old (λ rows. ¬ FitIfAny (rows.of_holder holder.now))) }
+    {
+        Ok(alone(load_grants_counted(&mut self.conn, alloc, holder)?))
+    }
+
+    /// All rows of the holder.
+    fn load_whole(&mut self, alloc: Global, holder: &Name) -> Result<Loaded, StoreFault>
+        ensures read { IsRead S.Store self.old self.new }
+        ensures found { IfClean S.Store self.new (IfOk result (λ loaded.
+            OfHeldRows S.Store self.old
+            (λ rows. AreLoaded (rows.of_holder holder.now) loaded.rows))) }
+        ensures schema { IfClean S.Store self.new (result ≡ Err StoreFault.Schema
+            → OfHeldRows S.Store self.old (λ rows. ¬ FitIfAny (rows.of_holder holder.now))) }
+    {
+        Ok(alone(self.load_holder(alloc, holder)?))
+    }
+
     /// Whether some holder holds an address of the prefix.
     pub fn overlapping(&mut self, prefix: &Prefix) -> Result<bool, StoreFault>
         ensures read { IsRead S.Store self.old self.new }
@@ -331,18 +347,6 @@ impl<S: Alter> Store<S> {
         ensures no_schema { result ≢ Err StoreFault.Schema }
     {
         Ok(some_overlap(&mut self.conn, prefix)?)
-    }
-
-    /// Like `overlapping`, but reads one row at most. The answer is right if runs are apart, as
-    /// those of a history are.
-    pub fn is_taken(&mut self, prefix: &Prefix) -> Result<bool, StoreFault>
-        ensures read { IsRead S.Store self.old self.new }
-        ensures found { IfClean S.Store self.new (IfOk result (λ taken.
-            OfHeldRows S.Store self.old (λ rows. AreRunsApart rows
-            → IsTrue taken ↔ IsTaken rows prefix.now))) }
-        ensures no_schema { result ≢ Err StoreFault.Schema }
-    {
-        Ok(is_taken(&mut self.conn, prefix)?)
     }
 
     /// The VRPs of the authorizations of all holders that are in force on the day, in no order.
