@@ -1,13 +1,10 @@
 -- What the rows of a legal history say of it.
-use Rattle.std.proofs.Common.{◌≡◌, ℕ, Bool, true, false, ◌↔◌, IsTrue, List, Option, Some, None, refl, sym, ap, ◌∙◌, subst, arith, length, ◌-◌, MatchBool, Result, Ok, Err, IfOk, IsErrAnd}
+use Rattle.std.proofs.Common.{◌≡◌, ℕ, Bool, true, false, List, refl, sym, ap, ◌∙◌, subst, arith, length, ◌-◌, Result, Ok, Err, IfOk, IsErrAnd}
 use Rattle.std.specs.Global.{Vec}
 use Rattle.std.proofs.lemmas.Bool.{false≢true, true≢false}
-use Rattle.addr.specs.Address.{Address}
-use Rattle.addr.specs.declared.prefix.Prefix.{Prefix}
 use Rattle.registry.specs.History.{History}
-use Rattle.registry.specs.Resources.{resource_holder, is_held_by, IsFree}
-use Rattle.registry.specs.Rows.{Rows, changed_files, rows_if_any}
-use Rattle.registry.specs.Answer.{holder_of, IsAccepted, IsAnswer, IsListRefusal, IsOfCommand, IsViewOf, RowsOfNamed, imported, number_made}
+use Rattle.registry.specs.Rows.{changed_files}
+use Rattle.registry.specs.Answer.{IsAccepted, IsAnswer, IsListRefusal, IsOfCommand, imported, number_made}
 use Rattle.registry.specs.declared.rule.Refusal.{Refusal}
 use Rattle.registry.specs.declared.rule.Refusal.TheVariants.{Denied, Memory}
 use Rattle.registry.specs.declared.change.Change.{Change}
@@ -24,53 +21,13 @@ use Rattle.sqlite.specs.Store.{Ghosts}
 use Rattle.store.specs.StoreRows.{StoreView, IsRead, IfClean, HoldsAfter, OfHeldRows}
 use Rattle.registry.specs.declared.authorization.ImportRow.{ImportRow}
 use Rattle.registry.specs.declared.command.Command.{Command}
-use Rattle.registry.specs.declared.command.Command.TheVariants.{Delegate, Import}
+use Rattle.registry.specs.declared.command.Command.TheVariants.{Import}
 use Rattle.registry.specs.declared.command.Query.{Query}
 use Rattle.registry.specs.declared.command.Query.TheVariants.{Show, Content, List as ListQuery, Payloads, Validity, WhatIf}
 use Rattle.registry.specs.Verdict.{IsLegal}
-use Rattle.registry.specs.declared.rows.HolderRows.{HolderRows}
 use Rattle.charters.specs.declared.charter.Charter.{Charter}
-use Rattle.registry.proofs.Names.{held_by_itself}
-use Rattle.registry.proofs.Unregistered.{has_nothing}
-use Rattle.registry.specs.RowsOfAll.{AllRows, changed_rows, IsTaken, HasRows}
-use Rattle.kept.proofs.DailyVrps.{rows_absent, rows_present}
+use Rattle.registry.specs.RowsOfAll.{AllRows, changed_rows, HasRows}
 use Rattle.desk.proofs.HolderLemmas.{others_left, files_left}
-
--- a holder of an address has rows
-pub holder_has_rows : (charter : Charter) (rows : AllRows) (history : History) → IsLegal charter history → HasRows rows history → (h : List ℕ) (a : Address) → resource_holder history a ≡ Some h → (r : Rows) × (rows.of_holder h ≡ Some r)
-holder_has_rows charter rows history legal has h a held = go (rows.of_holder h) refl
-  where
-    go : (found : Option Rows) → rows.of_holder h ≡ found → (r : Rows) × (rows.of_holder h ≡ Some r)
-    go (Some r) is = (r, is)
-    go None is = absurd (false≢true (sym ((has_nothing charter history h legal (rows_absent rows history has h is)).holders a) ∙ ap (is_held_by h) held ∙ held_by_itself h))
-
--- what is taken is not free
-pub taken_not_free : (rows : AllRows) (history : History) → HasRows rows history → (p : Prefix) → IsTaken rows p → IsFree history p → ⊥
-taken_not_free rows history has p taken free =
-    let of = rows_present rows history has taken.0 taken.1 taken.2 in
-    let a = taken.3.0 in
-    false≢true (sym (ap (is_held_by taken.0) (free a taken.3.1)) ∙ sym (of.1.holdings a) ∙ taken.3.2)
-
--- what is not taken is free
-pub untaken_free : (charter : Charter) (rows : AllRows) (history : History) → IsLegal charter history → HasRows rows history → (p : Prefix) → (IsTaken rows p → ⊥) → IsFree history p
-untaken_free charter rows history legal has p untaken a inside = go (resource_holder history a) refl
-  where
-    go : (held : Option (List ℕ)) → resource_holder history a ≡ held → resource_holder history a ≡ None
-    go None is = is
-    go (Some h) is =
-        let found = holder_has_rows charter rows history legal has h a is in
-        let of = rows_present rows history has h found.0 found.1 in
-        absurd (untaken (h, found.0, found.1, (a, inside, of.1.holdings a ∙ ap (is_held_by h) is ∙ held_by_itself h)))
-
-pub tells_taken : (charter : Charter) (rows : AllRows) (history : History) → IsLegal charter history → HasRows rows history → (p : Prefix) (taken : Bool) → IsTrue taken ↔ IsTaken rows p → MatchBool taken (IsFree history p → ⊥) (IsFree history p)
-tells_taken charter rows history legal has p true tells = taken_not_free rows history has p (tells.0 refl)
-tells_taken charter rows history legal has p false tells = untaken_free charter rows history legal has p (λ taken. false≢true (tells.1 taken))
-
--- the rows are what a command other than a delegation is judged on
-pub view_of_rows : (history : History) (command : Command) (holder : Option HolderRows) → ((h : List ℕ) (p : Prefix) → ¬ (command ≡ Delegate h p))
-    → RowsOfNamed history (holder_of command) (rows_if_any holder) → IsViewOf history command (record { holder = holder; taken = false })
-view_of_rows history (Delegate h p) holder not rows = absurd (not h p refl)
-view_of_rows history other holder not rows = record { rows = rows; taken = tt }
 
 -- the rows after an accepted command are those of the history that it leaves
 pub rows_carried : (charter : Charter) (history : History) (day : ℕ) (caller : List ℕ) (command : Command) (change : Change) (rows : AllRows)

@@ -2,8 +2,8 @@
 use Rattle.std.proofs.Common.{◌≡◌, ◌⊎◌, inl, inr, ◌↔◌, ℕ, Bool, true, false, ◌||◌, List, [], ◌∷◌, Option, Some, None, Result, Ok, Err, refl, sym, ap, arith, ◌∙◌, ◌==◌, ◌≤◌, if◌then◌else◌, filter, length, subst, Contains}
 use Rattle.std.specs.Global.{Vec}
 use Rattle.std.specs.List.{list_any}
-use Rattle.std.specs.Prelude.{Any, IfSome, OnErr, OnOk, is_ok, is_err, is_some, option_map, option_to_list}
-use Rattle.std.proofs.lemmas.Bool.{eqb-true, false_from_ne_true, false≢true, true≢false}
+use Rattle.std.specs.Prelude.{Any, IfSome, IsSomeAnd, OnErr, OnOk, IsPermutation, is_ok, is_err, option_map}
+use Rattle.std.proofs.lemmas.Bool.{false_from_ne_true, false≢true, true≢false}
 use Rattle.addr.specs.Address.{last_of, Address}
 use Rattle.addr.proofs.AddressLemmas.{between_at, first-last}
 use Rattle.addr.specs.declared.vrp.Vrp.{Vrp}
@@ -11,7 +11,7 @@ use Rattle.kept.proofs.DayLemmas.{has_same}
 use Rattle.kept.proofs.Edits.{rows_stay}
 use Rattle.kept.proofs.ExceptionLemmas.{after_alike}
 use Rattle.kept.proofs.Follows.{follow_keeps, none_given, none_joined}
-use Rattle.kept.proofs.Members.{at_head, head_or_tail, in_filter, none_in_nil}
+use Rattle.kept.proofs.Members.{head_or_tail, none_in_nil}
 use Rattle.kept.specs.Changes.{AreJoined, IsSpared, IsWithSame}
 use Rattle.kept.specs.Days.{IsDayOf, IsDayOfRows}
 use Rattle.kept.proofs.DailyVrps.{given_on}
@@ -27,17 +27,16 @@ use Rattle.slurm.specs.declared.filter.Filter.{Filter}
 use Rattle.slurm.specs.declared.set.NamedSlurm.{NamedSlurm}
 use Rattle.kept.specs.Giving.{AreGivingOn}
 use Rattle.kept.specs.KeptDay.{exceptions_of, HasExceptions, KeptDay}
-use Rattle.addr.specs.declared.prefix.Prefix.{Prefix}
-use Rattle.registry.specs.Answer.{edit_imported, holder_of, imported, is_transfer}
+use Rattle.registry.specs.Answer.{edit_imported, holder_of, imported}
 use Rattle.payload.specs.VrpSet as set
-use Rattle.registry.specs.Edits.{begun, ended, ends, HasEditsOf, IsEditOf, IsHold, IsHoldEndingNone}
+use Rattle.registry.specs.Edits.{begun, ended, AreRuled, HasEditsOf, IsEditOf, IsHold, IsHoldEndingNone}
 use Rattle.registry.specs.Rows.{Rows}
 use Rattle.registry.specs.RowsOfAll.{AllRows, HasRows, IsGivenOn, changed_rows}
 use Rattle.registry.specs.declared.authorization.Auth.{Auth}
 use Rattle.registry.specs.declared.authorization.AuthTerms.{AuthTerms}
 use Rattle.registry.specs.declared.authorization.RoaPrefix.{RoaPrefix}
 use Rattle.registry.specs.RoaPrefixes.{AreInNumber}
-use Rattle.registry.specs.Terms.{entries_have, with_terms}
+use Rattle.registry.specs.Terms.{entries_have}
 use Rattle.tables.specs.TablesHold.{items_if_any}
 use Rattle.registry.specs.declared.change.Change.{Change}
 use Rattle.registry.specs.declared.change.Change.TheVariants.{Holders, Exceptions}
@@ -49,8 +48,9 @@ use Rattle.registry.specs.declared.change.HolderChange.{HolderChange}
 use Rattle.registry.specs.declared.rows.HolderRows.{HolderRows}
 use Rattle.slurm.specs.SlurmSets.{union}
 use Rattle.store.specs.Given.{GivenOnce}
-use Rattle.loads.specs.Loads.{auths_held, AreHeld, AreLoaded}
-use Rattle.desk.proofs.GivenEdits.{edits_given_by_enough, ending_keeps_once, enough_amended, enough_created, enough_loaded, enough_withdrawn}
+use Rattle.loads.specs.declared.answers.Loaded.{Loaded}
+use Rattle.loads.specs.Loads.{auths_held, AreCounted, AreHeld, AreLoaded, AreNumbered, IsLoadedFor}
+use Rattle.desk.proofs.GivenEdits.{edits_given_by_enough, ending_keeps_once, enough_amended, enough_created, enough_loaded, enough_of_any, enough_withdrawn}
 use Rattle.desk.specs.DayAfter.{has_made_none, DayAfterCommand, DropsForGain, PutsOn, StaysUnless}
 use Rattle.desk.specs.Prepared.{day_of}
 use Rattle.desk.specs.declared.reply.Reply.{Reply}
@@ -135,114 +135,64 @@ apart_by other (Holders first (Some second)) edits = absurd edits
 apart_by other (Holders first None) edits = tt
 apart_by other (Exceptions files) edits = tt
 
-pub no_transfer : (command : Command) → ((p : Prefix) (giver taker : List ℕ) → ¬ (command ≡ Transfer p giver taker)) → is_transfer command ≡ false
-no_transfer (Transfer p giver taker) not = absurd (not p giver taker refl)
-no_transfer other not = refl
+-- ---- the authorizations that are loaded for a command
 
--- of the rows that are loaded for a command, the authorizations are enough to follow its change
-pub enough_for_one : (command : Command) (change : Change) (one : Option HolderRows) (rows : AllRows) → is_transfer command ≡ false → HasEditsOf command change
-    → IfSome (holder_of command) (λ h. AreLoaded (rows.of_holder h) one) → AreEnoughFor change (option_map (λ (r : HolderRows). r.auths) one) None rows
-enough_for_one (Transfer p giver taker) change one rows not edits loaded = absurd (true≢false not)
-enough_for_one command (Exceptions files) one rows not edits loaded = tt
-enough_for_one command (Holders first None) one rows not edits loaded =
-    enough_loaded first.edit (rows.of_holder first.holder) one (subst (λ (h : Option (List ℕ)). IfSome h (λ n. AreLoaded (rows.of_holder n) one)) edits.0 loaded)
-enough_for_one command (Holders first (Some second)) one rows not edits loaded = absurd edits
-
-pub enough_for_two : (p : Prefix) (giver taker : List ℕ) (change : Change) (one other : Option HolderRows) (rows : AllRows) → HasEditsOf (Transfer p giver taker) change
-    → AreLoaded (rows.of_holder giver) one → AreLoaded (rows.of_holder taker) other
-    → AreEnoughFor change (option_map (λ (r : HolderRows). r.auths) one) (option_map (λ (r : HolderRows). r.auths) other) rows
-enough_for_two p giver taker (Holders first (Some second)) one other rows edits loaded also = (
-  enough_loaded first.edit (rows.of_holder first.holder) one (rw edits.0 loaded),
-  enough_loaded second.edit (rows.of_holder second.holder) other (rw edits.2 also),
-)
-enough_for_two p giver taker (Holders first None) one other rows edits loaded also = absurd edits.1
-enough_for_two p giver taker (Exceptions files) one other rows edits loaded also = absurd edits
-
-pub enough_to_withdraw : (h : List ℕ) (n : ℕ) (change : Change) (auths : Vec Auth) (rows : AllRows) → HasEditsOf (Withdraw h n) change
-    → filter (λ (x : Auth). x.number == n) (auths_held (rows.of_holder h)) ≡ auths.items → AreEnoughFor change (Some auths) None rows
-enough_to_withdraw h n (Holders first None) auths rows edits only =
-    let names : Some h ≡ Some first.holder = edits.0 in
-    let same : h ≡ first.holder = cc in
-    rw (edits.1, sym only) (subst (λ (k : List ℕ). AreEnough (WithdrawEdit n) (auths_of rows k) (Some (filter (λ (x : Auth). x.number == n) (auths_held (rows.of_holder h))))) same
-    (enough_withdrawn n (rows.of_holder h)))
-enough_to_withdraw h n (Holders first (Some second)) auths rows edits only = absurd edits
-enough_to_withdraw h n (Exceptions files) auths rows edits only = absurd edits
-
-same_number : (x : Auth) (xs : List Auth) (n : ℕ) → filter (λ (y : Auth). y.number == n) xs ≡ x ∷ [] → x.number ≡ n
-same_number x xs n only = eqb-true x.number n ((in_filter (λ (y : Auth). y.number == n) xs x).0 (subst (λ (l : List Auth). Contains l x) (sym only) (at_head x []))).1
-
--- of an amendment of the one that was found of the number
-pub enough_to_amend : (h : List ℕ) (n : ℕ) (change : Change) (x : Auth) (maxes : List ℕ) (until : ℕ) (found : Option Auth) (auths : Vec Auth) (rows : AllRows)
-    → found ≡ Some x → change ≡ Holders (record { holder = h; edit = AmendEdit (with_terms maxes until x) }) None
-    → filter (λ (y : Auth). y.number == n) (auths_held (rows.of_holder h)) ≡ option_to_list found → auths.items ≡ option_to_list found → AreEnoughFor change (Some auths) None rows
-enough_to_amend h n change x maxes until found auths rows is makes only are =
-    let one : filter (λ (y : Auth). y.number == n) (auths_held (rows.of_holder h)) ≡ x ∷ [] = only ∙ ap option_to_list is in
-    let numbered = same_number x (auths_held (rows.of_holder h)) n one in
-    let same : filter (λ (y : Auth). y.number == x.number) (auths_held (rows.of_holder h)) ≡ auths.items =
-    ap (λ (m : ℕ). filter (λ (y : Auth). y.number == m) (auths_held (rows.of_holder h))) numbered ∙ only ∙ sym are in
-    rw makes (subst (λ (l : List Auth). AreEnough (AmendEdit (with_terms maxes until x)) (auths_of rows h) (Some l)) same
-    (enough_amended (with_terms maxes until x) (rows.of_holder h)))
+not_counted : (was : Option Rows) (part : Option HolderRows) → part ≡ None → AreCounted was part → AreLoaded was part
+not_counted None None none are = tt
+not_counted (Some r) None none are = absurd (let counted = are.granted in cc)
+not_counted was (Some p) none are = absurd (let counted = none in cc)
 
 -- of a create where every address of some entries is held
-created_enough : (h : List ℕ) (terms : AuthTerms) (edit : Edit) (was : Option Rows) (es : List RoaPrefix) → IsEditOf (Create h terms) edit → AreInNumber es
-    → AreHeld (items_if_any (λ (r : Rows). r.holdings) was) es → AreEnough edit (option_map (λ (r : Rows). r.auths) was) (Some [])
-created_enough h terms (CreateEdit y) (Some r) es is number held = enough_created y r
-created_enough h terms (CreateEdit y) None [] is number held = absurd (omega (arith, number.0))
-created_enough h terms (CreateEdit y) None (e ∷ es) is number held =
+created_enough : (h : List ℕ) (terms : AuthTerms) (edit : Edit) (was : Option Rows) (part : Option HolderRows) (es : List RoaPrefix) → IsEditOf (Create h terms) edit → AreInNumber es
+    → AreHeld (items_if_any (λ (r : Rows). r.holdings) was) es → AreCounted was part → AreEnough edit (option_map (λ (r : Rows). r.auths) was) (listed (option_map (λ (p : HolderRows). p.auths) part))
+created_enough h terms (CreateEdit y) (Some r) (Some p) es is number held are = enough_created y r.auths p.auths.items
+created_enough h terms (CreateEdit y) (Some r) None es is number held are = absurd (let counted = are.granted in cc)
+created_enough h terms (CreateEdit y) None part [] is number held are = absurd (omega (arith, number.0))
+created_enough h terms (CreateEdit y) None part (e ∷ es) is number held are =
     let p = e.prefix in
     let first : Address = record { family = p.family; number = p.first } in
     absurd (false≢true (held first (ap (λ b. b || entries_have es first) (between_at p.family p.first (last_of p) p.first (omega arith) (first-last p)))))
-created_enough h terms edit was es is number held = absurd is
+created_enough h terms edit was part es is number held are = absurd is
 
-pub enough_to_create : (h : List ℕ) (terms : AuthTerms) (change : Change) (none : Vec Auth) (rows : AllRows) → HasEditsOf (Create h terms) change → none.items ≡ []
-    → AreInNumber terms.entries → AreHeld (items_if_any (λ (r : Rows). r.holdings) (rows.of_holder h)) terms.entries → AreEnoughFor change (Some none) None rows
-enough_to_create h terms (Holders first None) none rows edits empty number held =
-    let names : Some h ≡ Some first.holder = edits.0 in
-    let same : h ≡ first.holder = cc in
-    rw empty (subst (λ (k : List ℕ). AreEnough first.edit (auths_of rows k) (Some [])) same
-    (created_enough h terms first.edit (rows.of_holder h) terms.entries edits.1 number held))
-enough_to_create h terms (Holders first (Some second)) none rows edits empty number held = absurd edits
-enough_to_create h terms (Exceptions files) none rows edits empty number held = absurd edits
+withdrawn_enough : (n : ℕ) (was : Option Rows) (part : Option HolderRows) → IsSomeAnd part (AreNumbered n was)
+    → AreEnough (WithdrawEdit n) (option_map (λ (r : Rows). r.auths) was) (listed (option_map (λ (p : HolderRows). p.auths) part))
+withdrawn_enough n was None none = absurd none
+withdrawn_enough n was (Some p) are = enough_withdrawn n was p.auths.items are.auths.0
 
--- an edit that neither ends nor begins an authorization is followed by none
-kept_by_none : (edit : Edit) (was : Option (List Auth)) → ((n : ℕ) → ends edit n ≡ false) → ((xs : List Auth) → begun edit xs ≡ []) → AreEnough edit was (Some [])
-kept_by_none edit None ends_none begins_none = (λ x. (λ is. is, λ is. is), λ x. rw (begins_none []) (λ is. is, λ is. is))
-kept_by_none edit (Some xs) ends_none begins_none = (
-  λ x. (λ there. absurd (true≢false (sym ((in_filter (λ (y : Auth). ends edit y.number) xs x).0 there).1 ∙ ends_none x.number)), λ none. absurd (none_in_nil x none)),
-  λ x. rw (begins_none xs, begins_none []) (λ is. is, λ is. is),
+amended_enough : (x : Auth) (n : ℕ) (was : Option Rows) (part : Option HolderRows) → x.number ≡ n → IsSomeAnd part (AreNumbered n was)
+    → AreEnough (AmendEdit x) (option_map (λ (r : Rows). r.auths) was) (listed (option_map (λ (p : HolderRows). p.auths) part))
+amended_enough x n was None same none = absurd none
+amended_enough x n was (Some p) same are =
+    enough_amended x was p.auths.items (subst (λ (m : ℕ). IsPermutation (filter (λ (y : Auth). y.number == m) (auths_held was)) p.auths.items) (sym same) are.auths.0)
+
+enough_for_edit : (command : Command) (edit : Edit) (loaded : Loaded) (rows : AllRows) → IsEditOf command edit → AreRuled command loaded.rows loaded.answers → IsLoadedFor command rows loaded
+    → IfSome (holder_of command) (λ h. AreEnough edit (auths_of rows h) (listed (option_map (λ (p : HolderRows). p.auths) loaded.rows)))
+enough_for_edit (Register h) edit loaded rows is ruled are = enough_loaded edit (rows.of_holder h) loaded.rows (not_counted (rows.of_holder h) loaded.rows ruled are)
+enough_for_edit (Delegate h p) (Hold removed added gone) loaded rows none ruled are =
+    enough_of_any (Hold removed added gone) _ _ (λ n. ap (λ (ns : List ℕ). list_any (λ m. n == m) ns) none) (λ xs. refl)
+enough_for_edit (Reclaim h p) edit loaded rows is ruled are = enough_loaded edit (rows.of_holder h) loaded.rows are
+enough_for_edit (Grant h name role scope until) (GrantEdit g) loaded rows is ruled are = enough_of_any (GrantEdit g) _ _ (λ n. refl) (λ xs. refl)
+enough_for_edit (Revoke h n) edit loaded rows is ruled are = rw is (enough_of_any (RevokeEdit n) _ _ (λ m. refl) (λ xs. refl))
+enough_for_edit (Create h terms) edit loaded rows is ruled are =
+    created_enough h terms edit (rows.of_holder h) loaded.rows terms.entries is ruled.1 (are.answers.holds.0 ruled.0) are.counted
+enough_for_edit (Amend h n maxes until) (AmendEdit x) loaded rows is ruled are = amended_enough x n (rows.of_holder h) loaded.rows is.1 are.numbered
+enough_for_edit (Withdraw h n) edit loaded rows is ruled are = rw is (withdrawn_enough n (rows.of_holder h) loaded.rows are)
+enough_for_edit (Import h listed) edit loaded rows is ruled are = enough_loaded edit (rows.of_holder h) loaded.rows are
+enough_for_edit command edit loaded rows is ruled are = absurd is
+
+-- of what is loaded for a command, the authorizations are enough to follow its change
+pub enough_for : (command : Command) (change : Change) (loaded : Loaded) (rows : AllRows) → HasEditsOf command change → AreRuled command loaded.rows loaded.answers → IsLoadedFor command rows loaded
+    → AreEnoughFor change (option_map (λ (p : HolderRows). p.auths) loaded.rows) (option_map (λ (p : HolderRows). p.auths) loaded.taker) rows
+enough_for (Transfer p giver taker) (Holders first (Some second)) loaded rows edits ruled are = (
+  enough_loaded first.edit (rows.of_holder first.holder) loaded.rows (rw edits.0 are.0),
+  enough_loaded second.edit (rows.of_holder second.holder) loaded.taker (rw edits.2 are.1),
 )
-
--- commands whose edits neither end nor begin an authorization
-abbrev pub leaves_auths : Command → Bool
-leaves_auths (Delegate h p) = true
-leaves_auths (Grant h name role scope until) = true
-leaves_auths (Revoke h n) = true
-leaves_auths other = false
-
-followed_by_none : (command : Command) (edit : Edit) → leaves_auths command ≡ true → IsEditOf command edit → (was : Option (List Auth)) → AreEnough edit was (Some [])
-followed_by_none (Delegate h p) (Hold removed added gone) leaves none was =
-    kept_by_none (Hold removed added gone) was (λ n. ap (λ (ns : List ℕ). list_any (λ m. n == m) ns) none) (λ xs. refl)
-followed_by_none (Delegate h p) other leaves is was = absurd is
-followed_by_none (Grant h name role scope until) (GrantEdit g) leaves is was = kept_by_none (GrantEdit g) was (λ n. refl) (λ xs. refl)
-followed_by_none (Grant h name role scope until) other leaves is was = absurd is
-followed_by_none (Revoke h n) edit leaves is was = rw is (kept_by_none (RevokeEdit n) was (λ m. refl) (λ xs. refl))
-followed_by_none other edit leaves is was = absurd (false≢true leaves)
-
-pub enough_of_none : (command : Command) (change : Change) (none : Vec Auth) (rows : AllRows) → leaves_auths command ≡ true → HasEditsOf command change → none.items ≡ []
-    → AreEnoughFor change (Some none) None rows
-enough_of_none (Transfer p giver taker) change none rows leaves edits empty = absurd (false≢true leaves)
-enough_of_none command (Exceptions files) none rows leaves edits empty = tt
-enough_of_none command (Holders first None) none rows leaves edits empty =
-    rw empty (followed_by_none command first.edit leaves edits.1 (auths_of rows first.holder))
-enough_of_none command (Holders first (Some second)) none rows leaves edits empty = absurd edits
-
-not_loaded : (was : Option Rows) → is_some was ≡ false → AreLoaded was None
-not_loaded None none = tt
-not_loaded (Some r) none = absurd (true≢false none)
-
--- a holder that is registered has no rows before
-pub enough_to_register : (h : List ℕ) (change : Change) (rows : AllRows) → HasEditsOf (Register h) change → is_some (rows.of_holder h) ≡ false → AreEnoughFor change None None rows
-enough_to_register h change rows edits none = enough_for_one (Register h) change None rows refl edits (not_loaded (rows.of_holder h) none)
+enough_for command (Exceptions files) loaded rows edits ruled are = tt
+enough_for (Transfer p giver taker) (Holders first None) loaded rows edits ruled are = absurd edits.1
+enough_for command (Holders first None) loaded rows edits ruled are =
+    subst (λ (h : Option (List ℕ)). IfSome h (λ n. AreEnough first.edit (auths_of rows n) (listed (option_map (λ (p : HolderRows). p.auths) loaded.rows)))) edits.0
+    (enough_for_edit command first.edit loaded rows edits.1 ruled are)
+enough_for command (Holders first (Some second)) loaded rows edits ruled are = absurd edits
 
 -- ---- the day that is kept
 
@@ -270,7 +220,7 @@ has_made reply auths none x there = false_from_ne_true (has_made_none reply) (λ
 puts_on : (command : Command) (edit : Edit) (reply : Reply) (day : ℕ) → IsEditOf command edit → (has_made_none reply ≡ true → edit_imported edit ≡ 0)
     → BeginsOn edit day → PutsOn command reply day
 puts_on (Create h terms) (CreateEdit x) reply day is made begins = subst (λ (y : Auth). (y.from ≤ day) × (day ≤ y.until)) is begins
-puts_on (Amend h n maxes until) (AmendEdit x) reply day is made begins = subst (λ (u : ℕ). day ≤ u) is begins.1
+puts_on (Amend h n maxes until) (AmendEdit x) reply day is made begins = subst (λ (u : ℕ). day ≤ u) is.0 begins.1
 puts_on (Import h rows) (ImportEdit auths created) reply day is made begins =
     let row = is begins.0 begins.1 in
     let days = subst (λ (y : Auth). (y.from ≤ day) × (day ≤ y.until)) row.2 (begins.2, begins.3) in

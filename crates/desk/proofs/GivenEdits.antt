@@ -168,29 +168,53 @@ enough_loaded edit (Some r) (Some loaded) are =
 
 -- ---- those of one number
 
-kept_twice : (p : Auth → Bool) (xs : List Auth) → HaveSameAuths (filter p xs) (filter p (filter p xs))
-kept_twice p xs x = (
-  λ there. (in_filter p (filter p xs) x).1 (there, ((in_filter p xs x).0 there).1),
-  λ there. ((in_filter p (filter p xs) x).0 there).0,
+numbered_alike : (p : Auth → Bool) (xs ys : List Auth) → IsPermutation (filter p xs) ys → HaveSameAuths (filter p xs) (filter p ys)
+numbered_alike p xs ys same x = (
+  λ there. moved p (filter p xs) ys same x ((in_filter p (filter p xs) x).1 (there, ((in_filter p xs x).0 there).1)),
+  λ there. ((in_filter p (filter p xs) x).0 (moved p ys (filter p xs) (IsPermutation-sym (filter p xs) ys same) x there)).0,
 )
 
 -- those of the number that is withdrawn are enough
-pub enough_withdrawn : (n : ℕ) (was : Option Rows) → AreEnough (Withdraw n) (option_map (λ (r : Rows). r.auths) was) (Some (filter (λ (x : Auth). x.number == n) (auths_held was)))
-enough_withdrawn n None = (λ x. (λ is. is, λ is. is), λ x. (λ is. is, λ is. is))
-enough_withdrawn n (Some r) = (kept_twice (λ (x : Auth). x.number == n) r.auths, λ x. (λ is. is, λ is. is))
+pub enough_withdrawn : (n : ℕ) (was : Option Rows) (ys : List Auth) → IsPermutation (filter (λ (x : Auth). x.number == n) (auths_held was)) ys
+    → AreEnough (Withdraw n) (option_map (λ (r : Rows). r.auths) was) (Some ys)
+enough_withdrawn n None ys same = (numbered_alike (λ (x : Auth). x.number == n) [] ys same, λ x. (λ is. is, λ is. is))
+enough_withdrawn n (Some r) ys same = (numbered_alike (λ (x : Auth). x.number == n) r.auths ys same, λ x. (λ is. is, λ is. is))
 
 -- and those of the number that is amended
-pub enough_amended : (y : Auth) (was : Option Rows) → AreEnough (Amend y) (option_map (λ (r : Rows). r.auths) was) (Some (filter (λ (x : Auth). x.number == y.number) (auths_held was)))
-enough_amended y None = (λ x. (λ is. is, λ is. is), λ x. (λ is. is, λ is. is))
-enough_amended y (Some r) = (
-  kept_twice (λ (x : Auth). x.number == y.number) r.auths,
-  λ x. rw (any-filter_same (λ (z : Auth). z.number == y.number) (λ (z : Auth). z.number == y.number) true (λ z is. is) r.auths) (λ is. is, λ is. is),
+pub enough_amended : (y : Auth) (was : Option Rows) (ys : List Auth) → IsPermutation (filter (λ (x : Auth). x.number == y.number) (auths_held was)) ys
+    → AreEnough (Amend y) (option_map (λ (r : Rows). r.auths) was) (Some ys)
+enough_amended y None ys same = (
+  numbered_alike (λ (x : Auth). x.number == y.number) [] ys same,
+  λ x. subst (λ (l : List Auth). Contains [] x ↔ Contains l x) (begun_moved (Amend y) [] ys same) (λ is. is, λ is. is),
+)
+enough_amended y (Some r) ys same =
+    let p = λ (x : Auth). x.number == y.number in (
+      numbered_alike p r.auths ys same,
+      λ x. subst (λ (l : List Auth). Contains (begun (Amend y) r.auths) x ↔ Contains l x) (begun_moved (Amend y) (filter p r.auths) ys same)
+          (rw (any-filter_same p p true (λ z is. is) r.auths) (λ is. is, λ is. is)),
+    )
+
+-- ---- whichever they are
+
+none_ended : (edit : Edit) (auths : Option (List Auth)) → ((n : ℕ) → ends edit n ≡ false) → (x : Auth) → ¬ Contains (ended_if_any edit auths) x
+none_ended edit None ends_none x there = none_in_nil x there
+none_ended edit (Some xs) ends_none x there = true≢false (sym ((in_filter (λ (y : Auth). ends edit y.number) xs x).0 there).1 ∙ ends_none x.number)
+
+none_begun : (edit : Edit) (auths : Option (List Auth)) → ((xs : List Auth) → begun edit xs ≡ []) → (x : Auth) → ¬ Contains (begun_if_any edit auths) x
+none_begun edit None begins_none x there = none_in_nil x there
+none_begun edit (Some xs) begins_none x there = none_in_nil x (subst (λ (l : List Auth). Contains l x) (begins_none xs) there)
+
+-- any are enough for an edit that neither ends nor begins an authorization
+pub enough_of_any : (edit : Edit) (all some : Option (List Auth)) → ((n : ℕ) → ends edit n ≡ false) → ((xs : List Auth) → begun edit xs ≡ []) → AreEnough edit all some
+enough_of_any edit all some ends_none begins_none = (
+  λ x. (λ there. absurd (none_ended edit all ends_none x there), λ there. absurd (none_ended edit some ends_none x there)),
+  λ x. (λ there. absurd (none_begun edit all begins_none x there), λ there. absurd (none_begun edit some begins_none x there)),
 )
 
--- of those of a holder that has rows, none have to be known to follow a create
-pub enough_created : (y : Auth) (r : Rows) → AreEnough (Create y) (Some r.auths) (Some [])
-enough_created y r = (
-  λ x. (λ there. absurd (true≢false (sym ((in_filter (λ (z : Auth). ends (Create y) z.number) r.auths x).0 there).1)), λ none. absurd (none_in_nil x none)),
+-- and any of a holder that has rows for a create
+pub enough_created : (y : Auth) (xs ys : List Auth) → AreEnough (Create y) (Some xs) (Some ys)
+enough_created y xs ys = (
+  λ x. (λ there. absurd (none_ended (Create y) (Some xs) (λ n. refl) x there), λ there. absurd (none_ended (Create y) (Some ys) (λ n. refl) x there)),
   λ x. (λ is. is, λ is. is),
 )
 

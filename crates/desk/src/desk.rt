@@ -4,11 +4,11 @@ ghost use Rattle.std.specs.List.{list_any};
 ghost use Rattle.registry.specs.Answer.{AnswersNumber};
 ghost use Rattle.registry.specs.History.{History};
 ghost use Rattle.registry.specs.Rows.{rows_if_any, RowsIfAny};
+ghost use Rattle.registry.specs.Verdict.{auth_of_number};
 ghost use Rattle.sqlite.specs.Held.{state};
 ghost use Rattle.sqlite.specs.State.{HasCleanDisk};
 ghost use Rattle.sqlite.specs.Steps.{over_memory};
-ghost use Rattle.loads.specs.Loads.{AreLoaded, AreNumbered};
-ghost use Rattle.store.specs.StoreRows.{connection_state, IfClean, OfHeldRows, IsRead, IsOpened};
+ghost use Rattle.store.specs.StoreRows.{connection_state, IfClean, IsRead, IsOpened};
 ghost use Rattle.store.specs.RefusedOpening.{IsGivenBack, IsNotMade};
 ghost use Rattle.transactions.specs.Databases.{IsDeskWhileOpen, IsNew, IsUnused, LeavesNew, IsHonest};
 ghost use Rattle.database.specs.Opening.{IsOfAnotherSchema};
@@ -25,7 +25,6 @@ ghost use Rattle.desk.specs.DeskView.{HoldsKept};
 ghost use Rattle.desk.specs.DayAfter.{DayAfter, DayAfterAll, DropsForGainAll, DropsForGain};
 ghost use Rattle.desk.specs.Prepared.{day_of};
 
-mod by_key;
 mod commands;
 mod daily;
 mod following;
@@ -39,7 +38,7 @@ use registry::{Charter, HolderRows};
 use sqlite::{Alter, Connection, MemStore};
 use std::alloc::{AllocError, Global};
 use std::marker::Model;
-use store::{Numbered, Store, StoreFault};
+use store::{Store, StoreFault};
 
 /// A route origin authorization desk over the tables of a store, with the charter that they were
 /// made with. Beside the tables it may keep the VRPs of one day.
@@ -280,23 +279,19 @@ impl<S: Alter> Desk<S> {
         ensures same { self.new.kept ≡ self.old.kept }
         ensures rows { IfOk result (λ rows. OfRows S.Store self.old self.new (λ history.
             RowsIfAny history holder.now (rows_if_any rows))) }
-        ensures loaded { IfClean S.Store self.new.store (IfOk result (λ loaded.
-            OfHeldRows S.Store self.old.store
-            (λ rows. AreLoaded (rows.of_holder holder.now) loaded))) }
     {
         store::laws::rows_of_a_history();
         self.store.load_holder(self.alloc, holder)
     }
 
-    /// The grants of the holder, and its authorization that has the number.
-    fn load_numbered(&mut self, holder: &Name, number: u32) -> Result<Numbered, StoreFault>
+    /// The grants of the holder and its authorization that has the number, as rows with nothing
+    /// else.
+    fn load_numbered(&mut self, holder: &Name, number: u32) -> Result<HolderRows, StoreFault>
         ensures read { IsRead S.Store self.old.store self.new.store }
         ensures same { self.new.kept ≡ self.old.kept }
-        ensures rows { IfOk result (λ loaded. OfRows S.Store self.old self.new (λ history.
-            AnswersNumber history holder.now number loaded.grants.items loaded.auth)) }
-        ensures loaded { IfClean S.Store self.new.store (IfOk result (λ loaded.
-            OfHeldRows S.Store self.old.store
-            (λ rows. AreNumbered number (rows.of_holder holder.now) loaded))) }
+        ensures rows { IfOk result (λ part. OfRows S.Store self.old self.new (λ history.
+            AnswersNumber history holder.now number part.grants.items
+            (auth_of_number number part.auths.items))) }
     {
         store::laws::number_of_a_history();
         self.store.load_numbered(self.alloc, holder, number)

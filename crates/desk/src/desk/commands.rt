@@ -1,14 +1,12 @@
 //! Commands: judged on the rows, then made.
-ghost use Rattle.std.specs.Prelude.{◌≡◌, true, false, option_copied, option_map, IfOk, IfSome};
-ghost use Rattle.registry.specs.Answer.{imported, RowsOfNamed};
-ghost use Rattle.registry.specs.Rows.{rows_if_any, RowsIfAny};
-ghost use Rattle.loads.specs.Loads.{AreLoaded};
-ghost use Rattle.store.specs.StoreRows.{IfClean, IsRead, OfHeldRows};
+ghost use Rattle.std.specs.Prelude.{◌≡◌, true, false, option_map};
+ghost use Rattle.registry.specs.Answer.{imported};
+ghost use Rattle.store.specs.StoreRows.{IsRead};
 ghost use Rattle.desk.specs.Answer.{is_accepted, only_reads, IsAnswered};
 ghost use Rattle.desk.specs.CrashOutcomes.{asked_on, IsKept, StaysOpen};
 ghost use Rattle.desk.specs.DayAfter.{has_made_none, DayAfter, DropsForGain};
 ghost use Rattle.desk.specs.Prepared.{day_of};
-ghost use Rattle.desk.specs.Desk.{charter_of, IsOnCleanDisk, KeepsRows, OfHistories, OfRows};
+ghost use Rattle.desk.specs.Desk.{charter_of, IsOnCleanDisk, KeepsRows, OfHistories};
 ghost use Rattle.desk.specs.HolderAnswers.{may_change, may_except, KeepsOthers};
 ghost use Rattle.desk.specs.steps.Accepting.{AnswersAccepted, Decides};
 
@@ -16,10 +14,10 @@ use super::Desk;
 use super::following::{Decided, follow};
 use crate::{Reply, Request};
 use addr::{Day, Name};
-use policy::GrantTerms;
-use registry::{Auth, Change, Command, HolderRows, View};
+use policy::Facts;
+use registry::{Auth, Change, Command, HolderRows};
 use sqlite::Alter;
-use store::StoreFault;
+use store::Loaded;
 
 /// The reply to a command that is accepted with this change.
 fn accepted(command: &Command, change: &Change) -> Reply
@@ -100,101 +98,24 @@ impl<S: Alter> Desk<S> {
         ensures same { self.new.kept ≡ self.old.kept }
         ensures decides { Decides S.Store day caller.now command.now self.old self.new result }
     {
-        match command {
-            Command::Transfer { giver, taker, .. } => {
-                let (first, second) = self.load_two(giver, taker)?;
-                let charter = self.store.charter();
-                let change = policy::decide_two(
-                    self.alloc,
-                    charter,
-                    first.as_ref(),
-                    second.as_ref(),
-                    caller,
-                    command,
-                )?;
-                Ok(Decided {
-                    change,
-                    first: auths_of(first),
-                    second: auths_of(second),
-                })
-            }
-            Command::Register { holder } => self.register(caller, holder),
-            Command::Delegate { holder, prefix } => self.delegate(caller, holder, prefix),
-            Command::Grant {
-                holder,
-                name,
-                role,
-                scope,
-                until,
-            } => {
-                let terms = GrantTerms {
-                    caller: *name,
-                    role: *role,
-                    scope: *scope,
-                    until: *until,
-                };
-                self.grant(day, caller, holder, &terms)
-            }
-            Command::Revoke { holder, number } => self.revoke(day, caller, holder, *number),
-            Command::Withdraw { holder, number } => self.withdraw(day, caller, holder, *number),
-            Command::Create { holder, terms } => self.create(day, caller, holder, terms),
-            Command::Amend {
-                holder,
-                number,
-                maxes,
-                until,
-            } => self.amend(day, caller, holder, *number, maxes, *until),
-            _ => {
-                let holder = self.load_named(command.holder())?;
-                // Only a delegation reads `taken`, and it is not decided here.
-                let view = View {
-                    holder,
-                    taken: false,
-                };
-                let charter = self.store.charter();
-                let change = policy::decide(self.alloc, charter, &view, day, caller, command)?;
-                Ok(Decided {
-                    change,
-                    first: auths_of(view.holder),
-                    second: None,
-                })
-            }
-        }
-    }
-
-    /// The rows of both holders that a transfer names, the giver's first.
-    fn load_two(
-        &mut self,
-        giver: &Name,
-        taker: &Name,
-    ) -> Result<(Option<HolderRows>, Option<HolderRows>), StoreFault>
-        ensures read { IsRead S.Store self.old.store self.new.store }
-        ensures same { self.new.kept ≡ self.old.kept }
-        ensures rows { IfOk result (λ both. OfRows S.Store self.old self.new (λ history.
-            RowsIfAny history giver.now (rows_if_any both.0)
-            × RowsIfAny history taker.now (rows_if_any both.1))) }
-        ensures loaded { IfClean S.Store self.new.store (IfOk result (λ both.
-            OfHeldRows S.Store self.old.store (λ rows.
-            AreLoaded (rows.of_holder giver.now) both.0
-            × AreLoaded (rows.of_holder taker.now) both.1))) }
-    {
-        store::laws::rows_of_a_history();
-        self.store.load_two(self.alloc, giver, taker)
-    }
-
-    /// The rows of the holder, if the command names one.
-    fn load_named(&mut self, holder: Option<&Name>) -> Result<Option<HolderRows>, StoreFault>
-        ensures read { IsRead S.Store self.old.store self.new.store }
-        ensures same { self.new.kept ≡ self.old.kept }
-        ensures rows { IfOk result (λ rows. OfRows S.Store self.old self.new (λ history.
-            RowsOfNamed history (option_copied holder.entry) (rows_if_any rows))) }
-        ensures loaded { IfClean S.Store self.new.store (IfOk result (λ loaded.
-            OfHeldRows S.Store self.old.store (λ rows. IfSome (option_copied holder.entry)
-            (λ name. AreLoaded (rows.of_holder name) loaded)))) }
-    {
-        match holder {
-            Some(holder) => self.load(holder),
-            None => Ok(None),
-        }
+        store::laws::facts_of_a_history();
+        let alloc = self.alloc;
+        let Loaded {
+            rows,
+            taker,
+            answers,
+        } = self.store.load_for(alloc, command)?;
+        let facts = Facts {
+            rows: rows.as_ref(),
+            taker: taker.as_ref(),
+            answers,
+        };
+        let charter = self.store.charter();
+        let change = policy::judge(alloc, charter, facts, day, caller, command)?;
+        Ok(Decided {
+            change,
+            first: auths_of(rows),
+            second: auths_of(taker),
+        })
     }
 }

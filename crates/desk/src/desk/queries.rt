@@ -80,8 +80,8 @@ impl<S: Alter> Desk<S> {
             AnswersShow history holder.now day caller.now number reply)) }
         ensures never_done { IfOk result (λ reply. is_accepted reply ≡ false) }
     {
-        let loaded = self.load_numbered(holder, number)?;
-        match policy::see_found(&loaded.grants, loaded.auth.as_ref(), day, caller) {
+        let rows = self.load_numbered(holder, number)?;
+        match policy::see(Some(&rows), day, caller, number) {
             Ok(auth) => Ok(shown(auth)?),
             Err(rule) => Ok(Reply::Denied(rule, None)),
         }

@@ -1,7 +1,8 @@
 use Rattle.registry.specs.Answer.{AnswersNumber}
 use Rattle.registry.specs.RowsOfAll.{AllRows}
 use Rattle.loads.specs.Loads.{AreNumbered}
-use Rattle.loads.specs.declared.load.Numbered.{Numbered}
+use Rattle.registry.specs.declared.rows.HolderRows.{HolderRows}
+use Rattle.registry.specs.Verdict.{auth_of_number}
 use Rattle.desk.proofs.DeskLemmas.{of_held}
 use Rattle.desk.proofs.KeptLemmas.{kept_read}
 use Rattle.desk.proofs.desk.Desk.load_numbered.Goals as goal
@@ -14,10 +15,7 @@ returns-clause-rows g c =
     let h = c.args.holder.now in
     let n = c.args.number in
     rw (← c.self.view_is)
-    (of_held g.S.Store (λ (loaded : Numbered) (rows : AllRows). AreNumbered n (rows.of_holder h) loaded) (λ loaded history. AnswersNumber history h n loaded.grants.items loaded.auth)
+    (of_held g.S.Store (λ (part : HolderRows) (rows : AllRows). AreNumbered n (rows.of_holder h) part) (λ part history. AnswersNumber history h n part.grants.items (auth_of_number n part.auths.items))
     (record { store = c.self.inside.store; kept = c.self.inside.kept }) (record { store = c.load_numbered.new.self; kept = c.self.inside.kept })
-    (λ loaded rows history legal has are. c.number_of_a_history.ensures c.self.inside.store.charter history h n (rows.of_holder h) loaded legal (has.holders h) are)
+    (λ part rows history legal has are. c.number_of_a_history.ensures c.self.inside.store.charter history h n (rows.of_holder h) part legal (has.holders h) are)
     c.load_numbered.result c.load_numbered.ensures.found)
-
-pub returns-clause-loaded : goal.returns-clause-loaded
-returns-clause-loaded g c = rw (← c.self.view_is) c.load_numbered.ensures.found
