@@ -12,7 +12,7 @@ use sqlite::{Connection, MemStore};
 use std::alloc::Global;
 use std::process::Abort;
 use std::test::Fail;
-use store::{ForAmend, ForCreate, Store, StoreFault};
+use store::{Loaded, Store, StoreFault};
 
 fn name(text: &str) -> Result<Name, Fail> {
     Ok(Name::read(text.as_bytes()).ok_or("a name")?)
@@ -241,16 +241,31 @@ fn reclaim(alloc: Global, store: &mut Store<MemStore>) -> Result<(), Fail> {
     apply(store, hold(alloc, Some(&reclaimed))?)
 }
 
+/// What is loaded for a command.
+fn loaded_for(
+    alloc: Global,
+    store: &mut Store<MemStore>,
+    command: &Command,
+) -> Result<Loaded, Fail> {
+    match store.load_for(alloc, command) {
+        Ok(loaded) => Ok(loaded),
+        Err(_) => Err("not loaded".into()),
+    }
+}
+
 fn assert_overlaps(
     rt: &impl Abort,
+    alloc: Global,
     store: &mut Store<MemStore>,
     text: &str,
     overlaps: bool,
 ) -> Result<(), Fail> {
     let prefix = Prefix::read(text.as_bytes())?;
-    for found in [store.overlapping(&prefix), store.is_taken(&prefix)] {
-        assert!(rt; matches!(found, Ok(found) if found == overlaps), "{text}");
-    }
+    let found = store.overlapping(&prefix);
+    assert!(rt; matches!(found, Ok(found) if found == overlaps), "{text}");
+    let holder = name("alpha")?;
+    let loaded = loaded_for(alloc, store, &Command::Delegate { holder, prefix })?;
+    assert_eq!(rt; loaded.answers.taken, overlaps, "{text}");
     Ok(())
 }
 
@@ -259,7 +274,7 @@ fn overlapping_after_reclaim(rt: HostRuntime) -> Result<(), Fail> {
     let mut store = registered_holder(rt.alloc())?;
     reclaim(rt.alloc(), &mut store)?;
     for (text, overlaps) in OVERLAPS {
-        assert_overlaps(&rt, &mut store, text, overlaps)?;
+        assert_overlaps(&rt, rt.alloc(), &mut store, text, overlaps)?;
     }
     Ok(())
 }
@@ -546,11 +561,17 @@ fn for_create(
     alloc: Global,
     store: &mut Store<MemStore>,
     holder: &str,
-    terms: &AuthTerms,
-) -> Result<ForCreate, Fail> {
-    match store.load_for_create(alloc, &name(holder)?, terms) {
-        Ok(loaded) => Ok(loaded),
-        Err(_) => Err("not loaded".into()),
+    terms: AuthTerms,
+) -> Result<Loaded, Fail> {
+    let holder = name(holder)?;
+    loaded_for(alloc, store, &Command::Create { holder, terms })
+}
+
+/// The grants that were loaded.
+fn grants_of(loaded: &Loaded) -> &[Granted] {
+    match &loaded.rows {
+        Some(rows) => &rows.grants,
+        None => &[],
     }
 }
 
@@ -569,12 +590,12 @@ const CREATES: &[(u32, &str, u8, bool, bool)] = &[
 
 fn assert_answers(
     rt: &impl Abort,
-    loaded: &ForCreate,
+    loaded: &Loaded,
     row: &(u32, &str, u8, bool, bool),
 ) -> Result<(), Fail> {
     let (asn, prefix, max, holds, gives) = *row;
     assert!(rt;
-        loaded.grants.as_slice() == [grant()?].as_slice(),
+        grants_of(loaded) == [grant()?].as_slice(),
         "{prefix}"
     );
     assert_eq!(rt; loaded.answers.created, 2, "{prefix}");
@@ -592,7 +613,7 @@ fn assert_create(
 ) -> Result<(), Fail> {
     let (asn, prefix, max, ..) = *row;
     let terms = terms(alloc, asn, prefix, max)?;
-    assert_answers(rt, &for_create(alloc, store, "alpha", &terms)?, row)
+    assert_answers(rt, &for_create(alloc, store, "alpha", terms)?, row)
 }
 
 #[test]
@@ -604,8 +625,8 @@ fn what_a_create_asks_is_loaded(rt: HostRuntime) -> Result<(), Fail> {
     Ok(())
 }
 
-fn assert_nothing(rt: &impl Abort, loaded: &ForCreate) {
-    assert!(rt; loaded.grants.is_empty());
+fn assert_nothing(rt: &impl Abort, loaded: &Loaded) {
+    assert!(rt; grants_of(loaded).is_empty());
     assert_eq!(rt; loaded.answers.created, 0);
     assert!(rt; !loaded.answers.holds);
 }
@@ -614,7 +635,7 @@ fn assert_nothing(rt: &impl Abort, loaded: &ForCreate) {
 fn create_at_nobody_is_loaded(rt: HostRuntime) -> Result<(), Fail> {
     let terms = terms(rt.alloc(), 64_496, "192.0.2.0/24", 24)?;
     let mut store = two_authorizations(rt.alloc())?;
-    assert_nothing(&rt, &for_create(rt.alloc(), &mut store, "beta", &terms)?);
+    assert_nothing(&rt, &for_create(rt.alloc(), &mut store, "beta", terms)?);
     Ok(())
 }
 
@@ -623,7 +644,7 @@ fn is_full(alloc: Global, store: &mut Store<MemStore>, count: u32) -> Result<boo
     apply(store, hold(alloc, None)?)?;
     import(alloc, store, count)?;
     let terms = terms(alloc, 64_496, "192.0.2.0/24", 24)?;
-    Ok(for_create(alloc, store, "alpha", &terms)?.answers.is_full)
+    Ok(for_create(alloc, store, "alpha", terms)?.answers.is_full)
 }
 
 #[test]
@@ -645,11 +666,14 @@ fn for_amend(
     store: &mut Store<MemStore>,
     number: u32,
     maxes: &[u8],
-) -> Result<ForAmend, Fail> {
-    match store.load_for_amend(alloc, &name("alpha")?, number, maxes) {
-        Ok(loaded) => Ok(loaded),
-        Err(_) => Err("not loaded".into()),
-    }
+) -> Result<Loaded, Fail> {
+    let command = Command::Amend {
+        holder: name("alpha")?,
+        number,
+        maxes: Vec::from_slice(alloc, maxes)?,
+        until: first_of_march()?,
+    };
+    loaded_for(alloc, store, &command)
 }
 
 /// Whether the number is there, and whether another one gives the AS with the amended entry.
@@ -666,21 +690,15 @@ const AMENDMENTS: &[(u32, &[u8], bool, bool)] = &[
 
 fn assert_loaded(
     rt: &impl Abort,
-    loaded: &ForAmend,
+    loaded: &Loaded,
     row: &(u32, &[u8], bool, bool),
 ) -> Result<(), Fail> {
     let (number, maxes, is_there, is_shared) = *row;
-    let numbered = &loaded.numbered;
-    assert!(rt;
-        numbered.grants.as_slice() == [grant()?].as_slice(),
-        "{number}"
-    );
-    let found = numbered
-        .auth
-        .as_ref()
-        .is_some_and(|auth| auth.number == number);
+    let rows = loaded.rows.as_ref().ok_or("no rows")?;
+    assert!(rt; rows.grants.as_slice() == [grant()?].as_slice(), "{number}");
+    let found = rows.auths.iter().any(|auth| auth.number == number);
     assert_eq!(rt; found, is_there, "{number}");
-    assert_eq!(rt; loaded.is_shared, is_shared, "{number} to {maxes:?}");
+    assert_eq!(rt; loaded.answers.gives, is_shared, "{number} to {maxes:?}");
     Ok(())
 }
 
