@@ -413,15 +413,6 @@ int has_as_many(const char *holder, int64_t count)
     return count <= 0 || has_any(claims_past);
 }
 
-int is_taken(int family, address first, address last)
-{
-    bind_number(run_at, 1, family);
-    bind_address(run_at, 2, last);
-    int taken = has_row(run_at) && first <= address_in(run_at, 1);
-    sqlite3_reset(run_at);
-    return taken;
-}
-
 void ask_vrps(int64_t day)
 {
     bind_number(in_force, 1, day);

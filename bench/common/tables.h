@@ -95,9 +95,6 @@ uint32_t made_at(const char *holder);
 /* Whether the holder has so many authorizations, or more. */
 int has_as_many(const char *holder, int64_t count);
 
-/* Whether an address from the first to the last one is held. */
-int is_taken(int family, address first, address last);
-
 /* Asks for the VRPs of a day. Each call of next_vrp then gives one, in no order; 0 after the last one. */
 void ask_vrps(int64_t day);
 int next_vrp(struct vrp *vrp);

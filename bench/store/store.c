@@ -90,14 +90,14 @@ static uint64_t all_on(unsigned day)
 
 static unsigned holders, auths;
 
-enum operation { LOAD, CREATE, LOAD_AND_CREATE, WITHDRAW, TAKEN, ALL_ON_A_DAY, OPERATIONS };
+enum operation { LOAD, CREATE, LOAD_AND_CREATE, WITHDRAW, ALL_ON_A_DAY, OPERATIONS };
 
 static const struct {
     const char *name;
     unsigned count;
 } operations[OPERATIONS] = {
     {"load", READS},       {"create", CHANGES},    {"load-and-create", CHANGES},
-    {"withdraw", CHANGES}, {"taken", READS},       {"all-on-a-day", WALKS},
+    {"withdraw", CHANGES}, {"all-on-a-day", WALKS},
 };
 
 /* Does the operation once more; a sum of what was answered. */
@@ -119,8 +119,6 @@ static uint64_t perform(enum operation operation, unsigned at)
     case WITHDRAW:
         withdraw(holder, number);
         return 0;
-    case TAKEN:
-        return is_taken(4, address_of(holder * 2, 0), address_of(holder * 2, 15));
     default:
         return all_on(TODAY);
     }
