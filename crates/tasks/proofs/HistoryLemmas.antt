@@ -1,17 +1,18 @@
 -- The histories that a desk has after connections.
-use Rattle.std.proofs.Common.{◌≡◌, ◌≤◌, ◌<◌, ◌⊎◌, ℕ, List, [], ◌∷◌, ◌++◌, Option, Some, None, Result, Ok, Err, IfOk, OnOk, OnErr, arith, refl, subst, sym, inl, inr}
+use Rattle.std.proofs.Common.{◌≡◌, ◌∙◌, ◌≤◌, ◌<◌, ℕ, List, [], ◌∷◌, ◌++◌, Option, Some, None, Result, Ok, Err, IfOk, OnOk, OnErr, ap, arith, refl, subst, sym, inl, inr}
 use Rattle.sqlite.specs.Store.{Ghosts}
 use Rattle.charters.specs.declared.charter.Charter.{Charter}
 use Rattle.registry.specs.History.{History}
 use Rattle.registry.specs.Values.{HistoryFits}
 use Rattle.registry.specs.declared.asked.Asked.{Asked}
-use Rattle.requests.specs.HttpRequests.{asked, HttpRequest, IsRequest, malformed, NeedsMemory, ReadsHttp, refused}
-use Rattle.desk.specs.CrashOutcomes.{LeavesAlong}
+use Rattle.requests.specs.HttpRequests.{asked, HttpRequest, malformed, ReadsHttp, refused}
 use Rattle.desk.specs.Desk.{IsOnCleanDisk, Represents}
 use Rattle.desk.specs.declared.desk.Desk.{Desk}
 use Rattle.desk.specs.declared.reply.Reply.{Reply}
 use Rattle.web.proofs.RepliesAlong.{replied_leaving, replied_on, RepresentsFrom, StandsFrom}
-use Rattle.web.specs.HttpAnswers.{AnswersHttp, KeepsAll, LeavesAskedDay, RespondsTo}
+use Rattle.web.proofs.HttpLemmas.{long-keeps, shown-pending, unsent-shows}
+use Rattle.web.specs.HttpAnswers.{AnswersHttp, RespondsTo}
+use Rattle.web.specs.ReplyText.{short_text}
 use Rattle.web.specs.ScriptAnswer.{RepliesAt, RepliesLeaving, RepliesOn, Standing}
 use Rattle.web.specs.declared.http.WebFault.{WebFault}
 use Rattle.web.specs.declared.http.WebFault.TheVariants.{Read, Write}
@@ -19,15 +20,16 @@ use Rattle.tasks.specs.ServedHistories.{ConnectionLeads, LeavesInTurn, RespondsB
 use Rattle.tasks.specs.Serving.{AnswersInTurn, EndsWith, Serves, Transcript}
 use Rattle.tasks.proofs.ServingLemmas.{later-in-turn}
 
--- connections of the desk are connections of what it represents, as histories, where its replies are replies there, and
--- what leaves its rows and histories leaves what it represents
+-- connections of the desk are connections of what it represents, as histories, where its replies are replies there, of
+-- which those that show something leave what it represents
 module _ {S There : Type 0} (g : Ghosts S)
     (Shows : Desk S → There → Type 0)
     (replies : There → Asked → Reply → There → Type 0)
     (replied : (old new : Desk S) (request : Asked) (reply : Reply) (before : There)
     → IsOnCleanDisk g new → Shows old before → RepliesAt g old request reply new
     → (after : There) × Shows new after × replies before request reply after)
-    (kept : (old new : Desk S) (before : There) → IsOnCleanDisk g new → Shows old before → KeepsAll g old new → Shows new before) where
+    (same : (before after : There) (request : Asked) (reply : Reply) → short_text reply ≡ None → replies before request reply after
+    → after ≡ before) where
   -- what connections lead to, which the desk shows
   abbrev LeadsTo : Desk S → (There → Type 0) → Type 0
   LeadsTo new leads = (after : There) × Shows new after × leads after
@@ -49,14 +51,14 @@ module _ {S There : Type 0} (g : Ghosts S)
         let (after, shows_after, answers) = replied old new request reply before clean shows at in
         (after, shows_after, inl (asked form request, reads, (reply, written, answers)))
 
-    cause_of : {bytes : List ℕ} → (NeedsMemory bytes × (new ≡ old)) ⊎ LeavesAskedDay day bytes old new → NeedsMemory bytes ⊎ IsRequest day bytes
-    cause_of (inl (needs, same)) = inl needs
-    cause_of (inr (form, request, reads, leaves)) = inr (form, request, reads)
-
     responded : (bytes text : List ℕ) → RespondsTo g old day bytes text new → LeadsTo new (RespondsBy replies day before bytes text)
     responded bytes text (inl (request, reads, answers)) = answered bytes text request reads answers
-    responded bytes text (inr (cause, said, stays)) =
-        (before, kept old new before clean shows stays, inr (cause_of cause, said, refl))
+    responded bytes text (inr (inl (needs, unasked), said, keeps)) =
+        unchanged (RespondsBy replies day before bytes text) unasked (inr (inl needs, said, refl))
+    responded bytes text (inr (inr (form, request, reads, (reply, unsent, at)), said, keeps)) =
+        let (after, shows_after, answers) = replied old new request reply before clean shows at in
+        let stays = same before after request reply (unsent-shows request.request reply unsent) answers in
+        (after, shows_after, inr (inr (form, request, reads, (reply, unsent, answers)), said, stays))
 
     ended : (passed : Transcript) (fault : Option WebFault)
         → EndsWith (λ from bytes text to. RespondsTo g from day bytes text to) old passed fault new
@@ -79,37 +81,35 @@ module _ {S There : Type 0} (g : Ghosts S)
       let (after, shows_after, leads) = in_turn_along day later next new after_one in_turn clean shows_one in
       (after, shows_after, (after_one, leads_one, leads))
 
+-- what a reply that shows something leaves
+same_on : (charter : Charter) (before after : History) (request : Asked) (reply : Reply) → short_text reply ≡ None
+    → RepliesOn charter before request reply after → after ≡ before
+same_on charter before after request reply shows answers =
+    long-keeps charter before after request.day request.caller request.request reply answers shows
+
+same_leaving : (charter : Charter) (before after : Standing) (request : Asked) (reply : Reply) → short_text reply ≡ None
+    → RepliesLeaving charter before request reply after → after ≡ before
+same_leaving charter before after request reply shows (answers, pending) =
+    let same = same_on charter before.history after.history request reply shows answers in
+    let kept = pending ∙ shown-pending request reply shows before.pending in
+    ap (λ h. record { history = h; pending = after.pending }) same
+    ∙ ap (λ p. record { history = before.history; pending = p }) kept
+
 module _ {S : Type 0} (g : Ghosts S) where
-  -- what leaves rows and histories
-  kept : (charter : Charter) (first : History) (old new : Desk S) (before : History)
-      → IsOnCleanDisk g new → RepresentsFrom g charter first old before → KeepsAll g old new
-      → RepresentsFrom g charter first new before × LeavesAlong g charter old before (λ pending. pending) new before
-  kept charter first old new before clean (represents, values) keeps =
-      let P : Charter → Type 0 = λ k. Represents g k old before → (after : History) × Represents g k new after × (HistoryFits before → HistoryFits after) × ((after ≡ before) × LeavesAlong g k old before (λ pending. pending) new after) in
-      let (after, represents_after, values_after, (same, left)) = subst P represents.chartered (keeps.1 clean before) represents in
-      subst (λ (h : History). RepresentsFrom g charter first new h × LeavesAlong g charter old before (λ pending. pending) new h) same
-      ((represents_after, λ fits. values_after (values fits)), left)
-
-  kept_leaving : (charter : Charter) (first : Standing) (old new : Desk S) (before : Standing)
-      → IsOnCleanDisk g new → StandsFrom g charter first old before → KeepsAll g old new → StandsFrom g charter first new before
-  kept_leaving charter first old new before clean (stands, fitting, leaves) keeps =
-      let (stands_after, left) = kept charter first.history old new before.history clean stands keeps in
-      (stands_after, fitting, left before.pending leaves)
-
   pub each_leads : (charter : Charter) (day : ℕ) (passed : List Transcript) (old new : Desk S) (before : History)
       → AnswersInTurn (Serves g day) old passed new → IsOnCleanDisk g new → Represents g charter old before
       → (after : History) × Represents g charter new after × (HistoryFits before → HistoryFits after)
       × AnswersInTurn (ConnectionLeads charter day) before passed after
   each_leads charter day passed old new before in_turn clean is =
       let (after, (represents, values), leads) = in_turn_along g (RepresentsFrom g charter before) (RepliesOn charter) (replied_on g charter before)
-      (λ from to history clean stands keeps. (kept charter before from to history clean stands keeps).0)
+      (same_on charter)
       day passed old new before in_turn clean (is, λ fits. fits) in
       (after, represents, values, leads)
 
   pub each_leaves : (day : ℕ) (passed : List Transcript) (old new : Desk S) → AnswersInTurn (Serves g day) old passed new
       → LeavesInTurn g day old passed new
   each_leaves day passed old new in_turn = λ clean charter before is leaves.
-      let (after, ((represents, values), fitting, left), leads) = in_turn_along g (StandsFrom g charter before) (RepliesLeaving charter) (replied_leaving g charter before) (kept_leaving charter before)
+      let (after, ((represents, values), fitting, left), leads) = in_turn_along g (StandsFrom g charter before) (RepliesLeaving charter) (replied_leaving g charter before) (same_leaving charter)
       day passed old new before in_turn clean ((is, λ fits. fits), (λ fits. fits), leaves) in
       (after, leads, represents, values, fitting, left)
 

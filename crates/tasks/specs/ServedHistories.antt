@@ -10,19 +10,19 @@ use Rattle.registry.specs.Verdict.{IsLegal}
 use Rattle.registry.specs.declared.asked.Asked.{Asked}
 use Rattle.desk.specs.declared.desk.Desk.{Desk}
 use Rattle.desk.specs.declared.reply.Reply.{Reply}
-use Rattle.requests.specs.HttpRequests.{HttpRequest, IsRequest, NeedsMemory, ReadsHttp}
-use Rattle.web.specs.HttpAnswers.{AnswersHttpBy}
+use Rattle.requests.specs.HttpRequests.{HttpRequest, NeedsMemory, ReadsHttp}
+use Rattle.web.specs.HttpAnswers.{AnswersHttpBy, StaysUnsentBy}
 use Rattle.web.specs.HttpResponses.{unavailable_response}
 use Rattle.web.specs.ScriptAnswer.{OnStandings, RepliesLeaving, RepliesOn, Standing}
 use Rattle.desk_files.specs.DeskFiles.{KeepDesk}
 use Rattle.tasks.specs.Serving.{AnswersInTurn, EndsWith, Transcript}
 
 -- the response to bytes that were read on a day, by what may be replied to a request; where an allocation failed, it
--- says so and the state stays
+-- says so and the state stays, whether the request was not known or what was replied to it stays unsent
 abbrev pub RespondsBy : {State : Type 0} → (State → Asked → Reply → State → Type 0) → ℕ → State → List ℕ → List ℕ → State → Type 0
 RespondsBy replies day old bytes text new =
     ((request : HttpRequest) × ReadsHttp day bytes request × AnswersHttpBy replies old request text new)
-    ⊎ ((NeedsMemory bytes ⊎ IsRequest day bytes) × (text ≡ unavailable_response) × (new ≡ old))
+    ⊎ ((NeedsMemory bytes ⊎ StaysUnsentBy replies day old bytes new) × (text ≡ unavailable_response) × (new ≡ old))
 
 -- what a connection on a day makes of a history, by the bytes that passed on it
 abbrev pub ConnectionLeads : Charter → ℕ → History → Transcript → History → Type 0

@@ -1,5 +1,6 @@
 -- What the desk replies to a request.
-use Rattle.std.proofs.Common.{◌≡◌, ℕ, false, Option, Some, None, refl, sym, ap, inl, inr, true≢false, Bor}
+use Rattle.std.proofs.Common.{◌≡◌, ◌↔◌, ℕ, false, IsTrue, Option, Some, None, refl, sym, ap, inl, inr, true≢false, Bor}
+use Rattle.std.proofs.lemmas.Bool.{false≢true}
 use Rattle.sqlite.specs.Store.{Ghosts}
 use Rattle.desk.specs.Answer.{is_accepted}
 use Rattle.desk.specs.CrashOutcomes.{IsKept}
@@ -18,6 +19,10 @@ use Rattle.desk.specs.declared.reply.Reply.{Reply}
 use Rattle.desk.specs.declared.reply.Reply.TheVariants.{Payloads, Unavailable}
 use Rattle.web.specs.ScriptAnswer.{IsLaterDesk, RepliesAt}
 
+-- what is so exactly if false is true, is not so
+pub unless_so : {P : Type 0} → (IsTrue false ↔ P) → P → ⊥
+unless_so so is = false≢true (so.1 is)
+
 -- the reply that has the VRPs that were lent
 abbrev pub lent_reply : Option (Bor set.VrpSet) → Reply
 lent_reply None = Unavailable
@@ -28,8 +33,10 @@ module _ {S : Type 0} (g : Ghosts S) where
   pub replies_at : (old new : Desk S) (request : Asked) (reply : Reply) → AskedFits request → IsLaterDesk g old new
       → OfHistories g old new (λ history. IsKept g (charter_of old) history request reply old new)
       → (is_accepted reply ≡ false → KeepsRows g old new)
-      → DayAfter request.day request.request reply (day_of old.kept) (day_of new.kept) → RepliesAt g old request reply new
-  replies_at old new request reply fits later left kept day = record {
+      → DayAfter request.day request.request reply (day_of old.kept) (day_of new.kept)
+      → (request.request ≡ QueryRequest PayloadsQuery → reply ≡ Unavailable → day_of new.kept ≡ None)
+      → RepliesAt g old request reply new
+  replies_at old new request reply fits later left kept day unkept = record {
     fits = fits;
     later = later;
     replies = λ clean before represents.
@@ -38,6 +45,7 @@ module _ {S : Type 0} (g : Ghosts S) where
         (goes_on.after, record { chartered = later.charter; legal = goes_on.legal; rows = goes_on.rows_after }, goes_on.values, (goes_on.answers, is.left));
     kept = kept;
     day = day;
+    unkept = unkept;
   }
 
   -- the day of the VRPs that were lent is kept
@@ -55,11 +63,11 @@ module _ {S : Type 0} (g : Ghosts S) where
       replies_at old new request Unavailable (rw payloads tt) (record { charter = read.charter; limit = read.limit; clean = read.clean })
       (λ clean history legal held.
       read_kept g history request Unavailable old new refl read clean legal (rw payloads (tt, refl)) (lent.prepared.held clean history legal held))
-      (λ _. read.rows) (rw payloads (lent_day old new request.day None lent))
+      (λ _. read.rows) (rw payloads (lent_day old new request.day None lent)) (λ _ _. ap day_of (lent.prepared.none refl))
   lent_replies old new request (Some vrps) payloads lent =
       let read = lent.prepared.read in
       let reply = Payloads (set.items vrps.now) in
       replies_at old new request reply (rw payloads tt) (record { charter = read.charter; limit = read.limit; clean = read.clean })
       (λ clean history legal held.
       read_kept g history request reply old new refl read clean legal (rw payloads (lent.answered clean history legal held, refl)) (lent.prepared.held clean history legal held))
-      (λ _. read.rows) (rw payloads (lent_day old new request.day (Some vrps) lent))
+      (λ _. read.rows) (rw payloads (lent_day old new request.day (Some vrps) lent)) (λ _ is. cc)

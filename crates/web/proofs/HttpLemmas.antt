@@ -22,6 +22,7 @@ use Rattle.desk.specs.Desk.{charter_of, KeepsRows}
 use Rattle.registry.specs.declared.asked.Asked.{Asked}
 use Rattle.registry.specs.declared.asked.Request.{Request}
 use Rattle.registry.specs.declared.asked.Request.TheVariants.{Command as CommandRequest, Query as QueryRequest}
+use Rattle.registry.specs.declared.command.Query.TheVariants.{Payloads as PayloadsQuery}
 use Rattle.desk.specs.CrashOutcomes.{LeavesAtMost, pending_after}
 use Rattle.desk.specs.declared.desk.Desk.{Desk}
 use Rattle.desk.specs.declared.reply.Reply.{Reply}
@@ -30,11 +31,11 @@ use Rattle.web.specs.HttpAnswers.{KeepsAll, RespondsTo}
 use Rattle.requests.specs.Actions.{takes_body}
 use Rattle.requests.specs.HttpRequests.{asked, IsMessage, malformed, NeedsMemory, refused}
 use Rattle.requests.proofs.HeadLemmas.{says-length}
-use Rattle.web.specs.HttpResponses.{HasErrorStatus, json_response, reply_body, reply_response, reply_status}
+use Rattle.web.specs.HttpResponses.{HasErrorStatus, json_response, MayStayUnsent, reply_body, reply_response, reply_status}
 use Rattle.web.specs.ReplyText.{line_text, short_text}
 use Rattle.web.specs.RequestExtent.{HasExtent}
 use Rattle.web.specs.ScriptAnswer.{RepliesAt}
-use Rattle.web.specs.steps.HttpAnswering.{AnswersNext, extent_of, IsReplyResponse, ReadsNext}
+use Rattle.web.specs.steps.HttpAnswering.{AnswersNext, extent_of, IsResponseUnless, ReadsNext}
 use Rattle.web.specs.declared.http.reading.Next.{Next}
 use Rattle.web.specs.declared.http.reading.Next.TheVariants.{Asked as AskedNext, Malformed, NotRead, Refused}
 
@@ -76,7 +77,7 @@ gives-more before between after head rest given given_rest =
 -- ---- desks
 
 -- only a query is answered with what it shows, and a query changes nothing
-long-keeps : (charter : Charter) (before after : History) (day : ℕ) (caller : List ℕ) (request : Request) (reply : Reply)
+pub long-keeps : (charter : Charter) (before after : History) (day : ℕ) (caller : List ℕ) (request : Request) (reply : Reply)
     → AnswersRequest charter before day caller request reply after → short_text reply ≡ None → after ≡ before
 long-keeps charter before after day caller (QueryRequest query) reply answers long = answers.1
 long-keeps charter before after day caller (CommandRequest command) (Done number) answers long = cc
@@ -92,11 +93,24 @@ shown-unaccepted (Imported made present) long = cc
 shown-unaccepted other long = refl
 
 -- and only one that shows nothing makes a request pending
-shown-pending : (request : Asked) (reply : Reply) → short_text reply ≡ None → (pending : List Asked) → pending_after request reply pending ≡ pending
+pub shown-pending : (request : Asked) (reply : Reply) → short_text reply ≡ None → (pending : List Asked) → pending_after request reply pending ≡ pending
 shown-pending request (Done number) long pending = cc
 shown-pending request (Imported made present) long pending = cc
 shown-pending request Unavailable long pending = cc
 shown-pending request other long pending = refl
+
+-- only one that shows something may stay unsent
+pub unsent-shows : (request : Request) (reply : Reply) → MayStayUnsent request reply → short_text reply ≡ None
+unsent-shows (QueryRequest PayloadsQuery) reply (vrps, is, over) = rw is refl
+unsent-shows (QueryRequest query) reply long = long
+unsent-shows (CommandRequest command) reply long = long
+
+-- what another query shows, or what is no query
+pub others-unsent : (request : Request) (reply : Reply) → (request ≡ QueryRequest PayloadsQuery → ⊥) → short_text reply ≡ None
+    → MayStayUnsent request reply
+others-unsent (QueryRequest PayloadsQuery) reply other long = absurd (other refl)
+others-unsent (QueryRequest query) reply other long = long
+others-unsent (CommandRequest command) reply other long = long
 
 -- the status line of a response to a reply of an accepted command
 accepted_line : (form : ContentType) (reply : Reply) → is_accepted reply ≡ true
@@ -144,28 +158,26 @@ module _ {S : Type 0} (g : Ghosts S) where
         ),
   )
 
-  -- a request that the desk answered, and the response to its reply
-  answers-asked : (old new : Desk S) (form : ContentType) (request : Asked) (reply : Reply) (text : List ℕ)
-      → RepliesAt g old request reply new → IsReplyResponse form reply text → AnswersNext g old (AskedNext form request) text new
-  answers-asked old new form request reply text replies (inl is) = inl (reply, is, replies)
-  answers-asked old new form request reply text replies (inr (long, is)) =
-      inr (is, shown_keeps old new request reply replies long, (reply, long, replies.day))
+  -- a request that the desk answered, and the response to its reply, which may stay unsent for this cause
+  module _ (old new : Desk S) (form : ContentType) (request : Asked) (reply : Reply) (Cause : Type 0)
+      (unsent : Cause → MayStayUnsent request.request reply) (replies : RepliesAt g old request reply new) where
+    answers-asked : (text : List ℕ) → IsResponseUnless Cause form reply text → AnswersNext g old (AskedNext form request) text new
+    answers-asked text (inl is) = inl (reply, is, replies)
+    answers-asked text (inr (cause, is)) =
+        let may = unsent cause in
+        inr (is, shown_keeps old new request reply replies (unsent-shows request.request reply may), (reply, may, replies))
 
-  pub asked-ok : {T E : Type 0} (r : Result T E) (old new : Desk S) (form : ContentType) (request : Asked) (reply : Reply)
-      (Q : List ℕ → Type 0) → RepliesAt g old request reply new
-      → OnOk r ((text : List ℕ) × IsReplyResponse form reply text × Q text)
-      → OnOk r ((text : List ℕ) × AnswersNext g old (AskedNext form request) text new × Q text)
-  asked-ok (Ok x) old new form request reply Q replies (text, is, written) =
-      (text, answers-asked old new form request reply text replies is, written)
-  asked-ok (Err e) old new form request reply Q replies written = tt
+    pub asked-ok : {T E : Type 0} (r : Result T E) (Q : List ℕ → Type 0)
+        → OnOk r ((text : List ℕ) × IsResponseUnless Cause form reply text × Q text)
+        → OnOk r ((text : List ℕ) × AnswersNext g old (AskedNext form request) text new × Q text)
+    asked-ok (Ok x) Q (text, is, written) = (text, answers-asked text is, written)
+    asked-ok (Err e) Q written = tt
 
-  pub asked-err : {T E : Type 0} (r : Result T E) (old new : Desk S) (form : ContentType) (request : Asked) (reply : Reply)
-      (Q : List ℕ → Type 0) → RepliesAt g old request reply new
-      → OnErr r ((text : List ℕ) × IsReplyResponse form reply text × Q text)
-      → OnErr r ((text : List ℕ) × AnswersNext g old (AskedNext form request) text new × Q text)
-  asked-err (Ok x) old new form request reply Q replies written = tt
-  asked-err (Err e) old new form request reply Q replies (text, is, written) =
-      (text, answers-asked old new form request reply text replies is, written)
+    pub asked-err : {T E : Type 0} (r : Result T E) (Q : List ℕ → Type 0)
+        → OnErr r ((text : List ℕ) × IsResponseUnless Cause form reply text × Q text)
+        → OnErr r ((text : List ℕ) × AnswersNext g old (AskedNext form request) text new × Q text)
+    asked-err (Ok x) Q written = tt
+    asked-err (Err e) Q (text, is, written) = (text, answers-asked text is, written)
 
   -- the response to what was read is that to the bytes
   pub responds : (old new : Desk S) (day : ℕ) (bytes text : List ℕ) (next : Next)

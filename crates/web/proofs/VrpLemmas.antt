@@ -1,8 +1,10 @@
 -- Lemmas on VRPs that are counted and written as an index gives them.
-use Rattle.std.proofs.Common.{◌≡◌, ℕ, Bool, true, List, ◌++◌, take, drop, Result, Ok, Err, sym, ap, ◌∙◌, append_assoc}
+use Rattle.std.proofs.Common.{◌≡◌, ◌≤◌, ◌^◌, ℕ, Bool, true, List, ◌++◌, length, take, drop, None, Result, Ok, Err, sym, ap, ◌∙◌, append_assoc, arith}
 use Rattle.std.proofs.lemmas.List.{take-append-drop}
 use Rattle.std.specs.Result.{OnErr, OnOk}
 use Rattle.addr.specs.declared.vrp.Vrp.{Vrp}
+use Rattle.kept.specs.CsvLength.{csv_of, IsCsvLength}
+use Rattle.payload.specs.VrpSet as set
 use Rattle.csv_records.proofs.LineLemmas.{rows-split}
 use Rattle.csv_records.specs.Lines.{csv_line, csv_text, payload_header, payload_row, payload_rows}
 use Rattle.streams.specs.Streams.{AppendsBeginning}
@@ -23,6 +25,10 @@ on-ok-then (Err e) P Q f p = tt
 pub on-err-then : {T E : Type 0} (r : Result T E) (P Q : Type 0) → (P → Q) → OnErr r P → OnErr r Q
 on-err-then (Ok x) P Q f p = tt
 on-err-then (Err e) P Q f p = f p
+
+-- VRPs whose text a `u64` does not count
+pub uncounted : (vrps : set.VrpSet) → IsCsvLength vrps None → 2 ^ 64 ≤ length (csv_of vrps)
+uncounted vrps over = omega (arith, over)
 
 -- ---- lines of a CSV
 

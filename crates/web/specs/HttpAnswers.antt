@@ -1,17 +1,14 @@
 -- What a desk answers to an HTTP request, and the history that this leaves.
-use Rattle.std.specs.Prelude.{◌≡◌, ◌⊎◌, ℕ, List, None}
+use Rattle.std.specs.Prelude.{◌≡◌, ◌⊎◌, ℕ, List}
 use Rattle.sqlite.specs.Store.{Ghosts}
 use Rattle.http_messages.specs.declared.response.ContentType.{ContentType}
 use Rattle.registry.specs.declared.asked.Asked.{Asked}
 use Rattle.desk.specs.CrashOutcomes.{LeavesAlong}
-use Rattle.desk.specs.DayAfter.{DayAfter}
 use Rattle.desk.specs.Desk.{charter_of, KeepsRows}
-use Rattle.desk.specs.Prepared.{day_of}
 use Rattle.desk.specs.declared.desk.Desk.{Desk}
 use Rattle.desk.specs.declared.reply.Reply.{Reply}
 use Rattle.requests.specs.HttpRequests.{asked, HttpRequest, malformed, NeedsMemory, ReadsHttp, refused}
-use Rattle.web.specs.HttpResponses.{malformed_response, refusal_response, reply_response, unavailable_response}
-use Rattle.web.specs.ReplyText.{short_text}
+use Rattle.web.specs.HttpResponses.{malformed_response, MayStayUnsent, refusal_response, reply_response, unavailable_response}
 use Rattle.web.specs.ScriptAnswer.{OnHistories, RepliesAt}
 
 -- the rows of the tables stay, and each history that the desk represents, of which a crash leaves no more than before
@@ -35,24 +32,26 @@ AnswersHttpBy replies old (asked form request) text new =
 abbrev pub AnswersHttp : {S : Type 0} → Ghosts S → Desk S → HttpRequest → List ℕ → Desk S → Type 0
 AnswersHttp g = AnswersHttpBy (RepliesAt g)
 
--- the day whose VRPs the desk keeps is what the request makes of it, with a reply that shows something
-abbrev pub LeavesShownDay : {S : Type 0} → Asked → Desk S → Desk S → Type 0
-LeavesShownDay request old new =
-    (reply : Reply) × (short_text reply ≡ None)
-    × DayAfter request.day request.request reply (day_of old.kept) (day_of new.kept)
+-- a reply to the request is one that may stay unsent, and leaves the state
+abbrev pub RepliesUnsentBy : {State : Type 0} → (State → Asked → Reply → State → Type 0)
+    → State → Asked → State → Type 0
+RepliesUnsentBy replies old request new =
+    (reply : Reply) × MayStayUnsent request.request reply × replies old request reply new
 
--- the bytes are a request without a fault, and the day that is kept is what it makes of it
-abbrev pub LeavesAskedDay : {S : Type 0} → ℕ → List ℕ → Desk S → Desk S → Type 0
-LeavesAskedDay day bytes old new =
+-- the bytes are a request without a fault, and the reply to it one that may stay unsent
+abbrev pub StaysUnsentBy : {State : Type 0} → (State → Asked → Reply → State → Type 0)
+    → ℕ → State → List ℕ → State → Type 0
+StaysUnsentBy replies day old bytes new =
     (form : ContentType) × (request : Asked)
-    × ReadsHttp day bytes (asked form request) × LeavesShownDay request old new
+    × ReadsHttp day bytes (asked form request) × RepliesUnsentBy replies old request new
 
 -- The response of a desk to the bytes that were read, on a day. Where an allocation failed, the response says so, and
 -- rows and histories stay. It failed before the request was known: then the desk was not asked, and nothing changed. Or
--- it failed for what a request without a fault shows: then only the day that is kept may change, to the one that this
--- request leaves. What is refused by its head, or malformed without a body, never has this response.
+-- what the desk replied to a request without a fault stays unsent: then only the day that is kept may change, to the one
+-- that this request with this reply leaves. What is refused by its head, or malformed without a body, never has this
+-- response.
 abbrev pub RespondsTo : {S : Type 0} → Ghosts S → Desk S → ℕ → List ℕ → List ℕ → Desk S → Type 0
 RespondsTo g old day bytes text new =
     ((request : HttpRequest) × ReadsHttp day bytes request × AnswersHttp g old request text new)
-    ⊎ (((NeedsMemory bytes × (new ≡ old)) ⊎ LeavesAskedDay day bytes old new)
+    ⊎ (((NeedsMemory bytes × (new ≡ old)) ⊎ StaysUnsentBy (RepliesAt g) day old bytes new)
     × (text ≡ unavailable_response) × KeepsAll g old new)

@@ -1,7 +1,8 @@
 -- The texts of responses to HTTP requests: as http_messages defines them, with the text of a reply as their body. VRPs
 -- and exports are sent as CSV, everything else in JSON.
-use Rattle.std.specs.Prelude.{◌≡◌, ◌≢◌, ℕ, List, ◌++◌, codes}
+use Rattle.std.specs.Prelude.{◌≡◌, ◌≢◌, ◌≤◌, ◌^◌, ℕ, List, ◌++◌, codes, length, None}
 use Rattle.std.specs.List.{flat_map}
+use Rattle.addr.specs.declared.vrp.Vrp.{Vrp}
 use Rattle.http_messages.specs.ResponseText.{fault_text, refused_status, response_text, status_line}
 use Rattle.http_messages.specs.declared.refusal.HttpRefusal.{HttpRefusal}
 use Rattle.http_messages.specs.declared.response.ContentType.{ContentType}
@@ -9,10 +10,13 @@ use Rattle.http_messages.specs.declared.response.ContentType.TheVariants.{Csv, J
 use Rattle.http_messages.specs.declared.status.Status.{Status}
 use Rattle.http_messages.specs.declared.status.Status.TheVariants.{BadRequest, Done as DoneStatus, Forbidden, ServiceUnavailable}
 use Rattle.csv_records.specs.Lines.{csv_text, list_header, list_rows, payload_header, payload_row}
+use Rattle.registry.specs.declared.asked.Request.{Request}
+use Rattle.registry.specs.declared.asked.Request.TheVariants.{Query as QueryRequest}
+use Rattle.registry.specs.declared.command.Query.TheVariants.{Payloads as PayloadsQuery}
 use Rattle.desk.specs.declared.reply.Reply.{Reply}
 use Rattle.desk.specs.declared.reply.Reply.TheVariants.{Listed, Payloads, Denied, Unavailable}
 use Rattle.requests.specs.MalformedText.{malformed_text}
-use Rattle.web.specs.ReplyText.{line_text, unavailable_text}
+use Rattle.web.specs.ReplyText.{line_text, short_text, unavailable_text}
 use Rattle.requests.specs.declared.malformed.Malformed.{Malformed}
 
 abbrev pub json_response : Status → List ℕ → List ℕ
@@ -50,6 +54,14 @@ reply_response form reply =
 -- where an allocation failed
 abbrev pub unavailable_response : List ℕ
 unavailable_response = json_response ServiceUnavailable unavailable_text
+
+-- What the reply to a request shows may stay unsent, since its text takes memory. The VRPs of a day are sent as they are
+-- kept: these stay unsent only if 64 bits do not count their text, whose length the head gives.
+abbrev pub MayStayUnsent : Request → Reply → Type 0
+MayStayUnsent (QueryRequest PayloadsQuery) reply =
+    (vrps : List Vrp) × (reply ≡ Payloads vrps)
+    × (2 ^ 64 ≤ length (csv_text payload_header payload_row vrps))
+MayStayUnsent request reply = short_text reply ≡ None
 
 -- the bytes begin with the status line of an error, which is every status except 200
 abbrev pub HasErrorStatus : List ℕ → Type 0

@@ -17,8 +17,11 @@ use Rattle.requests.specs.RequestFaults.{request_fault, too_long}
 use Rattle.requests.specs.RequestText.{ReadsLine}
 use Rattle.web.specs.Script.{AnswersEach, BreaksOff}
 use Rattle.registry.specs.declared.asked.Asked.{Asked}
+use Rattle.registry.specs.declared.asked.Request.TheVariants.{Query as QueryRequest}
+use Rattle.registry.specs.declared.command.Query.TheVariants.{Payloads as PayloadsQuery}
 use Rattle.desk.specs.declared.desk.Desk.{Desk}
 use Rattle.desk.specs.declared.reply.Reply.{Reply}
+use Rattle.desk.specs.declared.reply.Reply.TheVariants.{Unavailable}
 use Rattle.requests.specs.declared.malformed.Malformed.{Malformed}
 
 -- ---- replies
@@ -74,7 +77,8 @@ pub record IsLaterDesk {S : Type 0} (g : Ghosts S) (old new : Desk S) : Type 0 w
 -- The reply of a desk to a request: it is that on each history that the desk represents, of which a crash leaves no
 -- more than the reply allows; and one to no accepted command leaves the rows, whether they are those of a history or not.
 -- The day whose VRPs the desk keeps is then what this request with this reply makes of the day that it kept before. The
--- values of the request are those of their types.
+-- values of the request are those of their types. Unavailable is the reply to a query for the VRPs of a day only if that
+-- day could not be kept: then none is.
 pub record RepliesAt {S : Type 0} (g : Ghosts S) (old : Desk S) (request : Asked) (reply : Reply) (new : Desk S) : Type 0 where
   pub fits : AskedFits request
   pub later : IsLaterDesk g old new
@@ -82,6 +86,7 @@ pub record RepliesAt {S : Type 0} (g : Ghosts S) (old : Desk S) (request : Asked
       × LeavesAlong g (charter_of old) old before (pending_after request reply) new after)
   pub kept : is_accepted reply ≡ false → KeepsRows g old new
   pub day : DayAfter request.day request.request reply (day_of old.kept) (day_of new.kept)
+  pub unkept : request.request ≡ QueryRequest PayloadsQuery → reply ≡ Unavailable → day_of new.kept ≡ None
 
 -- ---- answers to lines, by what `replies state request reply next` says may be replied to a request, and which state
 -- that leaves

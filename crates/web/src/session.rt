@@ -10,7 +10,7 @@ ghost use Rattle.streams.specs.Streams.{AppendsBeginning};
 
 use crate::reply::write_reply;
 use crate::script::{AnswerLines, ScriptFault, run_lines};
-use crate::vrps::write_line;
+use crate::vrps::{asks_for_vrps, write_line};
 use desk::{Desk, Reply};
 use registry::{Asked, Query, Request};
 use requests::{LineFault, Malformed, read_line_request};
@@ -60,7 +60,7 @@ fn reply_to<D: Drain, A: Alter>(
         × AppendsBeginning (D.written drain.old) (D.written drain.new) (line_text reply)) }
     ensures failed { OnErr result (D.has_failed drain.new ≡ true) }
 {
-    if let Request::Query(Query::Payloads) = &asked.request {
+    if asks_for_vrps(&asked.request) {
         return write_payloads(desk, drain, asked);
     }
     registry::laws::asked_fits(asked);

@@ -1,5 +1,5 @@
 //! The VRPs of an index, written as it gives them: no list and no body is collected.
-ghost use Rattle.std.specs.Prelude.{◌≡◌, ◌++◌, ◌<◌, ◌≤◌, ◌^◌, false, true, length, OnOk, OnErr};
+ghost use Rattle.std.specs.Prelude.{◌≡◌, ◌++◌, ◌<◌, ◌≤◌, ◌^◌, ◌↔◌, false, true, length, IsTrue, OnOk, OnErr};
 ghost use Rattle.std.specs.Option.{SomeIff};
 ghost use Rattle.csv_records.specs.Lines.{csv_line, csv_text, payload_header, payload_row, payload_rows};
 ghost use Rattle.desk.specs.declared.reply.Reply.TheVariants.{Payloads};
@@ -15,7 +15,15 @@ use addr::Vrp;
 use arrayvec::ArrayString;
 use csv_records::{payload_header, push_payload_line};
 use payload::{PayloadIndex, Sink, Stop};
+use registry::{Query, Request};
 use streams::{Drain, Failed};
+
+/// Whether the request is for the VRPs of a day.
+pub(crate) fn asks_for_vrps(request: &Request) -> bool
+    ensures { IsTrue result ↔ request.now ≡ Request.Query Query.Payloads }
+{
+    matches!(request, Request::Query(Query::Payloads))
+}
 
 /// Writes VRPs as lines of a CSV.
 #[derive(Drop)]

@@ -1,15 +1,14 @@
 //! Acting on a request, and the response.
 ghost use Rattle.std.specs.Prelude.{◌≡◌, ◌++◌, ℕ, List, true, OnOk, OnErr};
-ghost use Rattle.payload.specs.VrpSet as set;
 ghost use Rattle.streams.specs.Streams.{AppendsBeginning};
 ghost use Rattle.web.specs.HttpResponses.{json_response, refusal_response, reply_status, reply_type, unavailable_response};
 ghost use Rattle.web.specs.ScriptAnswer.{IsLaterDesk};
-ghost use Rattle.web.specs.steps.HttpAnswering.{AnswersNext, IsReplyResponse};
+ghost use Rattle.web.specs.steps.HttpAnswering.{AnswersNext, IsReplyResponse, IsVrpsResponse};
 
 use super::body::reply_body;
 use super::reading::Next;
 use crate::reply::{short_text, unavailable_text};
-use crate::vrps::write_csv;
+use crate::vrps::{asks_for_vrps, write_csv};
 use desk::{Desk, Reply};
 use http_messages::{ContentType, HttpRefusal, Status, fault_text, response_head, write_response};
 use kept::CountedVrps;
@@ -64,7 +63,7 @@ fn answer_to<D: Drain, A: Alter>(
     ensures failed { OnErr result (D.has_failed drain.new ≡ true) }
     ensures later { IsLaterDesk A.Store desk.old desk.new }
 {
-    if let Request::Query(Query::Payloads) = &asked.request {
+    if asks_for_vrps(&asked.request) {
         return write_payloads(drain, desk, form, asked);
     }
     registry::laws::asked_fits(asked);
@@ -104,10 +103,10 @@ fn write_vrps_response<D: Drain>(
     vrps: &CountedVrps,
 ) -> Result<(), Failed>
     ensures ok { OnOk result ((text : List ℕ)
-        × IsReplyResponse form (Reply.Payloads (set.items vrps.now)) text
+        × IsVrpsResponse form vrps.now text
         × (D.written drain.new ≡ D.written drain.old ++ text)) }
     ensures err { OnErr result ((text : List ℕ)
-        × IsReplyResponse form (Reply.Payloads (set.items vrps.now)) text
+        × IsVrpsResponse form vrps.now text
         × AppendsBeginning (D.written drain.old) (D.written drain.new) text) }
     ensures failed { OnErr result (D.has_failed drain.new ≡ true) }
 {

@@ -1,5 +1,6 @@
-use Rattle.std.proofs.Common.{◌≡◌, ◌++◌, inl, refl}
+use Rattle.std.proofs.Common.{◌≡◌, ◌++◌, ◌≤◌, ◌^◌, length, inl, refl}
 use Rattle.desk.specs.declared.reply.Reply.TheVariants.{Payloads, Unavailable}
+use Rattle.kept.specs.CsvLength.{csv_of}
 use Rattle.payload.specs.VrpSet as set
 use Rattle.streams.specs.Streams.{AppendsBeginning}
 use Rattle.web.specs.HttpResponses.{unavailable_response}
@@ -11,14 +12,18 @@ use Rattle.web.proofs.http.response.write_payloads.Goals as goal
 pub returns-in-Some-clause-ok : goal.returns-in-Some-clause-ok
 returns-in-Some-clause-ok g c =
     let at = rw c.in-Some.is at (lent_replies g.A.Store c.args.desk.now c.counted_payloads.follows.lender-at-none c.args.asked.now c.counted_payloads.result c.requires c.counted_payloads.follows.holds-at-none) in
-    asked-ok g.A.Store c.write_vrps_response.result c.args.desk.now c.counted_payloads.follows.lender-at-none c.args.form c.args.asked.now (Payloads (set.items c.in-Some.vrps.now))
-    (λ text. g.D.Drain.written c.write_vrps_response.new.drain ≡ g.D.Drain.written c.args.drain.now ++ text) at c.write_vrps_response.ensures.ok
+    asked-ok g.A.Store c.args.desk.now c.counted_payloads.follows.lender-at-none c.args.form c.args.asked.now
+    (Payloads (set.items c.in-Some.vrps.now)) (2 ^ 64 ≤ length (csv_of c.in-Some.vrps.now))
+    (λ over. rw c.requires (set.items c.in-Some.vrps.now, refl, over)) at c.write_vrps_response.result
+    (λ text. g.D.Drain.written c.write_vrps_response.new.drain ≡ g.D.Drain.written c.args.drain.now ++ text) c.write_vrps_response.ensures.ok
 
 pub returns-in-Some-clause-err : goal.returns-in-Some-clause-err
 returns-in-Some-clause-err g c =
     let at = rw c.in-Some.is at (lent_replies g.A.Store c.args.desk.now c.counted_payloads.follows.lender-at-none c.args.asked.now c.counted_payloads.result c.requires c.counted_payloads.follows.holds-at-none) in
-    asked-err g.A.Store c.write_vrps_response.result c.args.desk.now c.counted_payloads.follows.lender-at-none c.args.form c.args.asked.now (Payloads (set.items c.in-Some.vrps.now))
-    (AppendsBeginning (g.D.Drain.written c.args.drain.now) (g.D.Drain.written c.write_vrps_response.new.drain)) at c.write_vrps_response.ensures.err
+    asked-err g.A.Store c.args.desk.now c.counted_payloads.follows.lender-at-none c.args.form c.args.asked.now
+    (Payloads (set.items c.in-Some.vrps.now)) (2 ^ 64 ≤ length (csv_of c.in-Some.vrps.now))
+    (λ over. rw c.requires (set.items c.in-Some.vrps.now, refl, over)) at c.write_vrps_response.result
+    (AppendsBeginning (g.D.Drain.written c.args.drain.now) (g.D.Drain.written c.write_vrps_response.new.drain)) c.write_vrps_response.ensures.err
 
 pub returns-in-Some-clause-later : goal.returns-in-Some-clause-later
 returns-in-Some-clause-later g c =

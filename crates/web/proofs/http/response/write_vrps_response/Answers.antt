@@ -3,7 +3,7 @@ use Rattle.csv_records.specs.Lines.{csv_text, payload_header, payload_row}
 use Rattle.desk.specs.declared.reply.Reply.TheVariants.{Payloads}
 use Rattle.payload.specs.VrpSet as set
 use Rattle.web.specs.HttpResponses.{reply_response, unavailable_response}
-use Rattle.web.proofs.VrpLemmas.{on-err-then, on-ok-then}
+use Rattle.web.proofs.VrpLemmas.{on-err-then, on-ok-then, uncounted}
 use Rattle.web.proofs.http.response.write_vrps_response.Goals as goal
 
 pub returns-in-Some-clause-ok : goal.returns-in-Some-clause-ok
@@ -24,8 +24,10 @@ returns-in-Some-clause-err g c =
 
 pub returns-in-None-clause-ok : goal.returns-in-None-clause-ok
 returns-in-None-clause-ok g c =
-    on-ok-then c.write_unavailable.result _ _ (λ written. (unavailable_response, inr (refl, refl), written)) c.write_unavailable.ensures.ok
+    let too_long = uncounted c.args.vrps.now (rw c.in-None.is at c.csv_length.ensures) in
+    on-ok-then c.write_unavailable.result _ _ (λ written. (unavailable_response, inr (too_long, refl), written)) c.write_unavailable.ensures.ok
 
 pub returns-in-None-clause-err : goal.returns-in-None-clause-err
 returns-in-None-clause-err g c =
-    on-err-then c.write_unavailable.result _ _ (λ begins. (unavailable_response, inr (refl, refl), begins)) c.write_unavailable.ensures.err
+    let too_long = uncounted c.args.vrps.now (rw c.in-None.is at c.csv_length.ensures) in
+    on-err-then c.write_unavailable.result _ _ (λ begins. (unavailable_response, inr (too_long, refl), begins)) c.write_unavailable.ensures.err
