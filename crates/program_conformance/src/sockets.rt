@@ -35,7 +35,8 @@ fn assert_timeout(
     timeout: Duration,
 ) {
     let timeout = Some(timeout);
-    let mut socket = Timed::new(Socket::new(clock, stream, began));
+    let mut peer = Socket::new(clock, stream, began);
+    let mut socket = Timed::new(&mut peer);
     assert_eq!(test; socket.read(&mut [0; 4]).ok(), Some(1), "{timeout:?}");
     assert_eq!(test; stream.read_timeout().ok(), Some(timeout));
     assert_eq!(test; stream.write_timeout().ok(), Some(None), "{timeout:?}");
@@ -80,9 +81,9 @@ fn assert_calls<R: Read, W: Write>(test: &impl Abort, from: &mut R, to: &mut W) 
 fn assert_seconds(test: &impl Abort, stream: &TcpStream) {
     let second = Duration::from_secs(1);
     let (reading, writing) = (Slow::by(second), Slow::by(second));
-    let mut from = Timed::new(Socket::new(&reading, stream, Instant::now(&reading).ok()));
-    let mut to = Timed::new(Socket::new(&writing, stream, Instant::now(&writing).ok()));
-    assert_calls(test, &mut from, &mut to);
+    let mut from = Socket::new(&reading, stream, Instant::now(&reading).ok());
+    let mut to = Socket::new(&writing, stream, Instant::now(&writing).ok());
+    assert_calls(test, &mut Timed::new(&mut from), &mut Timed::new(&mut to));
 }
 
 #[test]

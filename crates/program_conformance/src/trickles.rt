@@ -90,6 +90,10 @@ impl Peer for Trickle<'_> {
         Ok(given)
     }
 
+    fn end_writing(&mut self) -> io::Result<()> {
+        Ok(())
+    }
+
     fn write(&mut self, bytes: &[u8]) -> io::Result<usize> {
         self.last_seen = None;
         let count = self.most.min(bytes.len());
@@ -126,9 +130,10 @@ fn answer_trickling(
     let writing = Slow::by(Duration::from_secs(writing));
     let none = Cell::new(0);
     let mut sent = Vec::new(alloc);
-    let from = Trickle::new(&reading, most, TWO_REQUESTS, unread, &mut sent);
-    let to = Trickle::new(&writing, most, b"", &none, taken);
-    answer_in_time(alloc, None, from, to, desk, first_of_march(test))
+    let mut from = Trickle::new(&reading, most, TWO_REQUESTS, unread, &mut sent);
+    let mut to = Trickle::new(&writing, most, b"", &none, taken);
+    let day = first_of_march(test);
+    answer_in_time(alloc, None, &mut from, &mut to, desk, day)
 }
 
 /// A row of `TRICKLES` becomes of its connection.

@@ -1,4 +1,5 @@
 mod ConnectionLemmas
+mod FollowLemmas
 pub mod ServingLemmas
 pub mod HistoryLemmas
 pub mod ServedFileLemmas

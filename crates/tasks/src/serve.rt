@@ -7,6 +7,7 @@ ghost use Rattle.tasks.specs.Serving.{AnswersInTurn, Serves, Transcript, fault_l
 
 mod connections;
 mod fault_log;
+mod followed;
 mod peer;
 mod timed;
 

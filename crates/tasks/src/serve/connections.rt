@@ -3,10 +3,11 @@ ghost use Rattle.std.specs.Prelude.{◌≡◌, ◌<◌, ◌≤◌, ◌∷◌, �
 ghost use Rattle.std.specs.Result.{result_err};
 ghost use Rattle.http_messages.specs.Input.{Gives, IsOver};
 ghost use Rattle.tasks.specs.ConnectionTime.{discard_limit};
-ghost use Rattle.tasks.specs.Connections.{Accepts};
+ghost use Rattle.tasks.specs.Connections.{Accepts, Passes};
 ghost use Rattle.tasks.specs.Serving.{Serves, Transcript};
 ghost use Rattle.web.specs.declared.http.WebFault.{WebFault as Fault};
 
+use crate::serve::followed::{Beginning, Place, Received, Sent};
 use crate::serve::peer::{Peer, Socket};
 use crate::serve::timed::Timed;
 use addr::Day;
@@ -15,7 +16,8 @@ use requests::Routes;
 use sqlite::Alter;
 use std::alloc::Global;
 use std::io::{self, BufReader, ErrorKind, Read, Write};
-use std::net::{Shutdown, TcpListener, TcpStream};
+use std::marker::Brand;
+use std::net::{TcpListener, TcpStream};
 use std::time::{Clock, Instant};
 use web::{Device, Drain, Extent, Failed, Source, WebFault, serve_request};
 
@@ -166,22 +168,39 @@ impl<R: Clock, N: Network> Connections for Incoming<'_, R, N> {
             return Err(Failed);
         };
         let began = Instant::now(self.clock).ok();
-        let from = Socket::new(self.clock, &stream, began);
-        let to = Socket::new(self.clock, &stream, began);
-        let ended = answer_in_time(alloc, routes, from, to, engine, day);
-        if let Ok(Extent::Part) = ended {
-            let_response_arrive(self.clock, &stream, began);
-        }
-        Ok(ended)
+        let mut from = Socket::new(self.clock, &stream, began);
+        let mut to = Socket::new(self.clock, &stream, began);
+        Ok(answer_and_end(alloc, routes, &mut from, &mut to, engine, day))
     }
+}
+
+/// Answers a connection that is read from one peer and written to the other, and lets the response
+/// arrive. Both peers have the one time of the connection, for what is discarded too.
+fn answer_and_end<P: Peer, Q: Peer, E: AnswerConnections>(
+    alloc: Global,
+    routes: Option<&Routes>,
+    from: &mut P,
+    to: &mut Q,
+    engine: &mut E,
+    day: Day,
+) -> Result<Extent, WebFault>
+    requires { Q.began to.old ≡ P.began from.old }
+    ensures { (passed : Transcript) × (after : Q) × (passed.fault ≡ result_err result)
+        × Passes (P.remaining from.old) (Q.contents to.old) passed (Q.contents after)
+        × E.answers day engine.old passed engine.new }
+{
+    let ended = answer_in_time(alloc, routes, from, to, engine, day);
+    if let Ok(Extent::Part) = ended {
+        let_response_arrive(from, to);
+    }
+    ended
 }
 
 /// Ends the response, and discards what the client still sends of its request: a stream that is
 /// closed with bytes unread is reset, and the client may lose the response.
-fn let_response_arrive<R: Clock>(clock: &R, stream: &TcpStream, began: Option<Instant>) {
-    if stream.shutdown(Shutdown::Write).is_ok() {
-        let rest = Socket::new(clock, stream, began);
-        discard(&mut Device::new(Timed::new(rest)));
+fn let_response_arrive<P: Peer, Q: Peer>(from: &mut P, to: &mut Q) {
+    if to.end_writing().is_ok() {
+        discard(&mut Device::new(Timed::new(from)));
     }
 }
 
@@ -208,28 +227,35 @@ fn discard<S: Source>(source: &mut S)
 
 /// Answers a connection that is read from one peer and written to the other, each within its time.
 /// More of the stream than the request may be taken into a buffer, which is never looked at.
-pub fn answer_in_time<P: Peer + Drop, Q: Peer + Drop, E: AnswerConnections>(
+pub fn answer_in_time<P: Peer, Q: Peer, E: AnswerConnections>(
     alloc: Global,
     routes: Option<&Routes>,
-    from: P,
-    to: Q,
+    from: &mut P,
+    to: &mut Q,
     engine: &mut E,
     day: Day,
 ) -> Result<Extent, WebFault>
-    ensures { (passed : Transcript) × (passed.fault ≡ result_err result)
+    // What was received is what the one peer gave, and what was sent is what the other took, which
+    // left it as it is in `after`.
+    ensures { (passed : Transcript) × (after : Q) × (passed.fault ≡ result_err result)
+        × Passes (P.remaining from.old) (Q.contents to.old) passed (Q.contents after)
         × E.answers day engine.old passed engine.new }
 {
-    let mut from = Timed::new(from);
+    let from = Place {
+        reader: Some(Timed::new(from)),
+    };
     let to = Timed::new(to);
     // A head is read a few bytes at a time, which without a buffer are as many calls of the system.
-    if let Ok(buffered) = BufReader::new(alloc, &mut from) {
-        return answer_between(alloc, routes, buffered, to, engine, day);
+    // If there is no memory for one, an empty place is lost, and not the reader.
+    if let Ok(mut buffered) = BufReader::new(alloc, Place { reader: None }) {
+        *buffered.get_mut() = from;
+        return answer_between::<_, _, E, Brand>(alloc, routes, buffered, to, engine, day);
     }
-    answer_between(alloc, routes, from, to, engine, day)
+    answer_between::<_, _, E, Brand>(alloc, routes, from, to, engine, day)
 }
 
 /// Answers a connection that is read from one stream and written to the other.
-fn answer_between<R: Read + Drop, W: Write + Drop, E: AnswerConnections>(
+fn answer_between<R: Read + Drop, W: Write + Drop, E: AnswerConnections, B: Beginning>(
     alloc: Global,
     routes: Option<&Routes>,
     from: R,
@@ -237,10 +263,13 @@ fn answer_between<R: Read + Drop, W: Write + Drop, E: AnswerConnections>(
     engine: &mut E,
     day: Day,
 ) -> Result<Extent, WebFault>
-    ensures { (passed : Transcript) × (passed.fault ≡ result_err result)
+    requires remaining { R.remaining from ≡ B.remaining }
+    requires contents { W.contents to ≡ B.contents }
+    ensures { (passed : Transcript) × (after : W) × (passed.fault ≡ result_err result)
+        × Passes B.remaining B.contents passed (W.contents after)
         × E.answers day engine.old passed engine.new }
 {
-    let mut source = Device::new(from);
-    let mut drain = Device::new(to);
+    let mut source = Received::<R, B>::new(from);
+    let mut drain = Sent::<W, B>::new(to);
     engine.answer(alloc, routes, &mut source, &mut drain, day)
 }

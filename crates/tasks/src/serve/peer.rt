@@ -7,7 +7,7 @@ ghost use Rattle.std.specs.Time.{instant_nanos};
 ghost use Rattle.tasks.specs.ConnectionTime.{EndsInTime};
 
 use std::io::{self, Read, Write};
-use std::net::TcpStream;
+use std::net::{Shutdown, TcpStream};
 use std::time::{Clock, Duration, Instant};
 
 /// What a connection is read from and written to. A call that may wait is made only under a timeout
@@ -63,6 +63,12 @@ pub trait Peer {
         ensures contents { Keeps (contents self.old) (contents self.new) }
         ensures began { began self.new ≡ began self.old }
         ensures waited { last_seen self.new ≡ None };
+
+    /// Tells the other end that no more is written. It does not wait.
+    fn end_writing(&mut self) -> io::Result<()>
+        ensures began { began self.new ≡ began self.old }
+        ensures remaining { Keeps (remaining self.old) (remaining self.new) }
+        ensures contents { Keeps (contents self.old) (contents self.new) };
 
     fn write(&mut self, bytes: &[u8]) -> io::Result<usize>
         requires in_time { EndsInTime (began self.now) (last_seen self.now)
@@ -141,6 +147,10 @@ impl<R: Clock> Peer for Socket<'_, R> {
         self.last_seen = None;
         let mut stream = self.stream;
         stream.read(buffer)
+    }
+
+    fn end_writing(&mut self) -> io::Result<()> {
+        self.stream.shutdown(Shutdown::Write)
     }
 
     fn write(&mut self, bytes: &[u8]) -> io::Result<usize> {

@@ -14,25 +14,25 @@ const TIME_LIMIT: u64 = 30;
 /// A stream whose reads and writes fail once its time is up, so that a peer that sends or takes
 /// nothing, or a byte now and then, does not hold the desk.
 #[derive(Drop)]
-pub struct Timed<P> {
-    peer: P,
+pub struct Timed<'a, P> {
+    peer: &'a mut P,
 }
 
-impl<P: Peer> Timed<P> {
-    pub fn new(peer: P) -> Timed<P>
-        ensures { result.peer ≡ peer }
+impl<'a, P: Peer> Timed<'a, P> {
+    pub fn new(peer: &'a mut P) -> Timed<'a, P>
+        ensures { result.peer ≡ peer.entry }
     {
         Timed { peer }
     }
 
     /// The time that is left, more than none. Fails if none is left, or if the clock fails.
     fn time_left(&mut self) -> io::Result<Duration>
-        ensures ok { IfOk result (λ left. EndsInTime (P.began self.new.peer)
-            (P.last_seen self.new.peer) (Some (as_nanos left))) }
+        ensures ok { IfOk result (λ left. EndsInTime (P.began self.new.peer.now)
+            (P.last_seen self.new.peer.now) (Some (as_nanos left))) }
         ensures err { OnErr result
-            (IsUp (P.began self.new.peer) (P.last_seen self.new.peer)) }
-        ensures remaining { Keeps (P.remaining self.old.peer) (P.remaining self.new.peer) }
-        ensures contents { Keeps (P.contents self.old.peer) (P.contents self.new.peer) }
+            (IsUp (P.began self.new.peer.now) (P.last_seen self.new.peer.now)) }
+        ensures remaining { Keeps (P.remaining self.old.peer.now) (P.remaining self.new.peer.now) }
+        ensures contents { Keeps (P.contents self.old.peer.now) (P.contents self.new.peer.now) }
     {
         let Some(began) = self.peer.began() else {
             return Err(ErrorKind::TimedOut.into());
@@ -45,8 +45,8 @@ impl<P: Peer> Timed<P> {
     }
 }
 
-impl<P: Peer> Read for Timed<P> {
-    ghost remaining = { λ timed. P.remaining timed.peer };
+impl<P: Peer> Read for Timed<'_, P> {
+    ghost remaining = { λ timed. P.remaining timed.peer.now };
 
     fn read(&mut self, buffer: &mut [u8]) -> io::Result<usize> {
         let left = self.time_left()?;
@@ -55,8 +55,8 @@ impl<P: Peer> Read for Timed<P> {
     }
 }
 
-impl<P: Peer> Write for Timed<P> {
-    ghost contents = { λ timed. P.contents timed.peer };
+impl<P: Peer> Write for Timed<'_, P> {
+    ghost contents = { λ timed. P.contents timed.peer.now };
 
     fn write(&mut self, bytes: &[u8]) -> io::Result<usize> {
         let left = self.time_left()?;
