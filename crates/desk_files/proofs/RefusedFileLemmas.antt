@@ -37,7 +37,7 @@ no_rows : HasRows blank_rows []
 no_rows = record { holders = λ h. refl; files = refl }
 
 -- what may be left, in either schema, may be found
-left_in_either_found : (charter : Charter) (history : History) (pending : List Asked) (trees : Trees)
+pub left_in_either_found : (charter : Charter) (history : History) (pending : List Asked) (trees : Trees)
     → MayBeLeftInEitherSchema charter history pending trees → MayBeFound charter history pending trees
 left_in_either_found charter history pending trees (inl left) = left_found charter history pending trees left
 left_in_either_found charter history pending trees (inr (after, more, held)) = (after, more, (held.0, held.1, inr held.2))

@@ -1,11 +1,15 @@
--- The lives of `serve` on files whose disk may crash: a crash before each, its connections, and a stop after them.
-use Rattle.std.specs.Prelude.{◌≡◌, ◌≤◌, ◌<◌, ℕ, All, List, [], ◌∷◌, IsTrue, length, take, ⊤}
+-- The lives of `serve` on files whose disk may crash: a crash before each, its connections, and a close or a stop after
+-- them.
+use Rattle.std.specs.Prelude.{◌≡◌, ◌≤◌, ℕ, Bool, true, false, All, List, [], ◌∷◌, ◌++◌, IsTrue, Result, Ok, Err, length, take, ⊤}
 use Rattle.std.specs.List.{AllByRecursion}
 use Rattle.sqlite.specs.Files.{IsCleanLeft, image_of, over_files}
 use Rattle.sqlite.specs.declared.file.Leftover.TheVariants as left
 use Rattle.sqlite_disk.specs.declared.Disk.{Ghosts}
 use Rattle.sqlite_disk.specs.declared.Files.{Files}
+use Rattle.sqlite_store.specs.FileStore.{view}
+use Rattle.sqlite_store.specs.declared.store.FileStore.{FileStore}
 use Rattle.sqlite_trees.specs.Tree.{Trees}
+use Rattle.sqlite_trees.specs.View.{IsClean}
 use Rattle.sqlite_wal.specs.Reads.{AreClean}
 use Rattle.addr.specs.Name.{is_name}
 use Rattle.charters.specs.CharterSets.{IsCharter}
@@ -17,24 +21,44 @@ use Rattle.registry.specs.declared.asked.Asked.{Asked}
 use Rattle.transactions.specs.declared.fault.StoreFault.TheVariants.{Schema}
 use Rattle.desk.specs.Resumed.{IsAtMostOneMore, MayBeLeftInEitherSchema}
 use Rattle.desk_files.specs.DeskFiles.{FilesLeaveAtMost}
-use Rattle.desk_files.specs.Refused.{KeepsRefused, RefusesFiles}
+use Rattle.desk_files.specs.Lives.{StoreLeavesAtMost}
+use Rattle.desk_files.specs.Refused.{KeepsRefused, RefusesFiles, RefusesNoLegal}
 use Rattle.desk_files.specs.declared.file.OpenFault.{OpenFault}
 use Rattle.desk_files.specs.declared.file.OpenFault.TheVariants.{File, Path, Store}
 use Rattle.web.specs.ScriptAnswer.{Standing}
-use Rattle.tasks.specs.ServedFiles.{LeavesServed}
-use Rattle.tasks.specs.ServedHistories.{ConnectionLeaves}
+use Rattle.tasks.specs.ServedFiles.{LeavesServed, LeavesUnclosed}
+use Rattle.tasks.specs.ServedHistories.{ConnectionLeads, ConnectionLeaves}
 use Rattle.tasks.specs.Serving.{AnswersInTurn, Transcript}
 use Rattle.tasks.specs.declared.lives.Life.{Life}
+use Rattle.tasks.specs.declared.lives.LifeFault.{LifeFault}
+use Rattle.tasks.specs.declared.lives.LifeFault.TheVariants as ended
+use Rattle.tasks.specs.declared.serve_desk.ServeFault.{ServeFault}
+use Rattle.tasks.specs.declared.serve_desk.ServeFault.TheVariants.{Accept, Bind, Close, Open}
+
+-- the values of the history and of what is pending are those of their types
+abbrev pub StandingFits : Standing → Type 0
+StandingFits standing = HistoryFits standing.history × All AskedFits standing.pending
+
+-- What a life with these connections on a day makes of a history with no request pending. If it ended with a close,
+-- nothing is pending then. If the process just ended, it is what was pending after the connections.
+abbrev pub LifeLeads : Bool → Charter → ℕ → History → List Transcript → Standing → Type 0
+LifeLeads true charter day history passed after =
+    AnswersInTurn (ConnectionLeads charter day) history passed after.history × (after.pending ≡ [])
+LifeLeads false charter day history passed after =
+    AnswersInTurn (ConnectionLeaves charter day) (record { history = history; pending = [] }) passed after
 
 -- From files of which a crash leaves at most a legal history with requests pending, to files of which one leaves at most
--- that to which these connections on the day lead: from that history, or from it with one of the requests.
-abbrev pub ServesLife : {D : Type 0} → Ghosts D → ℕ → Files D → List Transcript → Files D → Type 0
-ServesLife g day old passed new =
+-- that to which a life leads: from that history, or from it with one of the requests.
+abbrev pub ServesLife : {D : Type 0} → Ghosts D → Bool → ℕ → Files D → List Transcript → Files D → Type 0
+ServesLife g is_closed day old passed new =
     (charter : Charter) (before : Standing)
     → IsCharter charter → IsLegal charter before.history
     → FilesLeaveAtMost g charter old before.history before.pending
     → ∥ ((history : History) × IsAtMostOneMore charter before.history before.pending history
-    × LeavesServed charter day passed (record { history = history; pending = [] }) (FilesLeaveAtMost g charter new)) ∥₁
+    × (after : Standing) × LifeLeads is_closed charter day history passed after
+    × IsLegal charter after.history
+    × (HistoryFits history → StandingFits after)
+    × FilesLeaveAtMost g charter new after.history after.pending) ∥₁
 
 -- Each life begins with the history that the one before it left, or with that and one of the requests that were then
 -- pending, and has at most its count of connections.
@@ -46,12 +70,8 @@ LivesLead charter before (life ∷ lives) (passed ∷ served) after =
     (history : History) × (next : Standing)
     × IsAtMostOneMore charter before.history before.pending history
     × (length passed ≤ life.count)
-    × AnswersInTurn (ConnectionLeaves charter life.day) (record { history = history; pending = [] }) passed next
+    × LifeLeads life.is_closed charter life.day history passed next
     × LivesLead charter next lives served after
-
--- the values of the history and of what is pending are those of their types
-abbrev pub StandingFits : Standing → Type 0
-StandingFits standing = HistoryFits standing.history × All AskedFits standing.pending
 
 -- From files of which a crash leaves at most a legal history with requests pending, these lives lead, one after the
 -- other, to a legal one, and what is left allows that one with what is then pending.
@@ -99,14 +119,50 @@ LeavesRefused g lives old served found (Store fault now) =
     AreClean g now.log now.db
     → ServesLives g lives old served now × (fault ≡ Schema → ¬ LeaveFitting g old)
 
--- The lives ended where the opening of the next one was refused. The files that it found are those that these lives left,
+-- ---- the life that ends them
+
+-- The end of a life that is to close its files. It is a good one if they were closed, even if the socket was not bound or
+-- a connection could not be accepted.
+abbrev pub end_of_close : {D : Type 0} {g : Ghosts D} → Result (Files D) (FileStore D g) → Result (Files D) (LifeFault D g)
+end_of_close (Ok files) = Ok files
+end_of_close (Err store) = Err (ended.Close store)
+
+abbrev pub end_of_serve : {D : Type 0} {g : Ghosts D} → Result (Files D) (ServeFault D g) → Result (Files D) (LifeFault D g)
+end_of_serve (Ok files) = Ok files
+end_of_serve (Err (Open fault)) = Err (ended.Open fault)
+end_of_serve (Err (Bind fault closed)) = end_of_close closed
+end_of_serve (Err (Accept closed)) = end_of_close closed
+end_of_serve (Err (Close store)) = Err (ended.Close store)
+
+-- Why a life is the last one. Either its opening was refused, and it had no connection. Or its files were not closed, and
+-- a crash of the store leaves at most that to which its connections lead.
+abbrev pub EndsLife : {D : Type 0} (g : Ghosts D) → ℕ → Files D → List Transcript → LifeFault D g → Type 0
+EndsLife g day found passed (ended.Open fault) =
+    (passed ≡ []) × RefusesFiles (image_of g found) fault × RefusesNoLegal found fault × KeepsRefused found fault
+EndsLife g day found passed (ended.Close store) =
+    IsClean (view store) → AreClean g found.log found.db × LeavesUnclosed (image_of g found) day passed store
+
+-- What is left then by it and the lives before it.
+abbrev pub LeavesEnded : {D : Type 0} (g : Ghosts D) → List Life → Files D → List (List Transcript) → ℕ → Files D → List Transcript → LifeFault D g → Type 0
+LeavesEnded g before old whole day found passed (ended.Open fault) = LeavesRefused g before old whole found fault
+LeavesEnded g before old whole day found passed (ended.Close store) =
+    IsClean (view store)
+    → LivesAllow g before old whole (λ charter history pending.
+    (next : History) × IsAtMostOneMore charter history pending next
+    × LeavesServed charter day passed (record { history = next; pending = [] }) (StoreLeavesAtMost over_files charter store))
+
+-- The lives ended with one that did not end well, after those that did. The files that it found are those that these left,
 -- after a crash, and it is for them that the fault has its cause.
-pub record RefusesLife {D : Type 0} (g : Ghosts D) (lives : List Life) (old : Files D) (served : List (List Transcript))
-    (fault : OpenFault D g) : Type 0 where
-  pub next : length served < length lives
+pub record EndsLives {D : Type 0} (g : Ghosts D) (lives : List Life) (old : Files D) (served : List (List Transcript))
+    (fault : LifeFault D g) : Type 0 where
+  pub whole : List (List Transcript)
+  pub passed : List Transcript
+  pub all : served ≡ whole ++ passed ∷ []
+  pub life : Life
+  pub reached : take (length served) lives ≡ take (length whole) lives ++ life ∷ []
+  pub few : length passed ≤ life.count
   pub found : Files D
   pub clean : AreClean g found.log found.db → AreClean g old.log old.db
-  pub led : AreClean g found.log found.db → ServesLives g (take (length served) lives) old served found
-  pub refuses : RefusesFiles (image_of g found) fault
-  pub keeps : KeepsRefused found fault
-  pub left : LeavesRefused g (take (length served) lives) old served found fault
+  pub led : AreClean g found.log found.db → ServesLives g (take (length whole) lives) old whole found
+  pub ends : EndsLife g life.day found passed fault
+  pub left : LeavesEnded g (take (length whole) lives) old whole life.day found passed fault

@@ -1,27 +1,42 @@
 //! The lives of `serve` on files whose disk may crash.
 ghost use Rattle.std.specs.Prelude.{◌≡◌, ◌≤◌, List, length, IfErr, IfOk, IsTrue, OnErr, OnOk};
+ghost use Rattle.std.specs.Prelude.{false, true};
 ghost use Rattle.std.specs.List.{flat_map};
 ghost use Rattle.sqlite.specs.Files.{image_of};
 ghost use Rattle.sqlite_wal.specs.Reads.{AreClean};
 ghost use Rattle.desk_files.specs.Refused.{KeepsRefused, RefusesFiles, RefusesNoLeft};
 ghost use Rattle.desk_files.specs.Refused.{RefusesNoLegal};
 ghost use Rattle.tasks.specs.Connections.{Accepts, Logs};
-ghost use Rattle.tasks.specs.ServedLives.{RefusesLife, ServesLife, ServesLives};
+ghost use Rattle.tasks.specs.ServedLives.{EndsLife, EndsLives, ServesLife, ServesLives};
+ghost use Rattle.tasks.specs.ServedLives.{end_of_close, end_of_serve};
 ghost use Rattle.tasks.specs.Serving.{Transcript, fault_lines};
 
 use crate::serve::{Connections, Log, serve_on};
+use crate::serve_desk::{ServeFault, serve_files};
 use addr::Day;
 use desk_files::{OpenFault, open_files, stop};
 use sqlite_disk::{Crash, Disk, Files};
 use sqlite_pager::Options;
+use sqlite_store::FileStore;
 use std::alloc::Global;
 
-/// A life of `serve`: the day, how many connections it has at most, and the options of its opening.
+/// A life of `serve`: the day, how many connections it has at most, the options of its opening, and
+/// whether the files are closed at its end or the process just ends.
 #[derive(Clone, Copy)]
 pub struct Life {
     pub day: Day,
     pub count: u32,
     pub options: Options,
+    pub is_closed: bool,
+}
+
+/// Why a life was the last one. What is left of its files is here.
+#[derive(Drop)]
+pub enum LifeFault<D: Disk> {
+    /// The desk was not opened.
+    Open(OpenFault<D>),
+    /// The files were to be closed, and were not.
+    Close(FileStore<D>),
 }
 
 /// Opens the desk in the files, serves at most this many connections on this day, and returns the
@@ -47,7 +62,7 @@ pub fn serve_until_stop<D: Disk + Drop, C: Connections, L: Log>(
         × Logs (L.has_lost log.old) (L.has_lost log.new) (L.contents log.old)
         (L.contents log.new) (fault_lines 1 passed)
         × IfOk result (λ left. AreClean D.Disk left.log left.db
-        → ServesLife D.Disk day files passed left) }
+        → ServesLife D.Disk false day files passed left) }
     ensures unserved { OnErr result ((connections.new ≡ connections.old) × (log.new ≡ log.old)) }
     ensures err { IfErr result (RefusesFiles (image_of D.Disk files)) }
     ensures not_schema { IfErr result (RefusesNoLeft (image_of D.Disk files)) }
@@ -63,19 +78,114 @@ pub fn serve_until_stop<D: Disk + Drop, C: Connections, L: Log>(
     Ok(stop(desk))
 }
 
-/// Serves each life in turn, and crashes the files before each. A refused opening ends the lives.
+/// Serves a life. Neither of the files may have failed a sync.
+pub fn serve_life<D: Disk + Drop, C: Connections, L: Log>(
+    alloc: Global,
+    files: Files<D>,
+    life: Life,
+    connections: &mut C,
+    log: &mut L,
+) -> Result<Files<D>, LifeFault<D>>
+    requires log { IsTrue (D.Disk.is_usable files.log) }
+    requires db { IsTrue (D.Disk.is_usable files.db) }
+    ensures clean { IfOk result (λ left. AreClean D.Disk left.log left.db
+        → AreClean D.Disk files.log files.db) }
+    ensures served { (passed : List Transcript) × (length passed ≤ life.count)
+        × Accepts (C.accepted connections.old) (C.accepted connections.new) passed
+        × Logs (L.has_lost log.old) (L.has_lost log.new) (L.contents log.old)
+        (L.contents log.new) (fault_lines 1 passed)
+        × IfOk result (λ left. AreClean D.Disk left.log left.db
+        → ServesLife D.Disk life.is_closed life.day files passed left)
+        × IfErr result (EndsLife D.Disk life.day files passed) }
+{
+    if life.is_closed {
+        return serve_until_close(
+            alloc,
+            files,
+            life.options,
+            connections,
+            life.count,
+            life.day,
+            log,
+        );
+    }
+    match serve_until_stop(
+        alloc,
+        files,
+        life.options,
+        connections,
+        life.count,
+        life.day,
+        log,
+    ) {
+        Ok(left) => Ok(left),
+        Err(fault) => Err(LifeFault::Open(fault)),
+    }
+}
+
+/// Serves a life that is to close its files, as `serve_files`. It has ended well if they were
+/// closed, even if the socket was not bound or a connection could not be accepted.
+fn serve_until_close<D: Disk + Drop, C: Connections, L: Log>(
+    alloc: Global,
+    files: Files<D>,
+    options: Options,
+    connections: &mut C,
+    count: u32,
+    day: Day,
+    log: &mut L,
+) -> Result<Files<D>, LifeFault<D>>
+    requires log { IsTrue (D.Disk.is_usable files.log) }
+    requires db { IsTrue (D.Disk.is_usable files.db) }
+    ensures clean { IfOk result (λ left. AreClean D.Disk left.log left.db
+        → AreClean D.Disk files.log files.db) }
+    ensures served { (passed : List Transcript) × (length passed ≤ count)
+        × Accepts (C.accepted connections.old) (C.accepted connections.new) passed
+        × Logs (L.has_lost log.old) (L.has_lost log.new) (L.contents log.old)
+        (L.contents log.new) (fault_lines 1 passed)
+        × IfOk result (λ left. AreClean D.Disk left.log left.db
+        → ServesLife D.Disk true day files passed left)
+        × IfErr result (EndsLife D.Disk day files passed) }
+{
+    let end = serve_files(alloc, files, options, connections, count, day, log);
+    end_of_serve(end)
+}
+
+/// The end of a life whose files were to be closed.
+fn end_of_serve<D: Disk>(end: Result<Files<D>, ServeFault<D>>) -> Result<Files<D>, LifeFault<D>>
+    ensures { result ≡ end_of_serve end }
+{
+    match end {
+        Ok(files) => Ok(files),
+        Err(ServeFault::Open(fault)) => Err(LifeFault::Open(fault)),
+        Err(ServeFault::Bind(_, closed)) => end_of_close(closed),
+        Err(ServeFault::Accept(closed)) => end_of_close(closed),
+        Err(ServeFault::Close(store)) => Err(LifeFault::Close(store)),
+    }
+}
+
+fn end_of_close<D: Disk>(closed: Result<Files<D>, FileStore<D>>) -> Result<Files<D>, LifeFault<D>>
+    ensures { result ≡ end_of_close closed }
+{
+    match closed {
+        Ok(files) => Ok(files),
+        Err(store) => Err(LifeFault::Close(store)),
+    }
+}
+
+/// Serves each life in turn, and crashes the files before each. One that does not end well ends the
+/// lives.
 pub fn serve_lives<D: Crash + Drop, C: Connections, L: Log>(
     alloc: Global,
     mut files: Files<D>,
     lives: &[Life],
     connections: &mut C,
     log: &mut L,
-) -> Result<Files<D>, OpenFault<D>>
+) -> Result<Files<D>, LifeFault<D>>
     ensures clean { IfOk result (λ left. AreClean D.Disk left.log left.db
         → AreClean D.Disk files.log files.db) }
-    // `served` are the connections of each life that was opened: they were accepted, the log has the
-    // lines of those that failed, and a crash leaves of the files at most what the lives lead to.
-    // If an opening was refused, it was that of the next life.
+    // `served` are the connections of each life, also of one that did not end well: they were
+    // accepted, the log has the lines of those that failed, and a crash leaves of the files at most
+    // what the lives lead to.
     ensures served { (served : List (List Transcript))
         × Accepts (C.accepted connections.old) (C.accepted connections.new)
         (flat_map (λ passed. passed) served)
@@ -84,22 +194,14 @@ pub fn serve_lives<D: Crash + Drop, C: Connections, L: Log>(
         × OnOk result (length served ≡ length lives.now)
         × IfOk result (λ left. AreClean D.Disk left.log left.db
         → ServesLives D.Disk lives.now files served left)
-        × IfErr result (RefusesLife D.Disk lives.now files served) }
+        × IfErr result (EndsLives D.Disk lives.now files served) }
 {
     // For the proof: the theorem by which the values of the requests reach the next life.
     desk::laws::pending_fits();
     for life in lives {
         files.log.crash();
         files.db.crash();
-        files = match serve_until_stop(
-            alloc,
-            files,
-            life.options,
-            connections,
-            life.count,
-            life.day,
-            log,
-        ) {
+        files = match serve_life(alloc, files, *life, connections, log) {
             Ok(left) => left,
             Err(fault) => return Err(fault),
         };

@@ -53,6 +53,10 @@ pub fn serve_files<D: Disk + Drop, C: Connections, L: Log>(
 ) -> Result<Files<D>, ServeFault<D>>
     requires log { IsTrue (D.Disk.is_usable files.log) }
     requires db { IsTrue (D.Disk.is_usable files.db) }
+    ensures clean { IfClosed result (λ left. AreClean D.Disk left.log left.db
+        → AreClean D.Disk files.log files.db) }
+    ensures clean_store { IfUnclosed result (λ store. IsClean (view store)
+        → AreClean D.Disk files.log files.db) }
     // `passed` are the connections: there are as many, they were accepted, the files have what they
     // lead to, a store that was not closed leaves no more, and the log has the lines of those that
     // failed.

@@ -1,11 +1,8 @@
-use Rattle.std.proofs.Common.{[], ◌∷◌, ◌++◌, ◌≡◌, OnErr, arith, length-append, refl, subst, sym, take_all}
-use Rattle.std.specs.List.{flat_map}
+use Rattle.std.proofs.Common.{[], ◌∷◌, ◌++◌, arith, length-append, refl, take_all}
 use Rattle.sqlite_disk.specs.declared.Files.{Files}
 use Rattle.sqlite_wal.proofs.CleanLemmas.{both_clean}
-use Rattle.tasks.specs.Connections.{Accepts, Logs}
-use Rattle.tasks.specs.Serving.{fault_lines}
 use Rattle.tasks.proofs.ConnectionLemmas.{logs-none}
-use Rattle.tasks.proofs.LivesLemmas.{accepts_more, lives_more, logs_more, refuses_life, serves_none}
+use Rattle.tasks.proofs.LivesLemmas.{accepts_more, ends_lives, lives_more, logs_more, serves_none}
 use Rattle.tasks.proofs.ServedFileLemmas.{accepts_none}
 use Rattle.tasks.proofs.lives.serve_lives.Goals as goal
 
@@ -16,7 +13,7 @@ loop-life-init g c =
 pub loop-life-preserved : goal.loop-life-preserved
 loop-life-preserved g c =
     let (served, counted, within, clean, accepted, logged, so_far) = c.loop-life.invariant in
-    let (passed, few, accepted_more, logged_more, serves) = c.in-Ok.ensures.served in
+    let (passed, few, accepted_more, logged_more, serves, none) = c.in-Ok.ensures.served in
     let crashed : Files g.row.D.Denot = record { log = c.crash.new.self; db = c.crash-in-loop-life.new.self } in
     let crash_clean = both_clean _ _ _ _ c.crash.ensures.clean c.crash-in-loop-life.ensures.clean in (
       served ++ passed ∷ [],
@@ -38,18 +35,16 @@ returns-in-Err-clause-served g c =
     let (served, counted, within, clean, accepted, logged, so_far) = c.loop-life.invariant in
     let crashed : Files g.row.D.Denot = record { log = c.crash.new.self; db = c.crash-in-loop-life.new.self } in
     let crash_clean = both_clean _ _ _ _ c.crash.ensures.clean c.crash-in-loop-life.ensures.clean in
-    let same = subst (λ r. OnErr r ((c.serve_until_stop.new.connections ≡ c.loop-life.connections)
-    × (c.serve_until_stop.new.log ≡ c.loop-life.log))) c.in-Err.is c.serve_until_stop.ensures.unserved in (
-      served,
-      subst (λ now. Accepts (g.C.Connections.accepted c.args.connections.now) (g.C.Connections.accepted now) (flat_map (λ passed. passed) served)) (sym same.0) accepted,
-      subst (λ now. Logs (g.L.Log.has_lost c.args.log.now) (g.L.Log.has_lost now) (g.L.Log.contents c.args.log.now)
-          (g.L.Log.contents now) (flat_map (fault_lines 1) served)) (sym same.1) logged,
+    let (passed, few, accepted_more, logged_more, none, ends) = c.in-Err.ensures.served in (
+      served ++ passed ∷ [],
+      accepts_more _ _ _ served passed accepted accepted_more,
+      logs_more _ _ _ _ _ _ served passed logged logged_more,
       tt,
       tt,
-      refuses_life g.D.Disk g.met.D.Disk.seen_may_stay c.pending_fits.ensures c.args.files c.loop-life.files crashed c.args.lives.now
-          c.loop-life.life-index served c.in-Err.fault counted c.loop-life-test.true clean crash_clean so_far
-          (λ image may. (c.crash.ensures.crash image.log may.0, c.crash-in-loop-life.ensures.crash image.db may.1))
-          c.in-Err.ensures.err c.in-Err.ensures.no_legal c.in-Err.ensures.left,
+      ends_lives g.D.Disk g.met.D.Disk.seen_may_stay c.pending_fits.ensures c.args.files c.loop-life.files crashed c.args.lives.now
+          c.loop-life.life-index served c.life-item.result passed c.in-Err.fault counted c.loop-life-test.true c.life-item.is few
+          clean crash_clean so_far
+          (λ image may. (c.crash.ensures.crash image.log may.0, c.crash-in-loop-life.ensures.crash image.db may.1)) ends,
     )
 
 pub returns-clause-clean : goal.returns-clause-clean

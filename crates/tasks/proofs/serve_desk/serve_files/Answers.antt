@@ -6,6 +6,25 @@ use Rattle.tasks.proofs.HistoryLemmas.{if_ok_both}
 use Rattle.tasks.proofs.ServedFileLemmas.{if_closed, if_unclosed, keep_served, keeps_files, late_cause, late_not_bind, late_opened, leaves_none, leaves_store, leaves_unclosed}
 use Rattle.tasks.proofs.serve_desk.serve_files.Goals as goal
 
+pub returns-in-Ok-listen-clause-clean : goal.returns-in-Ok-listen-clause-clean
+returns-in-Ok-listen-clause-clean g c =
+    if_closed c.serve_desk.result _ _ _ (λ files cleaned again clean. c.in-Ok.ensures.clean (cleaned clean))
+    c.serve_desk.ensures.clean c.serve_desk.ensures.clean
+
+pub returns-in-Ok-listen-clause-clean_store : goal.returns-in-Ok-listen-clause-clean_store
+returns-in-Ok-listen-clause-clean_store g c =
+    if_unclosed c.serve_desk.result _ _ _ (λ store cleaned again clean. c.in-Ok.ensures.clean (cleaned clean))
+    c.serve_desk.ensures.clean_store c.serve_desk.ensures.clean_store
+
+pub returns-in-Err-listen-clause-clean : goal.returns-in-Err-listen-clause-clean
+returns-in-Err-listen-clause-clean g c =
+    if_ok_both c.close_desk.result _ _ _ (λ files cleaned again clean. c.in-Ok.ensures.clean (cleaned clean))
+    c.close_desk.ensures.clean c.close_desk.ensures.clean
+
+pub returns-in-Err-listen-clause-clean_store : goal.returns-in-Err-listen-clause-clean_store
+returns-in-Err-listen-clause-clean_store g c =
+    IfErr-weaker c.close_desk.result _ _ (λ store kept clean. c.in-Ok.ensures.clean (kept.clean clean)) c.close_desk.ensures.err
+
 pub returns-in-Ok-listen-clause-served : goal.returns-in-Ok-listen-clause-served
 returns-in-Ok-listen-clause-served g c =
     let (passed, counted, accepted, logged, closed, unclosed) = c.serve_desk.ensures.served in (
