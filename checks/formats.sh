@@ -40,8 +40,9 @@ check_lines() {
 # Each word of the table of requests has a line.
 check_words() {
     local word missing=0
-    sed -n 's/.*Some("\([a-z]*\)").*/\1/p' "$top/crates/requests/src/table.rt" >"$work/words"
-    [ -s "$work/words" ] || fail 'the table of requests has no words'
+    sed -n '/^| `do` |/,/^$/s/^| \(`[a-z`, ]*`\) | .*/\1/p' "$top/docs/FORMATS.md" | tr -d '`,' | tr ' ' '\n' |
+        grep -vx 'do' >"$work/words"
+    [ -s "$work/words" ] || fail 'FORMATS.md has no table of requests'
     while read -r word; do
         grep -q "\"do\":\"$word\"" "$work/1.jsonl" && continue
         echo "no line with the word $word"
