@@ -594,10 +594,7 @@ fn assert_answers(
     row: &(u32, &str, u8, bool, bool),
 ) -> Result<(), Fail> {
     let (asn, prefix, max, holds, gives) = *row;
-    assert!(rt;
-        grants_of(loaded) == [grant()?].as_slice(),
-        "{prefix}"
-    );
+    assert!(rt; grants_of(loaded) == [grant()?].as_slice(), "{prefix}");
     assert_eq!(rt; loaded.answers.created, 2, "{prefix}");
     assert_eq!(rt; loaded.answers.holds, holds, "AS{asn} {prefix} to {max}");
     assert_eq!(rt; loaded.answers.gives, gives, "AS{asn} {prefix} to {max}");
