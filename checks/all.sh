@@ -11,7 +11,7 @@
 # Of each check it prints `passed`, `failed` or `not run` with what is missing; and then how many of each there are. Ends
 # with 1 where a check failed, else with 77 where one was not run, or not all of it, else with 0.
 set -u
-. "$(dirname "${BASH_SOURCE[0]}")/common.sh"
+. "$(dirname "${BASH_SOURCE[0]}")/../tools/common.sh"
 make_work
 checks=$top/checks
 verdicts=()
@@ -22,7 +22,7 @@ not_run=0
 names=("$@")
 if [ $# = 0 ]; then
     for script in "$checks"/*.sh; do
-        case ${script##*/} in all.sh | common.sh | cost.sh | edits.sh) continue ;; esac
+        case ${script##*/} in all.sh | cost.sh | edits.sh) continue ;; esac
         names+=("$(basename "$script" .sh)")
     done
     names+=(console)

@@ -16,6 +16,7 @@ import pathlib
 import re
 import sys
 
+sys.path.insert(0, str(pathlib.Path(__file__).resolve().parent.parent / "tools"))
 from common import TOP
 
 OUTER = re.compile(r"^(?:unsafe )?(impl\b.*|(?:pub )?trait .*)$")

@@ -12,7 +12,7 @@
 # Ends with 0 where all crates were run and passed, with 1 where something failed, and with 77, after what is missing,
 # where they could not be run.
 set -u
-. "$(dirname "${BASH_SOURCE[0]}")/common.sh"
+. "$(dirname "${BASH_SOURCE[0]}")/../tools/common.sh"
 [ $# = 0 ] || need rt
 record=${XDG_CACHE_HOME:-$HOME/.cache}/roadesk/cost
 mkdir -p "$record" || exit 1

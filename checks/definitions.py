@@ -9,9 +9,11 @@ definitions are not followed. Nothing is proved or run. The last line has the su
 
 Needs nothing but python3. Ends with 0, and with 1 where there is no such file or no such clause in it.
 """
+import pathlib
 import re
 import sys
 
+sys.path.insert(0, str(pathlib.Path(__file__).resolve().parent.parent / "tools"))
 from common import TOP
 
 USE = re.compile(r"^\s*(?:ghost )?use (Rattle\.[\w.+]+)(?:\.\{([^}]*)\}| as (\w+));?\s*$", re.M)

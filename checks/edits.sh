@@ -12,7 +12,7 @@
 # Ends with 0 where each edit was refused, with 1 where one was not, could not be applied or was not tried, or something
 # else failed, and with 77, after what is missing, where it could not be run.
 set -u
-. "$(dirname "${BASH_SOURCE[0]}")/common.sh"
+. "$(dirname "${BASH_SOURCE[0]}")/../tools/common.sh"
 need rt
 make_work
 

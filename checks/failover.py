@@ -128,7 +128,7 @@ class Pair(Check):
         return server
 
     def ask(self, port, command):
-        connection = connected(port, START)
+        connection = connected(port, seconds=START)
         return connection and exchange(connection, command)
 
     def mirror(self):

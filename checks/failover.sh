@@ -13,7 +13,7 @@
 # Ends with 0 where all ran and held, with 1 where something failed, and with 77, after what is missing, where not all of
 # it could be run.
 set -u
-. "$(dirname "${BASH_SOURCE[0]}")/common.sh"
+. "$(dirname "${BASH_SOURCE[0]}")/../tools/common.sh"
 need_gcc
 need_python
 find_program

@@ -9,7 +9,7 @@
 # Ends with 0 where all ran and held, with 1 where a reply differs, a run leaves a file behind or something else failed,
 # and with 77, after what is missing, where it could not be run.
 set -u
-. "$(dirname "${BASH_SOURCE[0]}")/common.sh"
+. "$(dirname "${BASH_SOURCE[0]}")/../tools/common.sh"
 need rt iconv
 find_program
 make_work

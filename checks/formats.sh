@@ -11,7 +11,7 @@
 # Ends with 0 where all ran and held, with 1 where something failed, and with 77, after what is missing, where not all of
 # it could be run.
 set -u
-. "$(dirname "${BASH_SOURCE[0]}")/common.sh"
+. "$(dirname "${BASH_SOURCE[0]}")/../tools/common.sh"
 find_program
 charter=$top/examples/charter.csv
 make_work
@@ -40,6 +40,7 @@ check_lines() {
 # Each word of the table of requests has a line.
 check_words() {
     local word missing=0
+    # shellcheck disable=SC2016 # these are of Markdown
     sed -n '/^| `do` |/,/^$/s/^| \(`[a-z`, ]*`\) | .*/\1/p' "$top/docs/FORMATS.md" | tr -d '`,' | tr ' ' '\n' |
         grep -vx 'do' >"$work/words"
     [ -s "$work/words" ] || fail 'FORMATS.md has no table of requests'
@@ -80,14 +81,15 @@ ask() {
 }
 
 check_messages() {
-    local count port block differs=0
+    local count port server block differs=0
     blocks http
     count=$(find "$work" -name '*.http' | wc -l)
     [ "$count" -gt 0 ] || fail 'FORMATS.md has no messages'
-    port=$(free_port) || exit 1
+    free_port && port=$free
     "$program" init --db "$work/desk.db" --charter "$charter" || return
     "$program" serve --db "$work/desk.db" --listen "127.0.0.1:$port" --count $((count / 2)) --day 2026-03-01 &
-    sleep 2
+    server=$!
+    wait_for "$port" "$server" || return
     for block in $(seq 1 2 "$count"); do
         ask "$block" "$port" | diff "$work/$((block + 1)).http" - >"$work/differs" && continue
         echo "$(head -n 1 "$work/$block.http"):"

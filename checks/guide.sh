@@ -18,7 +18,7 @@
 # Ends with 0 if all blocks ran and did as the documents say, with 1 if one did otherwise or something else failed, and
 # with 77, after what is missing, if not all of them could be run.
 set -u
-. "$(dirname "${BASH_SOURCE[0]}")/common.sh"
+. "$(dirname "${BASH_SOURCE[0]}")/../tools/common.sh"
 need git
 find_program
 [ $# -gt 0 ] || set -- "$top"/docs/{GUIDE,OPERATIONS}.md
@@ -113,13 +113,12 @@ tell_missing() {
     done < <(cat "$work"/*.missing | sort -u)
 }
 
-# wait_for BLOCK: until each desk that the block leaves in the background listens, a minute at most. The desk is not
-# asked, as it may answer one connection alone.
-wait_for() {
+# wait_for_desks BLOCK: until each desk that the block leaves in the background listens, a minute at most.
+wait_for_desks() {
     local port
     sed -n 's/.*--listen 127\.0\.0\.1:\([0-9]*\) .*&$/\1/p' "$1" | while read -r port; do
         for _ in $(seq 600); do
-            ! grep -q "$(printf ':%04X 00000000:0000 0A' "$port")" /proc/net/tcp || break
+            ! listens "$port" || break
             sleep 0.1
         done
     done
@@ -134,7 +133,7 @@ run_blocks() {
         # shellcheck source=/dev/null
         . "$work/$guide_block.sh" >"$work/$guide_block.printed" 2>&1 </dev/null
         echo $? >"$work/$guide_block.status"
-        wait_for "$work/$guide_block.sh"
+        wait_for_desks "$work/$guide_block.sh"
         # Other servers need a moment until they listen.
         ! grep -q '&$' "$work/$guide_block.sh" || sleep 2
     done
@@ -166,7 +165,7 @@ for block in $(seq "$blocks"); do
 done
 tell_missing
 export work blocks CURL_HOME=$work
-export -f run_blocks wait_for
+export -f run_blocks wait_for_desks listens
 timeout 600 bash -c run_blocks
 
 for block in $(seq "$blocks"); do

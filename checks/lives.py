@@ -26,7 +26,8 @@ from datetime import date
 from pathlib import Path
 from typing import Callable, Optional
 
-from common import DAY, TABLES, connected, exchanged, free_port, serve_words
+from common import (DAY, TABLES, charter_of, connected, exchanged, free_port, reply_of, request, serve_words,
+                    slurm_file)
 
 CLIENTS = 4
 FROM = "2026-01-01"
@@ -82,9 +83,7 @@ class Command:
         return f"{self.caller} {self.method} {self.path} {self.body}"
 
     def bytes(self):
-        body = self.body.encode()
-        head = f"{self.method} {self.path} HTTP/1.1\r\nDesk-Caller: {self.caller}\r\n"
-        return f"{head}Content-Length: {len(body)}\r\n\r\n".encode() + body
+        return request(f"{self.method} {self.path}", self.caller, self.body)
 
 
 class Rows:
@@ -254,14 +253,6 @@ def transfer(rows, chance):
     return done("reg", "POST", "/transfers", members, None, effect)
 
 
-def slurm_file(filters, assertions):
-    return {
-        "slurmVersion": 1,
-        "validationOutputFilters": {"prefixFilters": filters, "bgpsecFilters": []},
-        "locallyAddedAssertions": {"prefixAssertions": assertions, "bgpsecAssertions": []},
-    }
-
-
 def slurm(rows, chance):
     """One file, or a second one too, whose filters name no prefix. There is one set, so one client alone sends them."""
     filters = [some_auth(rows, chance) for _ in range(chance.randrange(30))]
@@ -269,7 +260,7 @@ def slurm(rows, chance):
     numbers = [chance.randrange(64496, 64512) for _ in range(chance.choice([0, 0, 20]))]
     main = slurm_file([{"asn": one.asn, "prefix": text(one.prefix)} for one in filters],
                       [{"asn": one.asn, "prefix": text(one.prefix), "maxPrefixLength": one.max} for one in assertions])
-    other = slurm_file([{"asn": asn} for asn in numbers], [])
+    other = slurm_file([{"asn": asn} for asn in numbers])
 
     def effect(after):
         after.exceptions = [
@@ -346,12 +337,7 @@ class Client:
 
 def exchange(connection, command):
     """Status and body, or None where no whole response came."""
-    response, _ = exchanged(connection, command.bytes())
-    head, end, body = response.partition(b"\r\n\r\n")
-    length = [line for line in head.split(b"\r\n") if line.startswith(b"Content-Length: ")]
-    if not end or not length or len(body) != int(length[0].split()[1]):
-        return None
-    return f"{head.split()[1].decode()} {body.decode()}"
+    return reply_of(exchanged(connection, command.bytes())[0])
 
 
 def tables_of(path):
@@ -384,7 +370,7 @@ class Check:
 
     def set_up(self):
         charter = self.folder / "charter.csv"
-        charter.write_text("kind,value\noperator,reg\npool,10.0.0.0/8\n")
+        charter.write_text(charter_of("10.0.0.0/8"))
         subprocess.run([self.program, "init", "--db", self.db, "--charter", charter], check=True)
         commands = [command for client in self.clients for command in client.rows.setup()]
         server = self.serve(self.db, self.port, len(commands))

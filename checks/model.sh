@@ -12,7 +12,7 @@
 # Ends with 0 where all runs were made and the answers are the same, with 1 where they differ or something else failed,
 # and with 77, after what is missing, where not all runs could be made, as in an hour.
 set -u
-. "$(dirname "${BASH_SOURCE[0]}")/common.sh"
+. "$(dirname "${BASH_SOURCE[0]}")/../tools/common.sh"
 need_python
 find_program
 runs=${1:-1000}

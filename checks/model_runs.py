@@ -16,7 +16,7 @@ import sys
 import time
 
 import model
-from common import NOT_RUN, connected, exchanged, free_port, not_run, serve_words
+from common import NOT_RUN, connected, exchanged, free_port, not_run, serve_words, slurm_file
 
 CHARTERS = [
     "kind,value\noperator,reg\npool,192.0.2.0/24\npool,198.51.100.0/24\npool,2001:db8::/32\n",
@@ -135,9 +135,7 @@ class Requests:
         return {"prefix": row["prefix"], "asn": row["asn"]} | further
 
     def slurm(self):
-        filters, assertions = self.several(self.filter, [0, 1, 2]), self.several(self.assertion, [0, 1, 2])
-        return {"slurmVersion": 1, "validationOutputFilters": {"prefixFilters": filters, "bgpsecFilters": []},
-                "locallyAddedAssertions": {"prefixAssertions": assertions, "bgpsecAssertions": []}}
+        return slurm_file(self.several(self.filter, [0, 1, 2]), self.several(self.assertion, [0, 1, 2]))
 
     def exceptions(self):
         """The members of a set of SLURM files, now and then both forms or neither."""

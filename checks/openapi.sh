@@ -16,7 +16,7 @@
 # Ends with 0 where all ran and held, with 1 where something else is found or something failed, and with 77, after what
 # is missing, where not all of it could be run.
 set -u
-. "$(dirname "${BASH_SOURCE[0]}")/common.sh"
+. "$(dirname "${BASH_SOURCE[0]}")/../tools/common.sh"
 metaschema=/usr/share/openapi-specification/schemas/v3.0/schema.json
 [ -e "$metaschema" ] || skip "no file $metaschema (Debian: openapi-specification)"
 need python3

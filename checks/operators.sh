@@ -16,7 +16,7 @@
 # Ends with 0 where all ran and held, with 1 where something else is found or something failed, and with 77, after what
 # is missing, where it could not be run.
 set -u
-. "$(dirname "${BASH_SOURCE[0]}")/common.sh"
+. "$(dirname "${BASH_SOURCE[0]}")/../tools/common.sh"
 PATH=$PATH:/usr/sbin
 need_python
 need bird birdc bgpdump jq
@@ -67,7 +67,7 @@ announce_all() {
 
 tables_of_bird() {
     local port routes
-    port=$(free_port)
+    free_port && port=$free
     start_bird "$port"
     announce_all "$port"
     routes='prefix,origin

@@ -19,7 +19,7 @@
 # missing, where not all of it could be run.
 # shellcheck disable=SC2016 # most of these are of a shell inside
 set -u
-. "$(dirname "${BASH_SOURCE[0]}")/common.sh"
+. "$(dirname "${BASH_SOURCE[0]}")/../tools/common.sh"
 cases='installs front killed locked connects nftables full days probes first_days desks versions removes'
 chosen=" ${*:-$cases} installs front "
 for case in $chosen; do

@@ -17,6 +17,7 @@ import shutil
 import sys
 import tempfile
 
+sys.path.insert(0, str(pathlib.Path(__file__).resolve().parent.parent / "tools"))
 import side_by_side
 from common import TOP, need_rt
 from side_by_side import Job

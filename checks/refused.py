@@ -14,17 +14,16 @@ refused.
 import json
 import os
 import shutil
-import socket
 import sqlite3
 import subprocess
 import sys
-import time
 from collections import Counter
 from concurrent.futures import ThreadPoolExecutor
 from dataclasses import dataclass
 from pathlib import Path
 
-from common import TABLES, serve_words
+import common
+from common import PROCESSORS, TABLES, connected, exchanged, response, serve_words
 
 DATES = "2026-01-01,2026-12-31"
 # Of these many allocations each is refused.
@@ -44,20 +43,13 @@ class Request:
     kind: str = "application/json"
 
     def bytes(self):
-        body = self.body.encode()
-        head = f"{self.head} HTTP/1.1\r\nDesk-Caller: {self.caller}\r\nContent-Length: {len(body)}\r\n\r\n"
-        return head.encode() + body
+        return common.request(self.head, self.caller, self.body)
 
     def response(self):
-        return response("200 OK", self.kind, self.reply)
+        return response("200 OK", self.reply, self.kind)
 
 
-def response(status, kind, body):
-    fields = f"Content-Type: {kind}\r\nContent-Length: {len(body)}\r\nConnection: close\r\n"
-    return f"HTTP/1.1 {status}\r\n{fields}\r\n{body}".encode()
-
-
-UNAVAILABLE = response("503 Service Unavailable", "application/json", '{"unavailable":true}\n')
+UNAVAILABLE = response("503 Service Unavailable", '{"unavailable":true}\n')
 
 
 def members(**values):
@@ -71,14 +63,11 @@ def rows(first, count):
 
 def slurm_file(comment):
     filters = [{"asn": 64497, "comment": comment}]
-    assertions = [{"asn": 64496, "prefix": "198.51.100.0/24"}]
-    return members(slurmVersion=1, validationOutputFilters={"prefixFilters": filters, "bgpsecFilters": []},
-                   locallyAddedAssertions={"prefixAssertions": assertions, "bgpsecAssertions": []})
+    return members(**common.slurm_file(filters, [{"asn": 64496, "prefix": "198.51.100.0/24"}]))
 
 
 def slurm_files(count):
-    file = json.loads(slurm_file("one"))
-    file["locallyAddedAssertions"]["prefixAssertions"] = []
+    file = common.slurm_file([{"asn": 64497, "comment": "one"}])
     return members(files=[{"name": f"a{at}", "file": file} for at in range(count)])
 
 
@@ -176,26 +165,8 @@ def end(server):
 
 def ask(server, address, port, request):
     """What comes until the connection ends; None where the program ended and there is no connection."""
-    while True:
-        try:
-            client = socket.create_connection((address, port), timeout=60)
-            break
-        except OSError:
-            if server.poll() is not None:
-                return None
-            time.sleep(0.001)
-    got = b""
-    with client:
-        try:
-            client.sendall(request.bytes())
-        except OSError:
-            pass
-        try:
-            while piece := client.recv(65536):
-                got += piece
-        except OSError:
-            pass
-    return got
+    client = connected(port, server, address, seconds=60)
+    return exchanged(client, request.bytes())[0] if client else None
 
 
 def is_fault(status, line):
@@ -238,7 +209,7 @@ def judge_serve(place, request, before, after, responses, status, line):
 class Sweep:
     def __init__(self, program, library, charter, folder, step):
         self.charter, self.folder, self.step = charter, folder, step
-        self.places = [Place(program, library, folder / f"place{number}", number) for number in range(os.cpu_count())]
+        self.places = [Place(program, library, folder / f"place{number}", number) for number in range(PROCESSORS)]
         self.faults = 0
 
     def numbers(self, first, answered, all_later):

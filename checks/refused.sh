@@ -20,7 +20,7 @@
 # Ends with 0 where all ran and held, with 1 where a reply or a set is not as it has to be or something else failed, and
 # with 77, after what is missing, where not all of it could be run.
 set -u
-. "$(dirname "${BASH_SOURCE[0]}")/common.sh"
+. "$(dirname "${BASH_SOURCE[0]}")/../tools/common.sh"
 need_gcc
 need_python
 find_program
@@ -144,7 +144,7 @@ refuse_test failures refused_memory::refused_memory_over_http
 refuse_test library_conformance refused_calls::refused_call_is_good_the_next_time
 
 have 'a trie: ' rt || end
-folder=$("$top/bench/common/crate.sh" "$top/checks/refused.rattle" "$work") || fail 'no crate was made'
+folder=$("$top/tools/crate.sh" "$top/checks/refused.rattle" "$work") || fail 'no crate was made'
 # More than the program makes.
 most=100
 

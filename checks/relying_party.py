@@ -9,7 +9,6 @@ import json
 import pathlib
 import random
 import shutil
-import socket
 import subprocess
 import sys
 import time
@@ -18,6 +17,7 @@ import urllib.request
 
 sys.path.insert(0, str(pathlib.Path(__file__).resolve().parent.parent / "examples/signer"))
 import sign
+from common import charter_of, connected, free_port, serve_words, slurm_file
 
 # The first and the last AS number of each count of octets, in DER too, where a first bit takes an octet of its own.
 NUMBERS = [0, 1, 127, 128, 255, 256, 32767, 32768, 65535, 65536, 2**23 - 1, 2**23, 2**24 - 1, 2**24, 2**31 - 1, 2**31,
@@ -27,19 +27,11 @@ SPACE = {"alpha": ("0.0.0.0/1", "::/1"), "beta": ("128.0.0.0/2", "8000::/2"), "g
 MOVED = "10.0.0.0/8"
 
 FILES = [
-    {"name": "noc", "file": {
-        "slurmVersion": 1,
-        "validationOutputFilters": {"prefixFilters": [
-            {"asn": 65536}, {"prefix": "192.0.0.0/3"}, {"prefix": "8000::/3", "asn": 128}], "bgpsecFilters": []},
-        "locallyAddedAssertions": {"prefixAssertions": [
-            {"asn": 65536, "prefix": "198.51.100.0/24"},
-            {"asn": 0, "prefix": "192.0.2.0/24", "maxPrefixLength": 32}], "bgpsecAssertions": []}}},
-    {"name": "customer", "file": {
-        "slurmVersion": 1,
-        "validationOutputFilters": {"prefixFilters": [], "bgpsecFilters": []},
-        "locallyAddedAssertions": {"prefixAssertions": [
-            {"asn": 64500, "prefix": "2001:db8::/32", "maxPrefixLength": 48, "comment": "has no ROAs"}],
-            "bgpsecAssertions": []}}},
+    {"name": "noc", "file": slurm_file(
+        [{"asn": 65536}, {"prefix": "192.0.0.0/3"}, {"prefix": "8000::/3", "asn": 128}],
+        [{"asn": 65536, "prefix": "198.51.100.0/24"}, {"asn": 0, "prefix": "192.0.2.0/24", "maxPrefixLength": 32}])},
+    {"name": "customer", "file": slurm_file(
+        (), [{"asn": 64500, "prefix": "2001:db8::/32", "maxPrefixLength": 48, "comment": "has no ROAs"}])},
 ]
 
 
@@ -58,7 +50,7 @@ class Desk:
     def __init__(self, program, work):
         self.program, self.database, self.served = program, work / "desk.db", None
         charter = work / "charter.csv"
-        charter.write_text("kind,value\noperator,reg\npool,0.0.0.0/0\npool,::/0\n", encoding="ascii")
+        charter.write_text(charter_of("0.0.0.0/0", "::/0"), encoding="ascii")
         run(program, "init", "--db", self.database, "--charter", charter)
 
     def stop(self):
@@ -68,19 +60,14 @@ class Desk:
 
     def serve(self, day):
         self.stop()
-        with socket.socket() as probe:
-            probe.bind(("127.0.0.1", 0))
-            port = probe.getsockname()[1]
+        port = free_port()
         self.address = f"http://127.0.0.1:{port}"
-        words = ["--db", self.database, "--listen", f"127.0.0.1:{port}", "--count", "1000000", "--day", day]
         with open(self.database.with_suffix(".log"), "ab") as log:
-            self.served = subprocess.Popen([self.program, "serve", *words], stderr=log)
-        for _ in range(200):
-            try:
-                return socket.create_connection(("127.0.0.1", port), timeout=60).close()
-            except ConnectionRefusedError:
-                time.sleep(0.05)
-        sys.exit(1)
+            self.served = subprocess.Popen([self.program, *serve_words(self.database, port, 1_000_000, day)], stderr=log)
+        client = connected(port, self.served)
+        if not client:
+            sys.exit(1)
+        client.close()
 
     def ask(self, caller, method, path, body=None):
         """The body of a response, which has to be of status 200."""

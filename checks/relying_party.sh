@@ -22,7 +22,7 @@
 # Ends with 0 where all ran and held, with 1 where the VRPs are others or something failed, and with 77, after what is
 # missing, where it could not be run.
 set -u
-. "$(dirname "${BASH_SOURCE[0]}")/common.sh"
+. "$(dirname "${BASH_SOURCE[0]}")/../tools/common.sh"
 PATH=$PATH:/usr/sbin
 need_python
 need rpki-client fort openssl sqlite3

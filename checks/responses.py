@@ -7,7 +7,7 @@ Ends with 1 where a response is another or breaks off, or the program ends other
 import subprocess
 import sys
 
-from common import connected, exchanged, free_port, serve_words
+from common import connected, exchanged, free_port, response, serve_words
 
 # The request line, the length that is announced, how many bytes of a body are sent, and the response's first line,
 # field that is its own, and body.
@@ -35,9 +35,7 @@ def main(program, database):
     failed = False
     try:
         for line, announced, sent, status, field, body in ROWS:
-            kind = "text/csv" if status == "200 OK" else "application/json"
-            wanted = f"HTTP/1.1 {status}\r\nContent-Type: {kind}\r\nContent-Length: {len(body)}\r\n{field}"
-            wanted += f"Connection: close\r\n\r\n{body}"
+            wanted = response(status, body, "text/csv" if status == "200 OK" else "application/json", field).decode()
             got = answer(port, line, announced, sent)
             print(f"{line}, {sent} bytes: {status if got == wanted else repr(got)}")
             failed |= got != wanted

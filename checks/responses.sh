@@ -10,7 +10,7 @@
 # Ends with 0 where all ran and held, with 1 where a response is another or breaks off or something else failed, and with
 # 77, after what is missing, where it could not be run.
 set -u
-. "$(dirname "${BASH_SOURCE[0]}")/common.sh"
+. "$(dirname "${BASH_SOURCE[0]}")/../tools/common.sh"
 need_python
 find_program
 make_work

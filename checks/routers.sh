@@ -16,7 +16,7 @@
 # Ends with 0 where all ran and held, with 1 where something else is found or something failed, and with 77, after what
 # is missing, where it could not be run.
 set -u
-. "$(dirname "${BASH_SOURCE[0]}")/common.sh"
+. "$(dirname "${BASH_SOURCE[0]}")/../tools/common.sh"
 PATH=$PATH:/usr/sbin:/sbin
 frr=/usr/lib/frr/bgpd
 need stayrtr rtrdump bird birdc vtysh "$frr" bgpd bgpctl curl jq ip unshare

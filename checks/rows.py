@@ -17,6 +17,7 @@ import subprocess
 import sys
 import tempfile
 
+sys.path.insert(0, str(pathlib.Path(__file__).resolve().parent.parent / "tools"))
 from common import TOP, need_rt
 
 NAMED = re.compile(r'^# fails: (\w+), (\w+), row "(.*)"$', re.M)

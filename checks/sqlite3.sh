@@ -9,18 +9,17 @@
 # Ends with 0 where all ran and held, with 1 where something else is found or something failed, and with 77, after what is
 # missing, where it could not be run.
 set -u
-. "$(dirname "${BASH_SOURCE[0]}")/common.sh"
+. "$(dirname "${BASH_SOURCE[0]}")/../tools/common.sh"
 need rt sqlite3
 make_or_keep_work
-common=$top/bench/common
+schema=$top/tools/tables.sql
 rm -f "$work"/*.db*
 
 # What a store made, read by sqlite3.
-store=$("$common/build.sh" "$top/bench/store/store.rattle" "$work" memory 2 2) ||
-    fail "store.rattle was not built"
+store=$("$top/tools/build.sh" "$top/bench/store/store.rattle" "$work" memory 2 2) || fail 'store.rattle was not built'
 made=$work/made.db
 "$store" "$made" 10 10 >"$work/made.lines" || fail "store.rattle failed"
-expect 'the schema of a new store' "$(sqlite3 "$made" .schema | sort)" "$(sort "$common/tables.sql")"
+expect 'the schema of a new store' "$(sqlite3 "$made" .schema | sort)" "$(sort "$schema")"
 expect 'its integrity' "$(sqlite3 "$made" 'PRAGMA integrity_check')" ok
 expect 'its foreign keys' "$(sqlite3 "$made" 'PRAGMA foreign_key_check')" ''
 expect 'its number' "$(sqlite3 "$made" 'SELECT name, value FROM meta')" 'schema|2'
@@ -32,7 +31,7 @@ expect 'their entries' "$(sqlite3 "$made" "SELECT count(*), sum(asn) FROM $joine
 expect 'the table of schema 1' "$(sqlite3 "$made" 'SELECT count(*) FROM auth')" 0
 
 # What sqlite3 wrote, opened as a store.
-open=$("$common/build.sh" "$top/checks/open.rattle" "$work" "$work/first.db") || fail "open.rattle was not built"
+open=$("$top/tools/build.sh" "$top/checks/open.rattle" "$work" "$work/first.db") || fail "open.rattle was not built"
 rows="
 INSERT INTO meta VALUES ('schema', 2);
 INSERT INTO operator VALUES ('reg');
@@ -52,16 +51,16 @@ expect_opened() {
     expect "$1" "$("$open" "$work/written.db")" "$2"
 }
 
-tables=$(cat "$common/tables.sql")
+tables=$(cat "$schema")
 expect_opened 'tables of sqlite3' "$whole" "$tables"
 expect 'its integrity afterwards' "$(sqlite3 "$work/written.db" 'PRAGMA integrity_check')" ok
 expect_opened 'without the index' "$whole" "$tables" 'DROP INDEX holding_of;'
 expect 'the schema afterwards' "$(sqlite3 "$work/written.db" .schema | sort)" \
-    "$(grep -v INDEX "$common/tables.sql" | sort)"
+    "$(grep -v INDEX "$schema" | sort)"
 expect_opened 'with a write-ahead log' "$whole" "PRAGMA journal_mode = WAL; $tables"
 # The index is made last, so the tables have the same places without it, and where sqlite3 writes them anew: it then
 # makes all tables before the indexes.
-expect_opened 'made without the index' "$whole" "$(grep -v INDEX "$common/tables.sql")"
+expect_opened 'made without the index' "$whole" "$(grep -v INDEX "$schema")"
 expect_opened 'after a vacuum' "$whole" "$tables" "VACUUM; VACUUM INTO '$work/into.db';"
 expect 'a vacuum into another file' "$("$open" "$work/into.db")" "$whole"
 sqlite3 "$work/written.db" .dump | sqlite3 "$work/dumped.db" || fail 'sqlite3 failed: a dump'
@@ -89,10 +88,10 @@ expect 'one of 64 entries' "$("$open" "$work/written.db" | grep -c ^AS)" 64
 expect_opened 'a claim without an entry' schema "$tables" 'DELETE FROM entry;'
 expect_opened 'an entry of another AS' schema "$tables" 'UPDATE entry SET asn = 64497;'
 
-early=$(sed '/^CREATE TABLE claim/i CREATE INDEX run_of ON holding (holder);' "$common/tables.sql")
+early=$(sed '/^CREATE TABLE claim/i CREATE INDEX run_of ON holding (holder);' "$schema")
 expect_opened 'an index before the last tables' database "$early"
 expect_opened 'the same after a vacuum' "$whole" "$early" 'VACUUM;'
-expect_opened 'tables in another order' database "$(tac "$common/tables.sql" | grep -v INDEX)"
+expect_opened 'tables in another order' database "$(tac "$schema" | grep -v INDEX)"
 expect_opened 'another number' schema "$tables" 'UPDATE meta SET value = 3;'
 old="INSERT INTO auth SELECT holder, number, asn, family, lo, len, max, opens, ends FROM $joined;"
 expect_opened 'a row of schema 1' schema "$tables" "$old"
@@ -103,9 +102,9 @@ expect_opened 'no table but those of schema 1' database "$tables" 'DROP TABLE en
 new_rows=$rows
 rows=$(sed "s/('schema', 2)/('schema', 1)/; /^INSERT INTO entry/d
     s/^INSERT INTO claim.*/INSERT INTO auth VALUES ('alpha', 1, 64496, 4, x'000000000000000000000000c0000200', 24, 24, 20454, 20818);/" <<<"$rows")
-old_tables=$(grep -v '^CREATE TABLE \(claim\|entry\)' "$common/tables.sql")
+old_tables=$(grep -v '^CREATE TABLE \(claim\|entry\)' "$schema")
 expect_opened 'a database of schema 1' "$whole" "$old_tables"
-expect 'the schema that it has then' "$(sqlite3 "$work/written.db" .schema | sort)" "$(sort "$common/tables.sql")"
+expect 'the schema that it has then' "$(sqlite3 "$work/written.db" .schema | sort)" "$(sort "$schema")"
 expect 'its rows' "$(sqlite3 "$work/written.db" 'SELECT * FROM meta; SELECT * FROM claim; SELECT count(*) FROM auth' \
     'SELECT holder, number, asn, family, hex(lo), len, max FROM entry')" "schema|2
 alpha|1|64496|20454|20818

@@ -13,7 +13,7 @@
 # Ends with 0 where all ran and held, with 1 where something else is found or something failed, and with 77, after what is
 # missing, where it could not be run.
 set -u
-. "$(dirname "${BASH_SOURCE[0]}")/common.sh"
+. "$(dirname "${BASH_SOURCE[0]}")/../tools/common.sh"
 need_python
 need sqlite3 curl strace prlimit setpriv
 strace -D -f -qq -o /dev/null true 2>/dev/null || skip 'no right to trace a process with strace'
@@ -58,7 +58,7 @@ serve() {
 # start FILE COUNT [COMMAND...]: serves so many connections, below the command.
 start() {
     file=$1
-    port=$(free_port)
+    free_port && port=$free
     "${@:3}" "$program" serve --db "$file" --listen "127.0.0.1:$port" --count "$2" --day 2026-03-01 2>"$file.err" &
     server=$!
 }
@@ -323,7 +323,7 @@ $open"
 make_old() {
     local table
     {
-        grep -v '^CREATE TABLE \(claim\|entry\)' "$top/bench/common/tables.sql"
+        grep -v '^CREATE TABLE \(claim\|entry\)' "$top/tools/tables.sql"
         echo "ATTACH '$first' AS first;"
         for table in meta operator pool holder holding granted slurm; do
             echo "INSERT INTO main.$table SELECT * FROM first.$table;"

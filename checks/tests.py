@@ -20,6 +20,7 @@ import sys
 import tempfile
 import time
 
+sys.path.insert(0, str(pathlib.Path(__file__).resolve().parent.parent / "tools"))
 import side_by_side
 from common import TOP, need_rt
 from side_by_side import Job

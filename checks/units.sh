@@ -13,7 +13,7 @@
 # Ends with 0 where all ran and held, with 1 where a command does otherwise or something else failed, and with 77, after
 # what is missing, where it could not be run.
 set -u
-. "$(dirname "${BASH_SOURCE[0]}")/common.sh"
+. "$(dirname "${BASH_SOURCE[0]}")/../tools/common.sh"
 need nft ip ss nsenter setpriv python3 curl sqlite3 unshare systemd-analyze systemctl
 unshare -n nft list ruleset >/dev/null 2>&1 || skip 'no right to make a network namespace with rules of nftables'
 make_work

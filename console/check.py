@@ -26,36 +26,26 @@ from selenium.webdriver.common.by import By
 from selenium.webdriver.common.keys import Keys
 from selenium.webdriver.support.ui import Select, WebDriverWait
 
+from common import DAY, expect, failures, serve_words
+
 TOP, WORK, PROGRAM = Path(sys.argv[1]), Path(sys.argv[2]), sys.argv[3]
 DESK, FRONT = int(sys.argv[4]), int(sys.argv[5])
 ORIGIN = f"https://localhost:{FRONT}"
-DAY = "2026-03-01"
 MARKUP = "<img src=x onerror=alert(1)>"
 # What is only text or layout.
 PLAIN_ROLES = {"StaticText", "InlineTextBox", "generic", "none", "LabelText", "ListMarker", "LineBreak", "paragraph", "code",
                "strong", "MenuListPopup", "option", "LayoutTable", "LayoutTableRow", "LayoutTableCell", "rowgroup", "row",
                "cell", "gridcell"}
 PAGES = ["authorizations", "routes", "payloads", "grants", "registry"]
-failed = False
 # What was started, to be ended however the run ends.
 running = contextlib.ExitStack()
-
-
-def expect(name, found, expected):
-    global failed
-    if found == expected:
-        print(f"{name}: ok")
-    else:
-        failed = True
-        print(f"{name}: found\n{found}\nexpected\n{expected}")
 
 
 # The servers
 
 
 def start_desk():
-    words = ["--db", WORK / "desk.db", "--listen", f"127.0.0.1:{DESK}", "--count", "1000000", "--day", DAY]
-    return start([PROGRAM, "serve", *words], DESK)
+    return start([PROGRAM, *serve_words(WORK / "desk.db", DESK, 1_000_000)], DESK)
 
 
 def start_front():
@@ -1189,7 +1179,7 @@ def main():
         check_pauses()
         operator.check_log()
         manager.check_log()
-    sys.exit(1 if failed else 0)
+    sys.exit(1 if failures else 0)
 
 
 main()

@@ -11,7 +11,7 @@
 # Ends with 0 where all ran and held, with 1 where something failed, and with 77, after what is missing, where it could not
 # be run.
 set -u
-. "$(dirname "${BASH_SOURCE[0]}")/../checks/common.sh"
+. "$(dirname "${BASH_SOURCE[0]}")/../tools/common.sh"
 need chromium chromedriver node nginx openssl curl /usr/bin/python3
 /usr/bin/python3 -c 'import selenium' 2>/dev/null || skip 'python3 has no module selenium (Debian: python3-selenium)'
 find_program
@@ -28,7 +28,8 @@ tests=$(node --test --test-reporter tap "$top"/console/tests/*.test.js 2>&1)
 expect 'the tests of the modules' "$(grep -E '^not ok|^# fail [1-9]' <<<"$tests"; grep -cE '^# pass [1-9]' <<<"$tests")" 1
 
 mkdir "$work/agreement"
-node "$top/console/tests/agreement.js" "$program" "$work/agreement" "$(free_port)" >"$work/agreement/said" &
+free_port
+node "$top/console/tests/agreement.js" "$program" "$work/agreement" "$free" >"$work/agreement/said" &
 clicks=$!
 wait "$clicks" && verdict=same || verdict=$(cat "$work/agreement/said")
 clicks=
@@ -37,8 +38,8 @@ expect 'what the page and the desk read' "$verdict" same
 
 mkdir "$work/front" "$work/pictures" "$work/downloads"
 cp -r "$top/console" "$work/front/"
-desk=$(free_port)
-front=$(free_port)
+free_port && desk=$free
+free_port && front=$free
 # A late reply is 504 after two seconds, so that the check need not wait for a minute.
 sed "s#/[a-z/]*/roadesk/##; s/127.0.0.1:8443/127.0.0.1:$front/; s/127.0.0.1:8080/127.0.0.1:$desk/
     s/proxy_read_timeout 60s/proxy_read_timeout 2s/" "$top/examples/nginx.conf" >"$work/front/site.conf"

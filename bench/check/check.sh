@@ -3,13 +3,15 @@
 #
 #     check.sh [VRPS [ROUTES [shuffled]]]      (500000 and 1000000 where left out)
 #
-# Needs rustc, python3 and GNU time at /usr/bin/time. The program has to be built first, by
-# ./roadesk build at the top; PROGRAM may name another. Files go to a temporary folder, or stay in BENCH_WORK.
-# Each runs three times: cpu is the least user and system seconds, memory the greatest peak.
-# Ends with 1 where the two outputs differ, with 2 where something could not be run.
+# Needs the built program, which PROGRAM may name, rustc, python3 and GNU time at /usr/bin/time. Files go to a temporary
+# folder, or stay in BENCH_WORK. Each runs three times: cpu is the least user and system seconds, memory the greatest
+# peak.
+#
+# Ends with 0 where both ran, with 1 where their outputs differ or something failed, and with 77, after what is missing,
+# where they could not be run.
 set -u
-. "$(dirname "${BASH_SOURCE[0]}")/../common/work.sh"
-program=${PROGRAM:-$top/crates/cli/out/cli}
+. "$(dirname "${BASH_SOURCE[0]}")/../../tools/common.sh"
+need rustc python3 /usr/bin/time
 vrps=${1:-500000}
 routes=${2:-1000000}
 
@@ -19,10 +21,11 @@ case ${3:-} in
     shuffled) order=(--shuffled) ;;
     *) fail "the third word can only be: shuffled" ;;
 esac
-[ -x "$program" ] || fail "the program is not built: run ./roadesk build first"
+find_program
+make_or_keep_work
 
-rustc --edition 2021 -O -o "$work/plain" "$here/plain.rs" || fail "plain.rs was not built"
-python3 "$common/generate.py" ${order[@]+"${order[@]}"} "$vrps" "$routes" "$work/payloads.csv" "$work/routes.csv" ||
+rustc --edition 2021 -O -o "$work/plain" "$top/bench/check/plain.rs" || fail "plain.rs was not built"
+python3 "$top/bench/common/generate.py" ${order[@]+"${order[@]}"} "$vrps" "$routes" "$work/payloads.csv" "$work/routes.csv" ||
     fail "no files were generated"
 
 # measure NAME COMMAND...: leaves the output in NAME.out, prints the cpu seconds and the peak in MB.

@@ -11,43 +11,33 @@
 # first answer one client asks the first front ten times a second, and another one, whose one request is sent just
 # after the stop, waits at the second.
 #
-# Needs nginx, sqlite3, openssl, curl, awk and shuf. The program has to be built first, by ./roadesk build at the top;
-# PROGRAM may name another. Files go to a temporary folder, or stay in BENCH_WORK; they should be on the disk that is
-# of interest. Of each time the least and the most are printed. Ends with 1 where a client gets something else than 502
-# and then 200, where the one that waits does not get 200, or where the copy lacks an authorization; with 2 where
-# something could not be run.
+# Needs the built program, which PROGRAM may name, nginx, sqlite3, openssl and curl. Files go to a temporary folder, or
+# stay in BENCH_WORK; they should be on the disk that is of interest. Of each time the least and the most are printed.
+#
+# Ends with 0 where all ran, with 1 where a client gets something else than 502 and then 403, the denial, where the one
+# that waits does not get 403, where the copy lacks an authorization or something failed, and with 77, after what is
+# missing, where it could not be run.
 set -u
-. "$(dirname "${BASH_SOURCE[0]}")/../common/work.sh"
-. "$common/ports.sh"
-program=${PROGRAM:-$top/crates/cli/out/cli}
+. "$(dirname "${BASH_SOURCE[0]}")/../../tools/common.sh"
+need nginx sqlite3 openssl curl
+find_program
 runs=${1:-3}
 sizes=("${@:2}")
 [ ${#sizes[@]} != 0 ] || sizes=('200 500' '2000 500')
 
-[ -x "$program" ] || fail "the program is not built: run ./roadesk build first"
-for command in nginx sqlite3 openssl curl; do
-    command -v "$command" >/dev/null || fail "no command $command"
-done
+make_or_keep_work
 # The workers of an nginx that root starts are another user.
 chmod 711 "$work"
-end() {
-    local one
-    for one in ${desk:-} ${front:-} ${waiting:-} ${asking:-}; do
-        kill "$one" 2>/dev/null
-    done
-    wait
-    [ -n "${BENCH_WORK:-}" ] || rm -rf "$work"
-}
-trap end EXIT
 
 # make_desk HOLDERS AUTHORIZATIONS: the database file desk.db, written by sqlite3.
 make_desk() {
     rm -f "$work"/desk.db*
     {
         echo 'PRAGMA journal_mode = WAL; PRAGMA synchronous = OFF;'
-        cat "$common/tables.sql"
+        cat "$top/tools/tables.sql"
         awk -v holders="$1" -v auths="$2" -f "$top/bench/serve/desk.awk"
-    } | sqlite3 "$work/desk.db" >/dev/null && sync "$work/desk.db" || fail "sqlite3 failed"
+    } | sqlite3 "$work/desk.db" >/dev/null || fail "sqlite3 failed"
+    sync "$work/desk.db"
 }
 
 # start_desk DAY
@@ -70,7 +60,7 @@ start_front() {
         "$top/examples/nginx.conf" >"$folder/site.conf"
     nginx -p "$folder" -c nginx.conf -g 'daemon off;' 2>>"$work/front.err" &
     started=$!
-    wait_for "$free" "$started"
+    wait_for "$free" "$started" || fail 'no front listens'
 }
 
 # ask PORT PATH: the status and the seconds of a request for one line; the body goes to a file.
@@ -94,7 +84,7 @@ keep_asking() {
 
 # since TIME: the seconds from then to now.
 since() {
-    awk -v then="$1" -v now="$EPOCHREALTIME" 'BEGIN { printf "%.2f", now - then }'
+    awk -v begun="$1" -v now="$EPOCHREALTIME" 'BEGIN { printf "%.2f", now - begun }'
 }
 
 # fill: the day is asked for, and 100 authorizations are made, one after the other, so that there is a log.
@@ -111,51 +101,48 @@ fill() {
 # measure SIZE: a line of the size, the seconds of stop, copy, start and first VRPs, how many 502 a client got and the
 # longest of them in seconds, and what the one that waited got, with its seconds.
 measure() {
-    local line=$1 expected=$2 then stop_of copy_of start_of first_of
+    local line=$1 expected=$2 begun stop_of copy_of start_of first_of
     rm -f "$work"/served.db* "$work"/copy.db*
-    cp "$work/desk.db" "$work/served.db" && sync "$work/served.db" || fail "no copy"
-    free_port
-    port=$free
+    cp "$work/desk.db" "$work/served.db" || fail "no copy"
+    sync "$work/served.db"
+    free_port && port=$free
     start_desk 2026-03-01
-    wait_for "$port" "$desk"
+    wait_for "$port" "$desk" || fail 'no desk listens'
     fill
     start_front front ''
     front=$started front_port=$free
     start_front waiting 'include wait.conf;'
     waiting=$started waiting_port=$free
 
-    then=$EPOCHREALTIME
+    begun=$EPOCHREALTIME
     kill "$desk"
     wait "$desk" 2>/dev/null
-    stop_of=$(since "$then")
+    stop_of=$(since "$begun")
     keep_asking >"$work/asked.lines" &
     asking=$!
     ask "$waiting_port" "$question" >"$work/waited" &
     local client=$!
-    then=$EPOCHREALTIME
+    begun=$EPOCHREALTIME
     sqlite3 "$work/served.db" ".backup $work/copy.db" || fail "no backup"
-    copy_of=$(since "$then")
-    then=$EPOCHREALTIME
+    copy_of=$(since "$begun")
+    begun=$EPOCHREALTIME
     start_desk 2026-03-02
-    wait_for "$port" "$desk"
-    start_of=$(since "$then")
-    then=$EPOCHREALTIME
+    wait_for "$port" "$desk" || fail 'no desk listens'
+    start_of=$(since "$begun")
+    begun=$EPOCHREALTIME
     curl -sf -H 'Desk-Caller: noc' -o /dev/null "http://127.0.0.1:$port/payloads" || fail "no VRPs"
-    first_of=$(since "$then")
+    first_of=$(since "$begun")
     wait "$asking" "$client"
-    asking=
 
     awk '$1 != 502 && $1 != 403' "$work/asked.lines" >"$work/others"
-    [ ! -s "$work/others" ] || { echo "day.sh: a client got something else:" >&2 && cat "$work/others" >&2 && exit 1; }
-    [[ $(cat "$work/waited") == 403* ]] || { echo "day.sh: who waited got $(cat "$work/waited")" >&2 && exit 1; }
-    [ "$(sqlite3 "$work/copy.db" 'SELECT count(*) FROM claim')" = "$expected" ] ||
-        { echo "day.sh: the copy lacks authorizations" >&2 && exit 1; }
+    [ ! -s "$work/others" ] || fail "a client got something else: $(cat "$work/others")"
+    [[ $(cat "$work/waited") == 403* ]] || fail "who waited got $(cat "$work/waited")"
+    [ "$(sqlite3 "$work/copy.db" 'SELECT count(*) FROM claim')" = "$expected" ] || fail 'the copy lacks authorizations'
     echo "$line $stop_of $copy_of $start_of $first_of $(awk '
         $1 == 502 { count++; if ($2 > most) most = $2 } END { print count + 0, most + 0 }' "$work/asked.lines")" \
         "$(cat "$work/waited")" >>"$work/day.lines"
     kill "$desk" "$front" "$waiting"
     wait "$desk" "$front" "$waiting" 2>/dev/null
-    desk= front= waiting=
 }
 
 : >"$work/day.lines"
@@ -188,4 +175,4 @@ awk '
                 spread(one, 4), spread(one, 5), least[one, 6], most[one, 6], most[one, 7], spread(one, 9)
         }
     }' "$work/day.lines"
-echo "$(nproc) processors, load $(cut -d ' ' -f 1-3 /proc/loadavg) at the end"
+tell_load

@@ -9,38 +9,36 @@
 # are spread over the desks. So all runs send the same creates. Afterwards the files have to have all of them. With
 # --only-c each desk is the C server of bench/serve.
 #
-# Needs gcc, nginx, sqlite3, openssl and shuf, and the C server libsqlite3 with its header. The program has to be built
-# first, by ./roadesk build at the top; PROGRAM may name another. Files go to a temporary folder, or stay in BENCH_WORK;
-# they should be on the disk that is of interest. Of the runs the one with the most creates a second counts. Ends with 1
-# where a response or a row is another, with 2 where something could not be run.
+# Needs gcc, nginx, sqlite3, openssl, and the built program, which PROGRAM may name, or for the C server libsqlite3 with
+# its header. Files go to a temporary folder, or stay in BENCH_WORK; they should be on the disk that is of interest. Of
+# the runs the one with the most creates a second counts.
+#
+# Ends with 0 where all ran, with 1 where a response or a row is another or something failed, and with 77, after what is
+# missing, where it could not be run.
 set -u
-. "$(dirname "${BASH_SOURCE[0]}")/../common/work.sh"
-. "$common/ports.sh"
-program=${PROGRAM:-$top/crates/cli/out/cli}
-server=("$program" serve)
+. "$(dirname "${BASH_SOURCE[0]}")/../../tools/common.sh"
+need gcc nginx sqlite3 openssl
+make_or_keep_work
 if [ "${1:-}" = --only-c ]; then
-    serve=$top/bench/serve
+    need_libsqlite3
+    common=$top/bench/common serve=$top/bench/serve
     gcc -O2 -Wall -I "$common" -o "$work/serve" "$serve"/{serve,texts,kept}.c "$common/tables.c" -lsqlite3 ||
         fail "serve.c was not built"
     server=("$work/serve")
     shift
+else
+    find_program
+    server=("$program" serve)
 fi
 runs=${1:-3}
 count=${2:-400}
 clients=8
 
-[ -x "${server[0]}" ] || fail "the program is not built: run ./roadesk build first"
-command -v nginx >/dev/null || fail "no command nginx"
-gcc -O2 -Wall -pthread -I "$common" -o "$work/desks-client" "$here/client.c" || fail "client.c was not built"
+gcc -O2 -Wall -pthread -I "$top/bench/common" -o "$work/desks-client" "$top/bench/desks/client.c" ||
+    fail "client.c was not built"
 # The workers of an nginx that root starts are another user.
 chmod 711 "$work"
 started=()
-end() {
-    [ ${#started[@]} = 0 ] || kill "${started[@]}" 2>/dev/null
-    wait
-    [ -n "${BENCH_WORK:-}" ] || rm -rf "$work"
-}
-trap end EXIT
 
 # The holder of this number, of the desks of this run; its name begins with that of its desk.
 holder_of() {
@@ -53,7 +51,7 @@ make_desk() {
     local number first
     {
         echo 'PRAGMA journal_mode = WAL;'
-        cat "$common/tables.sql"
+        cat "$top/tools/tables.sql"
         echo "INSERT INTO meta VALUES ('schema', 2); INSERT INTO operator VALUES ('reg');"
         for number in $(seq "$1" "$desks" $((clients - 1))); do
             first=$((0x0a000000 + number * 4096))
@@ -63,7 +61,8 @@ make_desk() {
                 "$(holder_of "$number")"
             printf "INSERT INTO granted VALUES ('%s', 1, 'ann', 1, NULL, NULL, NULL, 30000);\n" "$(holder_of "$number")"
         done
-    } | sqlite3 "$work/desk$1.db" >/dev/null && sync "$work/desk$1.db" || fail "sqlite3 failed"
+    } | sqlite3 "$work/desk$1.db" >/dev/null || fail "sqlite3 failed"
+    sync "$work/desk$1.db"
 }
 
 # start_desks: `ports` are theirs.
@@ -79,19 +78,18 @@ start_desks() {
         started+=($!)
     done
     for desk in $(seq 0 $((desks - 1))); do
-        wait_for "${ports[desk]}" "${started[desk]}"
+        wait_for "${ports[desk]}" "${started[desk]}" || fail 'no desk listens'
     done
 }
 
 # start_front: on port `front`, with the lines of the three desks replaced by those of this run.
 start_front() {
-    local desk upstreams= names=
+    local desk upstreams='' names=''
     for desk in $(seq 0 $((desks - 1))); do
         upstreams+="upstream d$desk { server 127.0.0.1:${ports[desk]}; } "
         names+="~^/holders/d$desk- d$desk; "
     done
-    free_port
-    front=$free
+    free_port && front=$free
     mkdir -p "$work/front"
     printf 'ann:%s\n' "$(openssl passwd -apr1 secret)" >"$work/front/callers"
     cp "$top/examples/nginx-trial.conf" "$work/front/nginx.conf"
@@ -100,7 +98,7 @@ start_front() {
         -e "s/listen .*/listen 127.0.0.1:$front;/" "$top/examples/three-desks/nginx.conf" >"$work/front/site.conf"
     nginx -p "$work/front" -c nginx.conf -g 'daemon off;' 2>"$work/front.err" &
     started+=($!)
-    wait_for "$front" "${started[-1]}"
+    wait_for "$front" "${started[-1]}" || fail 'no front listens'
 }
 
 stop_all() {
@@ -111,7 +109,7 @@ stop_all() {
 
 # measure WAY: a line of the number of desks, the way, the creates a second and the median.
 measure() {
-    local number words=() line made=0 desk given=
+    local number words=() line made=0 desk
     start_desks
     [ "$1" = direct ] || start_front
     for number in $(seq 0 $((clients - 1))); do
@@ -126,7 +124,7 @@ measure() {
     for desk in $(seq 0 $((desks - 1))); do
         made=$((made + $(sqlite3 "$work/desk$desk.db" 'SELECT count(*) FROM claim')))
     done
-    [ "$made" = $((clients * count)) ] || { echo "desks.sh: $made authorizations in the files" >&2 && exit 1; }
+    [ "$made" = $((clients * count)) ] || fail "$made authorizations in the files"
     echo "$desks $1 $line" >>"$work/desks.lines"
 }
 
@@ -149,4 +147,4 @@ awk '
                 median[front] / 1e6, most[direct], median[direct] / 1e6, most[front] / most[direct]
         }
     }' "$work/desks.lines"
-echo "$(nproc) processors, load $(cut -d ' ' -f 1-3 /proc/loadavg) at the end"
+tell_load

@@ -11,6 +11,8 @@ taken from the day that is kept. The charter is written too.
 import json
 import sys
 
+from common import charter_of, slurm_file
+
 HOLDERS = 100
 AUTHORIZATIONS = 100
 DAYS = ["2026-03-01", "2026-03-02"]
@@ -43,18 +45,10 @@ def slurm_files(filters, files):
     return [{"name": f"file-{place}", "file": slurm_file(some)} for place, some in enumerate(entries)]
 
 
-def slurm_file(filters):
-    return {
-        "slurmVersion": 1,
-        "validationOutputFilters": {"prefixFilters": filters, "bgpsecFilters": []},
-        "locallyAddedAssertions": {"prefixAssertions": [], "bgpsecAssertions": []},
-    }
-
-
 def main():
     filters, files, queries, charter = *map(int, sys.argv[1:4]), sys.argv[4]
     with open(charter, "w", encoding="ascii") as out:
-        out.write("kind,value\noperator,reg\npool,10.0.0.0/8\n")
+        out.write(charter_of("10.0.0.0/8"))
     for number in range(HOLDERS):
         holder = f"holder-{number}"
         line("reg", do="register", holder=holder)

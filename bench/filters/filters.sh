@@ -5,20 +5,24 @@
 #     filters.sh [RUNS]      (5 where left out)
 #
 # The time of one answer is that of a script which asks 101 times less that of one which asks once, by 100, each the
-# least of the runs. Ends with 1 where a filter changed what is answered, with 2 where something could not be run. The
-# program has to be built first, by ./roadesk build at the top; PROGRAM may name another.
+# least of the runs.
+#
+# Needs the built program, which PROGRAM may name, and python3. Files go to a temporary folder, or stay in BENCH_WORK.
+#
+# Ends with 0 where all ran, with 1 where a filter changed what is answered or something failed, and with 77, after what
+# is missing, where it could not be run.
 set -u
-. "$(dirname "${BASH_SOURCE[0]}")/../common/work.sh"
+. "$(dirname "${BASH_SOURCE[0]}")/../../tools/common.sh"
+need python3
+find_program
+make_or_keep_work
 runs=${1:-5}
-program=${PROGRAM:-$top/crates/cli/out/cli}
-
-[ -x "$program" ] || fail "the program is not built: run ./roadesk build first"
 
 sets='0-1 4096-1 4096-16'
 for set in $sets; do
     for queries in 1 101; do
-        python3 "$here/filters.py" "${set%-*}" "${set#*-}" "$queries" "$work/charter.csv" >"$work/$set-$queries.jsonl" ||
-            fail "no script"
+        python3 -B "$top/bench/filters/filters.py" "${set%-*}" "${set#*-}" "$queries" "$work/charter.csv" \
+            >"$work/$set-$queries.jsonl" || fail "no script"
     done
 done
 
@@ -31,13 +35,13 @@ seconds() {
 
 for set in $sets; do
     for _ in $(seq "$runs"); do
-        once=$(seconds "$set" 1) && often=$(seconds "$set" 101) || exit 2
+        once=$(seconds "$set" 1) && often=$(seconds "$set" 101) || exit 1
         echo "$set $once $often"
     done
 done >"$work/times"
 
 for set in $sets; do
-    cmp -s "$work/0-1-101.out" "$work/$set-101.out" || { echo "filters.sh: other answers" >&2; exit 1; }
+    cmp -s "$work/0-1-101.out" "$work/$set-101.out" || fail 'other answers'
 done
 
 awk '

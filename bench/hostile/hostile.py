@@ -9,18 +9,17 @@ one, or a time is over 3 times that of the accepted.
 import json
 import os
 import shutil
-import socket
 import subprocess
 import sys
-import time
 from pathlib import Path
 
+import common
+from common import DAY, charter_of, connected, exchanged, free_port, request, serve_words
+
 SIZE = 1 << 20
-DAY = "2026-03-01"
 DATES = "2026-01-01,2026-12-31"
 LINES = 20
 LIMIT = 3
-CHARTER = "kind,value\noperator,reg\npool,10.0.0.0/8\n"
 SETUP = [
     ("PUT /holders/alpha", "reg", ""),
     ("POST /holders/alpha/delegations", "reg", '{"prefix":"10.0.0.0/8"}'),
@@ -53,9 +52,7 @@ def answers(count=10_000):
 def slurm_file():
     comment = "x" * 170
     filters = [{"prefix": f"10.{number >> 8}.{number & 255}.0/24", "comment": comment} for number in range(4096)]
-    return padded(json.dumps({
-        "slurmVersion": 1, "validationOutputFilters": {"prefixFilters": filters, "bgpsecFilters": []},
-        "locallyAddedAssertions": {"prefixAssertions": [], "bgpsecAssertions": []}}))
+    return padded(json.dumps(common.slurm_file(filters)))
 
 
 def rows(lines):
@@ -110,35 +107,22 @@ SCRIPTS = [
 SHORT = ("", "x")
 
 
-def response(status, kind, body):
-    fields = f"Content-Type: {kind}\r\nContent-Length: {len(body)}\r\nConnection: close\r\n"
-    return f"HTTP/1.1 {status}\r\n{fields}\r\n{body}"
-
-
-def free_port():
-    with socket.socket() as probe:
-        probe.bind(("127.0.0.1", 0))
-        return probe.getsockname()[1]
-
-
 class Desk:
     def __init__(self, program, folder):
         self.program, self.folder = program, folder
         self.charter = folder / "charter.csv"
-        self.charter.write_text(CHARTER)
+        self.charter.write_text(charter_of("10.0.0.0/8"))
         self.base, self.db = folder / "base.db", folder / "desk.db"
         for path in [self.base, folder / "base.db-wal"]:
             path.unlink(missing_ok=True)
-        if subprocess.run([program, "init", "--db", self.base, "--charter", self.charter]).returncode != 0:
-            sys.exit(2)
+        subprocess.run([program, "init", "--db", self.base, "--charter", self.charter], check=True)
         self.serve(self.base, SETUP)
 
     def serve(self, db, requests):
         """The processor seconds, and the responses."""
         port = free_port()
-        words = ["serve", "--db", db, "--listen", f"127.0.0.1:{port}", "--count", str(len(requests)), "--day", DAY]
-        server = subprocess.Popen([self.program, *words])
-        found = [ask(server, port, *request) for request in requests]
+        server = subprocess.Popen([self.program, *serve_words(db, port, len(requests))])
+        found = [ask(server, port, *words) for words in requests]
         return seconds_of(server), found
 
     def time(self, head, caller, body):
@@ -161,26 +145,16 @@ def seconds_of(process):
     _, status, usage = os.wait4(process.pid, 0)
     process.returncode = status
     if status:
-        sys.exit(2)
+        sys.exit("hostile.py: the program failed")
     return usage.ru_utime + usage.ru_stime
 
 
 def ask(server, port, head, caller, body):
-    request = f"{head} HTTP/1.1\r\nDesk-Caller: {caller}\r\nContent-Length: {len(body)}\r\n\r\n{body}".encode()
-    while True:
-        try:
-            client = socket.create_connection(("127.0.0.1", port), timeout=60)
-            break
-        except OSError:
-            if server.poll() is not None:
-                sys.exit(2)
-            time.sleep(0.001)
-    got = []
-    with client:
-        client.sendall(request)
-        while piece := client.recv(65536):
-            got.append(piece)
-    return b"".join(got).decode()
+    client = connected(port, server)
+    if not client:
+        sys.exit("hostile.py: the program does not listen")
+    got, fault = exchanged(client, request(head, caller, body))
+    return got.decode() + (f"[{fault}]" if fault else "")
 
 
 def measure(name, table, runs, one, expected):
@@ -207,7 +181,7 @@ def main(program, folder, runs):
     good = True
     for head, caller, table in TABLES:
         good &= measure(head, table, int(runs), lambda entry: desk.time(head, caller, entry[1]),
-                        lambda entry: response(entry[2], "application/json", entry[3]))
+                        lambda entry: common.response(entry[2], entry[3]).decode())
     good &= measure(f"script of {LINES} lines", SCRIPTS, int(runs), lambda entry: desk.script(entry[1]),
                     lambda entry: entry[2] * LINES)
     sys.exit(0 if good else 1)

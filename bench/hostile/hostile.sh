@@ -3,13 +3,17 @@
 #
 #     hostile.sh [RUNS]      (5 where left out)
 #
-# The least time of the runs counts. Ends with 1 where a reply is another than is expected, or takes more than 3 times
-# as long as the accepted one, with 2 where something could not be run. The program has to be built first, by ./roadesk
-# build at the top; PROGRAM may name another.
+# The least time of the runs counts.
+#
+# Needs the built program, which PROGRAM may name, and python3 from 3.10 on. Files go to a temporary folder, or stay in
+# BENCH_WORK.
+#
+# Ends with 0 where all ran and held, with 1 where a reply is another than is expected, or takes more than 3 times as
+# long as the accepted one, or something failed, and with 77, after what is missing, where it could not be run.
 set -u
-. "$(dirname "${BASH_SOURCE[0]}")/../common/work.sh"
-program=${PROGRAM:-$top/crates/cli/out/cli}
-
-[ -x "$program" ] || fail "the program is not built: run ./roadesk build first"
-
-python3 "$here/hostile.py" "$(realpath "$program")" "$work" "${1:-5}"
+. "$(dirname "${BASH_SOURCE[0]}")/../../tools/common.sh"
+need_python
+find_program
+make_or_keep_work
+run_python "$top/bench/hostile/hostile.py" "$program" "$work" "${1:-5}"
+end

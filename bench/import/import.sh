@@ -6,16 +6,22 @@
 #     import.sh [RUNS]      (5 where left out)
 #
 # Needs rt and rustc. Files go to a temporary folder, or stay in BENCH_WORK; the next run there is quicker, since
-# the programs are proved. The runs are in turn, and the least time counts. Ends with 1 where the
-# authorizations differ, with 2 where something could not be run.
+# the programs are proved. The runs are in turn, and the least time counts.
+#
+# Ends with 0 where all ran, with 1 where the authorizations differ or something failed, and with 77, after what is
+# missing, where it could not be run.
 set -u
-. "$(dirname "${BASH_SOURCE[0]}")/../common/work.sh"
+. "$(dirname "${BASH_SOURCE[0]}")/../../tools/common.sh"
+need rt rustc
+make_or_keep_work
+here=$top/bench/import
 runs=${1:-5}
 
 rustc --edition 2021 -O -o "$work/plain" "$here/import_plain.rs" || fail "import_plain.rs was not built"
-rules=$("$common/build.sh" "$here/import_rules.rattle" "$work") || fail "import_rules was not built"
+rules=$("$top/tools/build.sh" "$here/import_rules.rattle" "$work") || fail "import_rules was not built"
 rm -f "$work"/built.db*
-file=$("$common/build.sh" "$here/import_file.rattle" "$work" "$work/built.db" import) || fail "import_file was not built"
+file=$("$top/tools/build.sh" "$here/import_file.rattle" "$work" "$work/built.db" import) ||
+    fail "import_file was not built"
 
 # measure NAME PROGRAM WORD...: a line with the name, the nanoseconds and the sum; files are made anew.
 measure() {

@@ -9,21 +9,21 @@ statements are those of the move, in one transaction of a copy that is written t
 sqlite3 module of Python, whose time has the reading of all rows too, as an opening does it. Of the runs the shortest counts.
 
 PROGRAM names the program, else it is that of the repository. Files go to a temporary folder, or below BENCH_WORK. Ends
-with 1 where a moved database has other rows, with 2 where something could not be run.
+with 1 where a moved database has other rows or something failed, with 77 where there is no program.
 """
 
-import http.client
 import os
+import pathlib
 import shutil
-import socket
 import sqlite3
 import subprocess
 import sys
 import tempfile
 import time
 
-TOP = os.path.dirname(os.path.dirname(os.path.dirname(os.path.abspath(__file__))))
-PROGRAM = os.environ.get("PROGRAM", f"{TOP}/crates/cli/out/cli")
+sys.path.insert(0, str(pathlib.Path(__file__).resolve().parents[2] / "tools"))
+from common import NEW_TABLES, SCHEMA, connected, exchanged, find_program, free_port, request, serve_words
+
 HOLDERS = 200
 MOVED = ("claim", "entry")
 COPY = (
@@ -35,15 +35,6 @@ COPY = (
 )
 
 
-def schema():
-    with open(f"{TOP}/bench/common/tables.sql", encoding="ascii") as lines:
-        return lines.read().splitlines()
-
-
-def is_moved(statement):
-    return statement.startswith(tuple(f"CREATE TABLE {table} " for table in MOVED))
-
-
 def address(number):
     return (number).to_bytes(16, "big")
 
@@ -51,8 +42,8 @@ def address(number):
 def make_old(path, count):
     """A database of schema 1 with so many authorizations of an AS and a prefix each, a run a holder."""
     with sqlite3.connect(path) as db:
-        for statement in schema():
-            if not is_moved(statement):
+        for statement in SCHEMA:
+            if statement not in NEW_TABLES:
                 db.execute(statement)
         each = -(-count // HOLDERS)
         db.execute("INSERT INTO meta VALUES ('schema', 1)")
@@ -76,25 +67,15 @@ def copy(old, path):
     shutil.copy(old, path)
 
 
-def first_answer(path):
+def first_answer(program, path):
     """Seconds from the start of a desk to its first response, and those of the processor until its end."""
-    with socket.socket() as taken:
-        taken.bind(("127.0.0.1", 0))
-        port = taken.getsockname()[1]
+    port = free_port()
     start = time.perf_counter()
-    desk = subprocess.Popen([PROGRAM, "serve", "--db", path, "--listen", f"127.0.0.1:{port}", "--count", "1",
-                             "--day", "2026-03-01"])
-    while True:
-        try:
-            client = http.client.HTTPConnection("127.0.0.1", port)
-            client.request("GET", "/holders/h000/auths", headers={"Desk-Caller": "nobody"})
-            break
-        except ConnectionRefusedError:
-            if desk.poll() is not None:
-                sys.exit(2)
-            time.sleep(0.002)
-    if client.getresponse().status != 403:
-        sys.exit(2)
+    desk = subprocess.Popen([program, *serve_words(path, port, 1)])
+    client = connected(port, desk, seconds=600)
+    response = exchanged(client, request("GET /holders/h000/auths", "nobody"))[0] if client else b""
+    if not response.startswith(b"HTTP/1.1 403 "):
+        sys.exit("moving.py: the desk did not answer")
     seconds = time.perf_counter() - start
     usage = os.wait4(desk.pid, 0)[2]
     return seconds, usage.ru_utime + usage.ru_stime
@@ -111,12 +92,8 @@ def moved_by_statements(path):
             pass
     db.execute("BEGIN")
     db.execute("DROP INDEX holding_of")
-    for statement in schema():
-        if is_moved(statement):
-            db.execute(statement)
-    for statement in COPY:
+    for statement in (*NEW_TABLES, *COPY, SCHEMA[-1]):
         db.execute(statement)
-    db.execute(schema()[-1])
     db.execute("COMMIT")
     seconds = time.perf_counter() - start, time.process_time() - processor
     db.close()
@@ -131,9 +108,7 @@ def rows(path):
 
 
 def main():
-    if not os.access(PROGRAM, os.X_OK):
-        print("moving.py: the program is not built: run ./roadesk build first", file=sys.stderr)
-        sys.exit(2)
+    program = find_program()
     count = int(sys.argv[1]) if len(sys.argv) > 1 else 100_000
     runs = int(sys.argv[2]) if len(sys.argv) > 2 else 3
     with tempfile.TemporaryDirectory(dir=os.environ.get("BENCH_WORK")) as work:
@@ -142,8 +117,8 @@ def main():
         opening, again, statements = [], [], []
         for _ in range(runs):
             copy(old, one)
-            opening.append(first_answer(one))
-            again.append(first_answer(one))
+            opening.append(first_answer(program, one))
+            again.append(first_answer(program, one))
             copy(old, other)
             statements.append(moved_by_statements(other))
         if rows(one) != rows(other):

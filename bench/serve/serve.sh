@@ -3,17 +3,22 @@
 #
 #     serve.sh [--only-c] [RUNS [SIZE]...]      (5, and all sizes, where left out; --only-c runs the C server alone)
 #
-# Needs gcc, libsqlite3 with its header, sqlite3, awk and shuf; with strace the calls that sync are counted too.
-# The program has to be built first, by ./roadesk build at the top; PROGRAM may name another. Files go to a
-# temporary folder, or stay in BENCH_WORK. A SIZE is as '200 500', the holders, at most 32768, and the authorizations of
-# each, at most 1000; the greatest, '25000 40', takes 0.5 GB of files. The two servers run in turn, each first in every
-# other run, and of the medians of an operation the least counts, as do the least processor time of the server and the
-# least peak of memory. Ends with 1 where they answer otherwise than each other or leave other rows, with 2 where
-# something could not be run.
+# A SIZE is as '200 500', the holders, at most 32768, and the authorizations of each, at most 1000; the greatest,
+# '25000 40', takes 0.5 GB of files. The two servers run in turn, each first in every other run, and of the medians of
+# an operation the least counts, as do the least processor time of the server and the least peak of memory.
+#
+# Needs the built program, which PROGRAM may name, gcc, libsqlite3 with its header and sqlite3; with strace the calls
+# that sync are counted too. Files go to a temporary folder, or stay in BENCH_WORK.
+#
+# Ends with 0 where all ran, with 1 where the two answer otherwise than each other or leave other rows, or something
+# failed, and with 77, after what is missing, where it could not be run.
+# shellcheck disable=SC2086 # a size is two words, and the C server has no first word
 set -u
-. "$(dirname "${BASH_SOURCE[0]}")/../common/work.sh"
-. "$common/ports.sh"
-program=${PROGRAM:-$top/crates/cli/out/cli}
+. "$(dirname "${BASH_SOURCE[0]}")/../../tools/common.sh"
+need gcc sqlite3
+need_libsqlite3
+here=$top/bench/serve
+common=$top/bench/common
 servers='roadesk C'
 if [ "${1:-}" = --only-c ]; then
     servers=C
@@ -23,7 +28,8 @@ runs=${1:-5}
 sizes=("${@:2}")
 [ ${#sizes[@]} != 0 ] || sizes=('200 5' '200 50' '200 500' '20 900' '1 1000' '10000 1' '25000 4' '25000 40')
 
-[ "$servers" = C ] || [ -x "$program" ] || fail "the program is not built: run ./roadesk build first"
+[ "$servers" = C ] || find_program
+make_or_keep_work
 gcc -O2 -Wall -I "$common" -o "$work/serve" "$here"/{serve,texts,kept}.c "$common/tables.c" -lsqlite3 ||
     fail "serve.c was not built"
 gcc -O2 -Wall -I "$common" -o "$work/client" "$here/client.c" || fail "client.c was not built"
@@ -32,25 +38,24 @@ gcc -O2 -Wall -I "$common" -o "$work/client" "$here/client.c" || fail "client.c 
 make_desk() {
     rm -f "$work"/desk.db*
     awk -v holders="$1" -v auths="$2" -f "$here/desk.awk" >"$work/desk.sql" || fail "desk.awk failed"
-    { echo 'PRAGMA journal_mode = WAL;' && cat "$common/tables.sql" "$work/desk.sql"; } |
+    { echo 'PRAGMA journal_mode = WAL;' && cat "$top/tools/tables.sql" "$work/desk.sql"; } |
         sqlite3 "$work/desk.db" >/dev/null || fail "sqlite3 failed"
 }
 
-declare -A programs=([roadesk]=$program [C]=$work/serve) first_words=([roadesk]=serve [C]=)
+declare -A programs=([roadesk]=${program:-} [C]=$work/serve) first_words=([roadesk]=serve [C]='')
 
 # place COUNT: a copy of desk.db, and the `words` of a server of it for so many connections at `port`.
 place() {
-    free_port
-    port=$free
+    free_port && port=$free
     rm -f "$work"/served.db*
-    cp "$work/desk.db" "$work/served.db" && sync "$work/served.db" || return 2
+    cp "$work/desk.db" "$work/served.db" && sync "$work/served.db" || return 1
     words=(--db "$work/served.db" --listen "127.0.0.1:$port" --count "$1" --day 2026-03-01)
 }
 
 # start COUNT COMMAND...: starts the server on a copy of desk.db; `port` and `server` are its port and process.
 start() {
     local words
-    place "$1" || return 2
+    place "$1" || return 1
     "${@:2}" "${words[@]}" >&2 &
     server=$!
 }
@@ -73,20 +78,20 @@ connections() {
 ask() {
     local operation=$1 holders=$2 auths=$3 count=$4 port server line
     shift 4
-    start "$(connections "$operation" "$count")" "$@" || return 2
+    start "$(connections "$operation" "$count")" "$@" || return 1
     if ! line=$("$work/client" "$port" "$operation" "$holders" "$auths" "$count" "$server"); then
         kill "$server" 2>/dev/null
-        return 2
+        return 1
     fi
-    wait "$server" || return 2
+    wait "$server" || return 1
     echo "$line $(sum_of_rows)"
 }
 
 # ask_at_start OPERATION HOLDERS AUTHORIZATIONS COUNT COMMAND...: the same, where the client starts the server.
 ask_at_start() {
     local port words line
-    place 1 || return 2
-    line=$("$work/client" "$port" "$1" "$2" "$3" "${@:5}" "${words[@]}") || return 2
+    place 1 || return 1
+    line=$("$work/client" "$port" "$1" "$2" "$3" "${@:5}" "${words[@]}") || return 1
     echo "$line $(sum_of_rows)"
 }
 
@@ -112,14 +117,11 @@ memory() {
 ask_for_memory() {
     local size="$1 $2" port server operation line
     shift 2
-    start 3 "$@" || return 2
-    until grep -q "$(printf ':%04X 00000000:0000 0A' "$port")" /proc/net/tcp; do
-        kill -0 "$server" 2>/dev/null || return 2
-        sleep 0.01
-    done
+    start 3 "$@" || return 1
+    wait_for "$port" "$server" || return
     line=$(memory)
     for operation in first-validity first-payloads; do
-        "$work/client" "$port" "$operation" $size 1 >/dev/null || { kill "$server"; return 2; }
+        "$work/client" "$port" "$operation" $size 1 >/dev/null || { kill "$server"; return 1; }
         line+=$(memory)
     done
     "$work/client" "$port" first-validity $size 1 >/dev/null && wait "$server" && echo "$line"
@@ -140,7 +142,8 @@ measure_memory() {
 syncs() {
     ask "$2" 100 100 100 strace -f -qq -o "$work/syncs" -e trace=fsync,fdatasync \
         "${programs[$1]}" ${first_words[$1]} >/dev/null || fail "$1 failed below strace"
-    grep 'sync(' "$work/syncs" | wc -l
+    # Its status is 1 where there is none.
+    grep -c 'sync(' "$work/syncs" || [ $? = 1 ]
 }
 
 turn=$servers
@@ -241,7 +244,7 @@ awk -v servers="$servers" '
 if command -v strace >/dev/null; then
     make_desk 100 100
     for server in $servers; do
-        creates=$(syncs "$server" create) && shows=$(syncs "$server" show) || exit 2
+        creates=$(syncs "$server" create) && shows=$(syncs "$server" show) || exit 1
         echo "$server synced $creates times for 100 creates, $shows for 100 shows"
     done
 fi

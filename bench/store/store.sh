@@ -5,14 +5,22 @@
 #
 # Needs rt, gcc and libsqlite3 with its header. Files go to a temporary folder, or stay in BENCH_WORK;
 # the next run there is quicker, since the program is proved. The two programs run in turn, and of the
-# medians of an operation's times the least counts. Ends with 1 where they answer otherwise than each other, with 2
-# where something could not be run.
+# medians of an operation's times the least counts.
+#
+# Ends with 0 where both ran, with 1 where they answer otherwise than each other or something failed, and with 77, after
+# what is missing, where they could not be run.
+# shellcheck disable=SC2086 # a size is two words
 set -u
-. "$(dirname "${BASH_SOURCE[0]}")/../common/work.sh"
+. "$(dirname "${BASH_SOURCE[0]}")/../../tools/common.sh"
+need rt
+need_libsqlite3
+make_or_keep_work
+here=$top/bench/store
+common=$top/bench/common
 runs=${1:-5}
 
 gcc -O2 -Wall -I "$common" -o "$work/plain" "$here/store.c" "$common/tables.c" -lsqlite3 || fail "store.c was not built"
-program=$("$common/build.sh" "$here/store.rattle" "$work" memory 2 2) || fail "store.rattle was not built"
+program=$("$top/tools/build.sh" "$here/store.rattle" "$work" memory 2 2) || fail "store.rattle was not built"
 
 # A line an operation: the place, the numbers of holders and authorizations, the operation,
 # nanoseconds, and the sum of what was answered.
@@ -30,7 +38,7 @@ for _ in $(seq "$runs"); do
     for place in memory file; do
         for size in '1000 10' '100 100'; do
             measure "$place" $size "$program" >>"$work/roadesk.lines" || fail "store.rattle failed"
-            measure "$place" $size "$work/plain" "$common/tables.sql" >>"$work/plain.lines" || fail "store.c failed"
+            measure "$place" $size "$work/plain" "$top/tools/tables.sql" >>"$work/plain.lines" || fail "store.c failed"
         done
     done
 done

@@ -6,16 +6,21 @@
 # Needs rt, python3 and GNU time at /usr/bin/time. Files go to a temporary folder, or stay in BENCH_WORK; the
 # next run there is quicker, since the program is proved. Each runs three times in turn: of the milliseconds of building,
 # visiting and judging the least count, and of the memory the greatest peak, which has the VRPs and the routes in it.
-# Ends with 1 where the two answer otherwise than each other, with 2 where something could not be run.
+#
+# Ends with 0 where both ran, with 1 where they answer otherwise than each other or something failed, and with 77, after
+# what is missing, where they could not be run.
 set -u
-. "$(dirname "${BASH_SOURCE[0]}")/../common/work.sh"
+. "$(dirname "${BASH_SOURCE[0]}")/../../tools/common.sh"
+need rt python3 /usr/bin/time
+make_or_keep_work
 routes=${1:-1000000}
 sizes=("${@:2}")
 [ "${#sizes[@]}" -gt 0 ] || sizes=(10000 500000)
 
 echo 'asn,prefix,maxlength' >"$work/payloads.csv"
 echo 'prefix,origin' >"$work/routes.csv"
-program=$("$common/build.sh" "$here/trie.rattle" "$work" list "$work/payloads.csv" "$work/routes.csv") || fail "trie.rattle was not built"
+program=$("$top/tools/build.sh" "$top/bench/trie/trie.rattle" "$work" list "$work/payloads.csv" "$work/routes.csv") ||
+    fail "trie.rattle was not built"
 
 # A line a run: VRPs, order, kind, phase, nanoseconds, sum, kilobytes.
 measure() {
@@ -28,8 +33,8 @@ for vrps in "${sizes[@]}"; do
     for order in rising shuffled; do
         option=()
         [ "$order" = rising ] || option=(--shuffled)
-        python3 "$common/generate.py" ${option[@]+"${option[@]}"} "$vrps" "$routes" "$work/payloads.csv" "$work/routes.csv" ||
-            fail "no files were generated"
+        python3 "$top/bench/common/generate.py" ${option[@]+"${option[@]}"} "$vrps" "$routes" "$work/payloads.csv" \
+            "$work/routes.csv" || fail "no files were generated"
         for _ in 1 2 3; do
             for kind in list trie; do
                 measure "$vrps" "$order" "$kind" >>"$work/trie.lines" || fail "the program failed"

@@ -8,7 +8,7 @@
 # with all below them in crates.txt. What was proved of these is copied too, unless an earlier run left it in WORK.
 # Prints the crate's folder.
 set -u
-top=$(cd "$(dirname "${BASH_SOURCE[0]}")/../.." && pwd)
+top=$(cd "$(dirname "${BASH_SOURCE[0]}")/.." && pwd)
 name=bench_$(basename "$1" .rattle)
 work=$2
 uses=$(sed -n 's/^use \([a-z0-9_]*\)::.*/\1/p' "$1" | grep -vx std | sort -u)
@@ -17,6 +17,7 @@ uses=$(sed -n 's/^use \([a-z0-9_]*\)::.*/\1/p' "$1" | grep -vx std | sort -u)
 crates_below() {
     local library
     [ -d "$top/crates/$1" ] || return
+    # shellcheck disable=SC2013 # they are the words of a line
     for library in $(sed -n "s/^$1://p" "$top/crates.txt"); do
         crates_below "$library"
     done
@@ -31,13 +32,13 @@ copy_crate() {
 }
 
 folder=$work/crates/$name
-mkdir -p "$folder/src" || exit 2
+mkdir -p "$folder/src" || exit 1
 : >"$work/crates.txt"
 for crate in $(for used in $uses; do crates_below "$used"; done | awk '!seen[$0]++'); do
-    copy_crate "$crate" || exit 2
+    copy_crate "$crate" || exit 1
     grep "^$crate:" "$top/crates.txt" >>"$work/crates.txt"
 done
 echo "$name: ${uses//$'\n'/ }" >>"$work/crates.txt"
 # A file that is the same keeps its time, so that it is not proved again.
-cmp -s "$1" "$folder/src/main.rt" || cp "$1" "$folder/src/main.rt" || exit 2
+cmp -s "$1" "$folder/src/main.rt" || cp "$1" "$folder/src/main.rt" || exit 1
 echo "$folder"

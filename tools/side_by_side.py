@@ -1,4 +1,4 @@
-"""The crates of the repository, and processes that run side by side. Imported by the scripts beside it."""
+"""The crates of the repository, and processes that run side by side, for proofs.py and tests.py of the checks."""
 import os
 import pathlib
 import re
@@ -7,9 +7,8 @@ import subprocess
 import sys
 import time
 
-from common import TOP
+from common import PROCESSORS, TOP
 
-PROCESSORS = len(os.sched_getaffinity(0))
 # The megabytes that one more process of a proof has been seen to take.
 PROCESS_MEMORY = 1500
 

@@ -1,33 +1,35 @@
 # shellcheck shell=bash
-# Sourced by the scripts beside it, and by that of the console: how a check begins and ends.
+# Sourced by the scripts of the checks, of the console and of the benchmarks: how they begin and end.
 #
-# A check ends with 0 where all that it was to run ran and held, with 1 where something failed, and with 77 where nothing
-# failed, but something could not be run here. What that is, and where Debian has it, is then on standard error, in a
-# line that begins with the name of the script and `: not run: `.
+# A script ends with 0 where all that it was to run ran and held, with 1 where something failed, and with 77 where
+# nothing failed, but something could not be run here. What that is, and where Debian has it, is then on standard error,
+# in a line that begins with the name of the script and `: not run: `.
 
 top=$(cd "$(dirname "${BASH_SOURCE[0]}")/.." && pwd)
+# Where the scripts in Python that are started by one in bash find common.py.
+export PYTHONPATH=$top/tools${PYTHONPATH:+:$PYTHONPATH}
 failed=0
 left_out=0
 
-# fail TEXT: ends the check with 1.
+# fail TEXT: ends the script with 1.
 fail() {
     echo "$(basename "$0"): $1" >&2
     exit 1
 }
 
-# not_run TEXT: says what is missing; the check goes on without it.
+# not_run TEXT: says what is missing; the script goes on without it.
 not_run() {
     echo "$(basename "$0"): not run: $1" >&2
     left_out=1
 }
 
-# skip TEXT: says what is missing, and ends the check.
+# skip TEXT: says what is missing, and ends the script.
 skip() {
     not_run "$1"
     end
 }
 
-# end: ends the check with its status.
+# end: ends the script with its status.
 end() {
     [ "$failed" = 0 ] || exit 1
     [ "$left_out" = 0 ] || exit 77
@@ -56,6 +58,7 @@ place_of() {
         rtrdump) package=stayrtr ;;
         vtysh | /usr/lib/frr/bgpd) package=frr ;;
         */python3) package=python3 ;;
+        /usr/bin/time) package='time' ;;
         apt-get) package=apt ;;
     esac
     echo "Debian: $package"
@@ -66,7 +69,7 @@ without() {
     echo "no command $1 ($(place_of "$1"))"
 }
 
-# have PART COMMAND...: whether all of these commands are there; else the check goes on without that part.
+# have PART COMMAND...: whether all of these commands are there; else the script goes on without that part.
 have() {
     local command all=0
     for command in "${@:2}"; do
@@ -75,19 +78,19 @@ have() {
     return "$all"
 }
 
-# need COMMAND...: ends the check where one of these commands is missing.
+# need COMMAND...: ends the script where one of these commands is missing.
 need() {
     have '' "$@" || end
 }
 
-# need_python: ends the check where there is no python3 from 3.10 on, with its module for SQLite.
+# need_python: ends the script where there is no python3 from 3.10 on, with its module for SQLite.
 need_python() {
     need python3
     python3 -c 'import sys; sys.exit(sys.version_info < (3, 10))' || skip 'no python3 from 3.10 on (Debian: python3)'
     python3 -c 'import sqlite3' 2>/dev/null || skip 'python3 has no module sqlite3 (Debian: libpython3-stdlib)'
 }
 
-# run_python SCRIPT WORD...: runs a part of the check that is in Python, which ends as a check does. `python` may name
+# run_python SCRIPT WORD...: runs a part of the script that is in Python, which ends as a script does. `python` may name
 # another than python3.
 run_python() {
     "${python:-python3}" -B "$@"
@@ -98,11 +101,19 @@ run_python() {
     esac
 }
 
-# need_gcc: ends the check where no shared library can be made of C.
+# need_gcc: ends the script where no shared library can be made of C.
 need_gcc() {
     need gcc
     gcc -shared -fPIC -o /dev/null -xc - <<<'#include <dlfcn.h>' 2>/dev/null ||
         skip 'gcc makes no shared library (Debian: libc6-dev)'
+}
+
+# need_libsqlite3: ends the script where no program in C can use SQLite.
+need_libsqlite3() {
+    need gcc
+    printf '#include <sqlite3.h>\nint main(void) { return !sqlite3_libversion(); }\n' |
+        gcc -o /dev/null -xc - -lsqlite3 2>/dev/null ||
+        skip 'gcc makes no program with libsqlite3 (Debian: libsqlite3-dev)'
 }
 
 # copy_crates FOLDER: copies crates.txt and the crates into the folder, without what rt made.
@@ -123,19 +134,28 @@ find_program() {
     program=$(realpath "$program")
 }
 
-# Sets `work` to a temporary folder, which goes at the end of the check, after the processes in the background.
-make_work() {
-    work=$(mktemp -d) || fail 'no temporary folder'
-    trap 'kill $(jobs -p) 2>/dev/null; rm -rf "$work"' EXIT
+# end_jobs: ends the processes in the background.
+end_jobs() {
+    local jobs
+    jobs=$(jobs -p)
+    # shellcheck disable=SC2086 # a line each
+    [ -z "$jobs" ] || { kill $jobs && wait $jobs; } 2>/dev/null
 }
 
-# The same, but where BENCH_WORK names a folder it is that, which stays.
+# Sets `work` to a temporary folder, which goes at the end of the script, after the processes in the background.
+make_work() {
+    work=$(mktemp -d) || fail 'no temporary folder'
+    trap 'end_jobs; rm -rf "$work"' EXIT
+}
+
+# The same, but where BENCH_WORK names a folder it is that, which stays, so that the next run is quicker.
 make_or_keep_work() {
     if [ -z "${BENCH_WORK:-}" ]; then
         make_work
     else
         mkdir -p "$BENCH_WORK" || fail "no folder $BENCH_WORK"
         work=$(realpath "$BENCH_WORK")
+        trap end_jobs EXIT
     fi
 }
 
@@ -149,11 +169,32 @@ expect() {
     fi
 }
 
-# A port of 127.0.0.1 where nothing listens.
+# free_port: `free` is a port of 127.0.0.1 where nothing listens, and that was not given before.
+ports_given=
+# shellcheck disable=SC2034
 free_port() {
     local port
     for port in $(shuf -i 20000-30000 -n 20); do
-        (: <"/dev/tcp/127.0.0.1/$port") 2>/dev/null || { echo "$port" && return; }
+        [[ " $ports_given " != *" $port "* ]] || continue
+        listens "$port" || { ports_given+=" $port" && free=$port && return; }
     done
     fail 'no port is free'
+}
+
+# listens PORT: whether somebody listens there at an address of IPv4. No connection is made, which the desk would count.
+listens() {
+    grep -q "$(printf ':%04X 00000000:0000 0A' "$1")" /proc/net/tcp
+}
+
+# wait_for PORT PROCESS: waits until somebody listens there; false where the process that is to ended before.
+wait_for() {
+    until listens "$1"; do
+        kill -0 "$2" 2>/dev/null || return 1
+        sleep 0.01
+    done
+}
+
+# tell_load: how busy the machine is on which something was measured.
+tell_load() {
+    echo "$(nproc) processors, load $(cut -d ' ' -f 1-3 /proc/loadavg) at the end"
 }
