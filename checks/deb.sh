@@ -32,6 +32,11 @@ expect 'the same as by hand' "$(diff -rq by-hand held | sort)" "Files by-hand/us
 Only in held/usr/share/doc/roadesk: changelog.gz
 Only in held/usr/share/doc/roadesk: copyright
 Only in held: DEBIAN"
+# runnable FOLDER: the files there that can be run.
+runnable() {
+    (cd "$1" && find . -type f -perm /111 | sort)
+}
+expect 'examples: the scripts can be run' "$(runnable held/usr/share/doc/roadesk/examples)" "$(runnable "$top/examples")"
 expect 'each setting is kept by dpkg' "$(cat held/DEBIAN/conffiles)" "$(cd held && find etc -type f | sort | sed 's#^#/#')"
 
 # A program of other octets, in what is loaded, is refused.

@@ -62,4 +62,9 @@ sed "s/@VERSION@/$(cat "$top/VERSION")/" "$here/roadesk.8" | gzip -9n >"$root/us
 chmod 644 "$root/usr/share/man/man8/roadesk.8.gz"
 install -m 644 "$top"/docs/{GUIDE,OPERATIONS,FORMATS,DEFINITIONS,ROA-CONTENT}.md "$top"/docs/{openapi,lines.schema}.json \
     "$top/CHANGELOG.md" "$root/usr/share/doc/roadesk"
-cp -r --no-preserve=mode,ownership "$top/examples" "$root/usr/share/doc/roadesk"
+# Scripts can be run there too, and the mask of the repository's files does not matter.
+find "$top/examples" -type f -printf '%P\n' | while IFS= read -r file; do
+    mode=644
+    [ ! -x "$top/examples/$file" ] || mode=755
+    install -D -m "$mode" "$top/examples/$file" "$root/usr/share/doc/roadesk/examples/$file"
+done
