@@ -109,8 +109,9 @@ impl<S: Alter> Desk<S> {
     }
 
     /// Keeps the VRPs of the day in place of those of another, which are dropped first; returns
-    /// whether it did. If it did not, none are kept.
-    pub(super) fn prepare(&mut self, day: Day) -> bool
+    /// whether they are kept. If they were already, nothing is read. If an allocation fails or the
+    /// database does not answer, none are kept.
+    pub fn prepare(&mut self, day: Day) -> bool
         ensures { IsPrepared S.Store day result self.old self.new }
     {
         self.keeps_its_rows();
