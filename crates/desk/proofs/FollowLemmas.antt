@@ -171,7 +171,7 @@ enough_for_edit (Register h) edit loaded rows is ruled are = enough_loaded edit 
 enough_for_edit (Delegate h p) (Hold removed added gone) loaded rows none ruled are =
     enough_of_any (Hold removed added gone) _ _ (λ n. ap (λ (ns : List ℕ). list_any (λ m. n == m) ns) none) (λ xs. refl)
 enough_for_edit (Reclaim h p) edit loaded rows is ruled are = enough_loaded edit (rows.of_holder h) loaded.rows are
-enough_for_edit (Grant h name role scope until) (GrantEdit g) loaded rows is ruled are = enough_of_any (GrantEdit g) _ _ (λ n. refl) (λ xs. refl)
+enough_for_edit (Grant h terms) (GrantEdit g) loaded rows is ruled are = enough_of_any (GrantEdit g) _ _ (λ n. refl) (λ xs. refl)
 enough_for_edit (Revoke h n) edit loaded rows is ruled are = rw is (enough_of_any (RevokeEdit n) _ _ (λ m. refl) (λ xs. refl))
 enough_for_edit (Create h terms) edit loaded rows is ruled are =
     created_enough h terms edit (rows.of_holder h) loaded.rows terms.entries is ruled.1 (are.answers.holds.0 ruled.0) are.counted
@@ -230,7 +230,7 @@ puts_on (Revoke h n) edit reply day is made begins = subst (λ (e : Edit). Begin
 puts_on (Withdraw h n) edit reply day is made begins = subst (λ (e : Edit). BeginsOn e day) is begins
 puts_on (Delegate h p) (Hold removed added gone) reply day is made begins = begins
 puts_on (Reclaim h p) (Hold removed added gone) reply day is made begins = begins
-puts_on (Grant h name role scope until) (GrantEdit g) reply day is made begins = begins
+puts_on (Grant h terms) (GrantEdit g) reply day is made begins = begins
 puts_on command edit reply day is made begins = absurd is
 
 none_begin : (edit : Edit) (day : ℕ) → IsHold edit → ¬ BeginsOn edit day

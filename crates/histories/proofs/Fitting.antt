@@ -14,7 +14,7 @@ use Rattle.slurm.specs.SlurmSets.{has_entries}
 use Rattle.slurm.specs.declared.set.NamedSlurm.{NamedSlurm}
 use Rattle.registry.specs.ExceptionsInForce.{files_after, files_in_force}
 use Rattle.registry.specs.History.{Entry, History, same_name}
-use Rattle.registry.specs.Terms.{numbered_terms, granted_after, grants_after, grants_made, grant_terms, created_after, terms_after, authorizations_made, authorization_terms, amended, HeldSinceMade}
+use Rattle.registry.specs.Terms.{numbered_grant, numbered_terms, granted_after, grants_after, grants_made, grant_terms, created_after, terms_after, authorizations_made, authorization_terms, amended, HeldSinceMade}
 use Rattle.registry.specs.Values.{CommandFits, FileFits, FilesFit, HistoryFits, AuthFits, GrantFits}
 use Rattle.registry.specs.Verdict.{Verdict, IsLegal, auth_of_number, maxes_fit, OfNumber}
 use Rattle.registry.proofs.Entries.{with_maxes-are, with_maxes-fit}
@@ -32,10 +32,10 @@ record GrantsFit (granted : ℕ) (grants : List Granted) : Type 0 where
 grants_after-fit : (charter : Charter) (before : History) (day : ℕ) (caller : List ℕ) (c : Command) (h : List ℕ)
     → Verdict charter before day caller c None → CommandFits c → GrantsFit (grants_made before h) (grant_terms before h)
     → GrantsFit (granted_after c h (grants_made before h)) (grants_after c h (grants_made before h) (grant_terms before h))
-grants_after-fit charter before day caller (Grant holder name role scope until) h accepted values fit =
+grants_after-fit charter before day caller (Grant holder terms) h accepted values fit =
     let grants = grant_terms before h in
     let made = grants_made before h in
-    let g : Granted = record { number = made + 1; caller = name; role = role; scope = scope; until = until } in
+    let g = numbered_grant terms (made + 1) in
     elim (cases_Bool (same_name holder h)) [
       | inl t ↦
           let room : made < LAST_NUMBER = subst (λ (k : List ℕ). grants_made before k < LAST_NUMBER) (same_name-true holder h t) accepted.1.1.1.0.1 in

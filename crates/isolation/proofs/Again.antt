@@ -142,7 +142,7 @@ agree-again charter history before then day by caller (Transfer p giver taker) f
     absurd (false≢true (sym (same_name-false giver taker first.1.1.0) ∙ sym (still_held history _ giver p (Some taker) (Some giver) same (λ a has. cond-true _ _ _ has) accepted.1.1.1.0) ∙ same_name-same giver))
 agree-again charter history before then day by caller (Reclaim holder p) fits first same other accepted h =
     absurd (false≢true (sym (still_held history _ holder p None (Some holder) same (λ a has. cond-true _ _ _ has) accepted.1.1.0) ∙ same_name-same holder))
-agree-again charter history before then day by caller (Grant holder name role scope until) fits first same other accepted h = cc
+agree-again charter history before then day by caller (Grant holder terms) fits first same other accepted h = cc
 agree-again charter history before then day by caller (Revoke holder n) fits first same other accepted h =
     let test = list_any (λ (g : Granted). eqb g.number n) in
     absurd (false≢true (sym (any_filtered (λ g. eqb g.number n) (grant_terms before holder)) ∙ sym (ap test (same.grants ∙ cond-true _ _ _ (same_name-same holder))) ∙ accepted.1.0))

@@ -89,7 +89,7 @@ judged charter one other day caller (Transfer p giver taken) same taker own =
     checked itself (checked (both (of_registered same) (of_registered taker)) (checked itself (checked (of_holds same p) accepted)))
 judged charter one other day caller (Reclaim holder p) same taker own =
     checked itself (checked (of_registered same) (checked (of_holds same p) accepted))
-judged charter one other day caller (Grant holder name role scope until) same taker own =
+judged charter one other day caller (Grant holder terms) same taker own =
     checked (of_grants same (λ grants. is_operator charter caller || has_access grants day caller Manage)) (
     checked (of_registered same) (
     checked itself (
@@ -121,7 +121,7 @@ judged charter one other day caller (Import holder rows) same taker own = record
 judged charter one other day caller (Slurm files) same taker own = checked itself (checked itself accepted)
 
 number_alike : (one other : History) (c : Command) → AgreeIfNamed one other (holder_of c) → number_given one c ≡ number_given other c
-number_alike one other (Grant holder name role scope until) same = ap (λ made. Some (made + 1)) same.granted
+number_alike one other (Grant holder terms) same = ap (λ made. Some (made + 1)) same.granted
 number_alike one other (Create holder terms) same = ap (λ made. Some (made + 1)) same.created
 number_alike one other _ same = refl
 

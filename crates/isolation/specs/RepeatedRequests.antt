@@ -19,7 +19,7 @@ use Rattle.registry.specs.Verdict.{IsLegal}
 
 -- each grant is another one
 abbrev pub is_grant : Command → Bool
-is_grant (Grant holder name role scope until) = true
+is_grant (Grant holder terms) = true
 is_grant _ = false
 
 -- some entry names the holder

@@ -172,7 +172,7 @@ IsLoadedFor (Delegate h p) rows loaded = IsForDelegate h p rows loaded
 IsLoadedFor (Transfer p giver taker) rows loaded =
     AreLoaded (rows.of_holder giver) loaded.rows × AreLoaded (rows.of_holder taker) loaded.taker
 IsLoadedFor (Reclaim h p) rows loaded = AreLoaded (rows.of_holder h) loaded.rows
-IsLoadedFor (Grant h name role scope until) rows loaded = AreCounted (rows.of_holder h) loaded.rows
+IsLoadedFor (Grant h terms) rows loaded = AreCounted (rows.of_holder h) loaded.rows
 IsLoadedFor (Revoke h n) rows loaded = AreCounted (rows.of_holder h) loaded.rows
 IsLoadedFor (Create h terms) rows loaded = IsForCreate h terms rows loaded
 IsLoadedFor (Amend h n maxes until) rows loaded = IsForAmend n maxes.items (rows.of_holder h) loaded

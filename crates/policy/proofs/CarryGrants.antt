@@ -1,25 +1,24 @@
 -- The changes of a grant and a revocation carry every holder's rows.
 use Rattle.std.proofs.Common.{◌≡◌, ℕ, ◌+◌, true, not, eqb, List, [], ◌∷◌, ◌++◌, None, refl, sym, ap, ◌∙◌, filter}
 use Rattle.std.proofs.lemmas.Bool.{cond-true}
+use Rattle.registry.specs.declared.grant.GrantTerms.{GrantTerms}
 use Rattle.registry.specs.declared.grant.Granted.{Granted}
-use Rattle.registry.specs.declared.grant.Role.{Role}
-use Rattle.registry.specs.declared.grant.Scope.{Scope}
 use Rattle.registry.specs.declared.change.Change.TheVariants.{Holders}
 use Rattle.registry.specs.declared.change.Edit.TheVariants.{Grant as GrantEdit, Revoke as RevokeEdit}
 use Rattle.registry.specs.declared.command.Command.TheVariants.{Grant, Revoke}
 use Rattle.registry.specs.History.{Entry, History, is_registered}
-use Rattle.registry.specs.Terms.{grant_terms, grants_made}
+use Rattle.registry.specs.Terms.{numbered_grant, grant_terms, grants_made}
 use Rattle.registry.specs.Rows.{Carries}
 use Rattle.registry.proofs.Names.{same_name-same}
 use Rattle.registry.proofs.Carry.{active-left, carries-edit}
 
-pub carries-grant : (before : History) (day : ℕ) (caller holder name : List ℕ) (role : Role) (scope : Scope) (until : ℕ) (g : Granted)
+pub carries-grant : (before : History) (day : ℕ) (caller holder : List ℕ) (terms : GrantTerms) (g : Granted)
     → is_registered before holder ≡ true
-    → g ≡ record { number = grants_made before holder + 1; caller = name; role = role; scope = scope; until = until }
+    → g ≡ numbered_grant terms (grants_made before holder + 1)
     → Carries (Holders (record { holder = holder; edit = GrantEdit g }) None) before
-    (record { day = day; caller = caller; command = Grant holder name role scope until } ∷ before)
-carries-grant before day caller holder name role scope until g registered is =
-    let e : Entry = record { day = day; caller = caller; command = Grant holder name role scope until } in
+    (record { day = day; caller = caller; command = Grant holder terms } ∷ before)
+carries-grant before day caller holder terms g registered is =
+    let e : Entry = record { day = day; caller = caller; command = Grant holder terms } in
     carries-edit e before holder (GrantEdit g) (record { named = refl; files = refl }) registered
     (λ rows had. record {
       apart = had.apart;

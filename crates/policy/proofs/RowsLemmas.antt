@@ -125,7 +125,7 @@ facts-of_rows charter history (Register h) rows answers one no_create no_amend l
 facts-of_rows charter history (Delegate h p) rows answers one no_create no_amend legal are taken = delegation-answers history h p rows answers.taken are taken
 facts-of_rows charter history (Transfer p giver taker) rows answers one no_create no_amend legal are taken = absurd (true≢false one)
 facts-of_rows charter history (Reclaim h p) rows answers one no_create no_amend legal are taken = are
-facts-of_rows charter history (Grant h name role scope until) rows answers one no_create no_amend legal are taken =
+facts-of_rows charter history (Grant h terms) rows answers one no_create no_amend legal are taken =
     record { grants = grants-are charter history h rows legal are; counter = made-are history h rows are }
 facts-of_rows charter history (Revoke h n) rows answers one no_create no_amend legal are taken = grants-are charter history h rows legal are
 facts-of_rows charter history (Create h terms) rows answers one no_create no_amend legal are taken = absurd (no_create h terms refl)

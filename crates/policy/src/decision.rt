@@ -16,7 +16,7 @@ use crate::admission::{auths_of, grants_of, holdings_of, holds, made_of, registe
 use crate::amendment::{Amendment, amend, is_found_shared};
 use crate::creation::{create, create_answers};
 use crate::delegation::{delegate, register};
-use crate::granting::{GrantTerms, grant, revoke};
+use crate::granting::{grant, revoke};
 use crate::part::change_of;
 use crate::space::{exchange, with_prefix, without_prefix};
 use crate::withdrawal::withdraw;
@@ -233,21 +233,9 @@ pub fn judge(
         Command::Reclaim { holder, prefix } => {
             decide_reclaim(alloc, basis, Holder { name: holder, rows }, prefix)
         }
-        Command::Grant {
-            holder,
-            name,
-            role,
-            scope,
-            until,
-        } => {
-            let terms = GrantTerms {
-                caller: *name,
-                role: *role,
-                scope: *scope,
-                until: *until,
-            };
+        Command::Grant { holder, terms } => {
             let made = made_of(rows);
-            Ok(grant(charter, holder, grants_of(rows), made, day, caller, &terms)?)
+            Ok(grant(charter, holder, grants_of(rows), made, day, caller, terms)?)
         }
         Command::Revoke { holder, number } => {
             Ok(revoke(charter, holder, grants_of(rows), day, caller, *number)?)

@@ -10,39 +10,8 @@ ghost use Rattle.registry.specs.Verdict.{IsLegal, Verdict};
 
 use crate::admission::{has_room_for_grant, is_among, is_steward, require};
 use crate::part::change_of;
-use crate::{Change, Charter, Edit, Granted, Role, Rule, Scope};
+use crate::{Change, Charter, Edit, GrantTerms, Granted, Rule};
 use addr::{Day, Name};
-
-/// The terms of a grant, before it has a number.
-#[derive(Clone, Copy)]
-pub(crate) struct GrantTerms {
-    pub(crate) caller: Name,
-    pub(crate) role: Role,
-    pub(crate) scope: Scope,
-    /// The last day on which it is current.
-    pub(crate) until: Day,
-}
-
-impl GrantTerms {
-    /// The grant of these terms and of this number.
-    fn numbered(&self, number: u32) -> Granted
-        ensures { result ≡ record {
-          number = number;
-          caller = self.now.caller;
-          role = self.now.role;
-          scope = self.now.scope;
-          until = self.now.until;
-        } }
-    {
-        Granted {
-            number,
-            caller: self.caller,
-            role: self.role,
-            scope: self.scope,
-            until: self.until,
-        }
-    }
-}
 
 /// The change that a grant of the terms makes, or the first rule that fails. `grants` are the
 /// holder's, and `made` is how many were ever made, `None` if it is not registered. Allocates
@@ -59,12 +28,10 @@ pub(crate) fn grant(
     ensures answer { (history : History) → IsLegal charter.now history
         → AnswersGrant history holder.now grants.now made
         → MatchResult result
-        (IsAccepted charter.now history day caller.now (Command.Grant holder.now
-        terms.now.caller terms.now.role terms.now.scope terms.now.until))
-        (λ rule. Verdict charter.now history day caller.now (Command.Grant holder.now
-        terms.now.caller terms.now.role terms.now.scope terms.now.until) (Some rule)) }
-    ensures shape { IfOk result (HasEditsOf (Command.Grant holder.now
-        terms.now.caller terms.now.role terms.now.scope terms.now.until)) }
+        (IsAccepted charter.now history day caller.now (Command.Grant holder.now terms.now))
+        (λ rule. Verdict charter.now history day caller.now
+        (Command.Grant holder.now terms.now) (Some rule)) }
+    ensures shape { IfOk result (HasEditsOf (Command.Grant holder.now terms.now)) }
 {
     require(is_steward(charter, grants, day, caller), Rule::Steward)?;
     let made = made.ok_or(Rule::Holder)?;

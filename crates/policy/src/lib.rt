@@ -16,8 +16,8 @@ mod withdrawal;
 
 pub use decision::{Facts, decide, decide_two, judge};
 pub use registry::{
-    Access, Answers, Auth, AuthTerms, Change, Charter, CharterFault, Command, Edit, Granted,
-    HolderChange, HolderRows, ImportRow, LAST_NUMBER, Proposed, Query, Refusal, RoaPrefix,
+    Access, Answers, Auth, AuthTerms, Change, Charter, CharterFault, Command, Edit, GrantTerms,
+    Granted, HolderChange, HolderRows, ImportRow, LAST_NUMBER, Proposed, Query, Refusal, RoaPrefix,
     RoaPrefixes, Role, Rule, Scope, View, laws,
 };
 pub use sight::{see, see_all};

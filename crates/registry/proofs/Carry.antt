@@ -25,7 +25,7 @@ pub keeps_unnamed : (c : Command) (h : List ℕ) (made count : ℕ) (grants : Li
     → (registers c h ≡ false) × (grants_after c h made grants ≡ grants) × (granted_after c h made ≡ made)
     × (terms_after c h count terms ≡ terms) × (created_after c h count ≡ count)
 keeps_unnamed (Register holder) h made count grants terms other = (other, refl, refl, refl, refl)
-keeps_unnamed (Grant holder name role scope until) h made count grants terms other = (refl, cond-false _ _ _ other, cond-false _ _ _ other, refl, refl)
+keeps_unnamed (Grant holder t) h made count grants terms other = (refl, cond-false _ _ _ other, cond-false _ _ _ other, refl, refl)
 keeps_unnamed (Revoke holder n) h made count grants terms other = (refl, cond-false _ _ _ other, refl, refl, refl)
 keeps_unnamed (Create holder t) h made count grants terms other = (refl, refl, refl, cond-false _ _ _ other, cond-false _ _ _ other)
 keeps_unnamed (Amend holder n maxes until) h made count grants terms other = (refl, refl, refl, cond-false _ _ _ other, refl)

@@ -70,7 +70,7 @@ nothing_after charter before day caller (Reclaim holder p) h accepted unregister
     nothing_stays _ before h (differ_by (is_registered before) holder h accepted.1.0 unregistered)
     (λ a. elim (has_address p a) as (λ b. is_held_by h (cond b None (resource_holder before a)) ≡ false)
     [ true ↦ refl | false ↦ none.holders a ]) none
-nothing_after charter before day caller (Grant holder name role scope until) h accepted unregistered none =
+nothing_after charter before day caller (Grant holder terms) h accepted unregistered none =
     nothing_stays _ before h (differ_by (is_registered before) holder h accepted.1.0 unregistered) none.holders none
 nothing_after charter before day caller (Revoke holder n) h accepted unregistered none =
     let test = list_any (λ (g : Granted). eqb g.number n) in

@@ -44,7 +44,7 @@ holder_of (Register holder) = Some holder
 holder_of (Delegate holder p) = Some holder
 holder_of (Transfer p giver taker) = Some giver
 holder_of (Reclaim holder p) = Some holder
-holder_of (Grant holder name role scope until) = Some holder
+holder_of (Grant holder terms) = Some holder
 holder_of (Revoke holder n) = Some holder
 holder_of (Create holder terms) = Some holder
 holder_of (Amend holder n maxes until) = Some holder
@@ -59,7 +59,7 @@ taker_of command = holder_of command
 
 -- the number that the new grant or authorization gets; other commands answer none
 abbrev pub number_given : History → Command → Option ℕ
-number_given history (Grant holder name role scope until) = Some (grants_made history holder + 1)
+number_given history (Grant holder terms) = Some (grants_made history holder + 1)
 number_given history (Create holder terms) = Some (authorizations_made history holder + 1)
 number_given history _ = None
 
@@ -254,7 +254,7 @@ AreFacts history (Delegate h p) rows other answers =
 AreFacts history (Transfer p giver taker) rows other answers =
     RowsIfAny history giver (rows_if_any rows) × RowsIfAny history taker (rows_if_any other)
 AreFacts history (Reclaim h p) rows other answers = RowsIfAny history h (rows_if_any rows)
-AreFacts history (Grant h name role scope until) rows other answers =
+AreFacts history (Grant h terms) rows other answers =
     AnswersGrant history h (grants_if_any rows) (option_map (λ (r : HolderRows). r.granted) rows)
 AreFacts history (Revoke h n) rows other answers = grants_if_any rows ≡ grant_terms history h
 AreFacts history (Create h terms) rows other answers = AnswersCreate history h terms (grants_if_any rows) answers

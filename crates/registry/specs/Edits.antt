@@ -66,7 +66,7 @@ abbrev pub IsEditOf : Command → Edit → Type 0
 IsEditOf (Register holder) edit = edit ≡ RegisterEdit
 IsEditOf (Delegate holder p) edit = IsHoldEndingNone edit
 IsEditOf (Reclaim holder p) edit = IsHold edit
-IsEditOf (Grant holder name role scope until) (GrantEdit g) = Unit {0}
+IsEditOf (Grant holder terms) (GrantEdit g) = Unit {0}
 IsEditOf (Revoke holder n) edit = edit ≡ RevokeEdit n
 IsEditOf (Create holder terms) (CreateEdit x) = IsOfTerms terms x
 IsEditOf (Amend holder n maxes until) (AmendEdit x) = (x.until ≡ until) × (x.number ≡ n)

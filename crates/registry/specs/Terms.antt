@@ -12,6 +12,7 @@ use Rattle.registry.specs.declared.authorization.Auth.{Auth}
 use Rattle.registry.specs.declared.authorization.AuthTerms.{AuthTerms}
 use Rattle.registry.specs.declared.authorization.ImportRow.{ImportRow}
 use Rattle.registry.specs.declared.authorization.RoaPrefix.{RoaPrefix}
+use Rattle.registry.specs.declared.grant.GrantTerms.{GrantTerms}
 use Rattle.registry.specs.declared.grant.Granted.{Granted}
 use Rattle.registry.specs.History.{History, same_name}
 use Rattle.registry.specs.Resources.{resource_holder}
@@ -63,7 +64,7 @@ HoldsTerms history h x = HoldsEntries history h x.entries
 
 -- how many grants were made at the holder
 abbrev pub granted_after : Command → List ℕ → ℕ → ℕ
-granted_after (Grant holder name role scope until) h made = if same_name holder h then made + 1 else made
+granted_after (Grant holder terms) h made = if same_name holder h then made + 1 else made
 granted_after _ h made = made
 
 abbrev pub grants_made : History → List ℕ → ℕ
@@ -79,12 +80,14 @@ abbrev pub authorizations_made : History → List ℕ → ℕ
 authorizations_made [] h = 0
 authorizations_made (e ∷ before) h = created_after e.command h (authorizations_made before h)
 
+-- the grant of these terms and of this number
+abbrev pub numbered_grant : GrantTerms → ℕ → Granted
+numbered_grant t n = record { number = n; caller = t.to; role = t.role; scope = t.scope; until = t.until }
+
 -- the grants after a command, from those before it and how many were made by then
 abbrev pub grants_after : Command → List ℕ → ℕ → List Granted → List Granted
-grants_after (Grant holder name role scope until) h made grants =
-    if same_name holder h
-    then grants ++ record { number = made + 1; caller = name; role = role; scope = scope; until = until } ∷ []
-    else grants
+grants_after (Grant holder terms) h made grants =
+    if same_name holder h then grants ++ numbered_grant terms (made + 1) ∷ [] else grants
 grants_after (Revoke holder n) h made grants =
     if same_name holder h then filter (λ g. not (g.number == n)) grants else grants
 grants_after _ h made grants = grants

@@ -81,10 +81,10 @@ Verdict charter history day caller (Reclaim holder p) =
     check Holder (is_registered history holder ≡ true) (
     check Held (HoldsPrefix history holder p)
     accept))
-Verdict charter history day caller (Grant holder name role scope until) =
+Verdict charter history day caller (Grant holder terms) =
     check Steward (is_steward charter history day caller holder ≡ true) (
     check Holder (is_registered history holder ≡ true) (
-    check Dates (day ≤ until) (
+    check Dates (day ≤ terms.until) (
     check Room ((length (grant_terms history holder) < MOST_GRANTS)
     × (grants_made history holder < LAST_NUMBER))
     accept)))

@@ -2,7 +2,7 @@
 
 ghost use Rattle.std.specs.Prelude.{◌≡◌};
 
-use crate::{AuthTerms, ImportRow, Role, Scope};
+use crate::{AuthTerms, GrantTerms, ImportRow};
 use addr::{Day, Name, Prefix, Route};
 use slurm::SlurmSet;
 
@@ -32,10 +32,7 @@ pub enum Command {
     /// Permits a caller to act at the holder in a role.
     Grant {
         holder: Name,
-        name: Name,
-        role: Role,
-        scope: Scope,
-        until: Day,
+        terms: GrantTerms,
     },
     /// Takes back the grant of this number.
     Revoke {

@@ -2,6 +2,7 @@
 
 ghost use Rattle.std.specs.Prelude.{◌≡◌};
 ghost use Rattle.registry.specs.Permission.{allowed_roles, scope_has, is_current, gives_access, has_access, is_permitted, are_permitted};
+ghost use Rattle.registry.specs.Terms.{numbered_grant};
 
 use crate::RoaPrefix;
 use addr::{Day, Name, Prefix};
@@ -27,6 +28,17 @@ pub struct Granted {
     /// Counts the holder's grants from 1, in the order in which they were made.
     pub number: u32,
     pub caller: Name,
+    pub role: Role,
+    pub scope: Scope,
+    /// The last day on which the grant is current.
+    pub until: Day,
+}
+
+/// What a grant is to say, before it has a number.
+#[derive(Clone, Copy, Debug, PartialEq, Eq)]
+pub struct GrantTerms {
+    /// The caller that it permits to act.
+    pub to: Name,
     pub role: Role,
     pub scope: Scope,
     /// The last day on which the grant is current.
@@ -67,6 +79,21 @@ impl Scope {
         match self {
             Scope::All => true,
             Scope::Only(scope) => scope.contains(prefix),
+        }
+    }
+}
+
+impl GrantTerms {
+    /// The grant of these terms and of this number.
+    pub fn numbered(&self, number: u32) -> Granted
+        ensures { result ≡ numbered_grant self.now number }
+    {
+        Granted {
+            number,
+            caller: self.to,
+            role: self.role,
+            scope: self.scope,
+            until: self.until,
         }
     }
 }

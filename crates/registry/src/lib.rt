@@ -19,7 +19,7 @@ pub use authorization::{Auth, AuthTerms, ImportRow, RoaPrefix, auth_of_number, f
 pub use change::{Change, Edit, HolderChange};
 pub use charters::{Charter, CharterFault};
 pub use command::{Command, Proposed, Query};
-pub use grant::{Access, Granted, Role, Scope, are_permitted, has_access};
+pub use grant::{Access, GrantTerms, Granted, Role, Scope, are_permitted, has_access};
 pub use limits::{LAST_NUMBER, MOST_AUTHORIZATIONS, MOST_GRANTS};
 pub use roa_prefixes::{RoaPrefixes, RoaPrefixesFault};
 pub use rows::{Answers, HolderRows, View};

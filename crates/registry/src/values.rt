@@ -23,15 +23,10 @@ pub(crate) fn command_fits(command: &Command)
             name_fits(giver);
             name_fits(taker);
         }
-        Command::Grant {
-            holder,
-            name,
-            until,
-            ..
-        } => {
+        Command::Grant { holder, terms } => {
             name_fits(holder);
-            name_fits(name);
-            day_fits(*until);
+            name_fits(&terms.to);
+            day_fits(terms.until);
         }
         Command::Revoke { holder, number } | Command::Withdraw { holder, number } => {
             name_fits(holder);

@@ -17,7 +17,7 @@ use Rattle.registry.specs.declared.asked.Asked.{Asked}
 use Rattle.registry.specs.declared.asked.Request.{Request}
 use Rattle.registry.specs.declared.asked.Request.TheVariants.{Command as CommandRequest, Query as QueryRequest}
 use Rattle.requests.specs.RequestFaults.{as_malformed, fault_order, role_at, terms_members, row_members, entry_members, creation_members, withdrawal_members, route_members, names_of, part_names, part_faults, choice_faults, choices_of, entry_choice, line_names, object_faults, change_faults, rows, changes, routes, file_choice, file_list, action_in, action_of, body_members, member_faults, named_by, named_member, Named, HolderName, NumberGiven, Kind, any_value, caller_name, day, members_of, action_faults, tree_faults, request_faults, request_fault}
-use Rattle.requests.specs.RequestText.{HasName, HasDay, HasFileList, HasMainFile, HasMaxes, HasMember, HasRow, HasTerms, SaysChange, SaysRoute, HasItems, HasRoutes, Heading, Does, NamesHolder, NamesNumber, SaysRequest, line_heading, ReadsLine, SaysRows}
+use Rattle.requests.specs.RequestText.{HasName, HasDay, HasGrantTerms, HasFileList, HasMainFile, HasMaxes, HasMember, HasRow, HasTerms, SaysChange, SaysRoute, HasItems, HasRoutes, Heading, Does, NamesHolder, NamesNumber, SaysRequest, line_heading, ReadsLine, SaysRows}
 use Rattle.json_values.specs.Values.{as_name, as_prefix, as_day, as_asn}
 use Rattle.requests.specs.RequestValues.{as_origin, as_number, as_role, as_scope}
 use Rattle.requests.specs.declared.request.TheConstants.{LINE_LENGTH_LIMIT}
@@ -27,7 +27,7 @@ use Rattle.requests.specs.declared.request.lists.TheConstants.{MOST_ITEMS, MOST_
 use Rattle.requests.specs.declared.request.fault.Fault.{Fault}
 use Rattle.requests.specs.declared.request.commands.Subject.{Subject}
 use Rattle.requests.specs.declared.request.fault.Fault.TheVariants.{Members, Holder, Caller, Prefix as PrefixFault, Asn, Day, Role, Number, TooLong}
-use Rattle.requests.specs.steps.RequestReading.{RequestTerms, request, amend, import, validity, what_if, AskedTerms, request_terms, asked_terms, asn_and_days_in, terms_of, terms_in, row_of, row_in, change_by, change_in, route_in, rows_in, changes_in, routes_in, file_list_in, files_in, request_in, line_subject, asked_as, asked_by, asked_from, asked_in}
+use Rattle.requests.specs.steps.RequestReading.{RequestTerms, request, amend, import, validity, what_if, AskedTerms, request_terms, asked_terms, grant_terms_in, asn_and_days_in, terms_of, terms_in, row_of, row_in, change_by, change_in, route_in, rows_in, changes_in, routes_in, file_list_in, files_in, request_in, line_subject, asked_as, asked_by, asked_from, asked_in}
 use Rattle.json_values.proofs.ReadingLemmas.{reads-both, reads-mapped, reads-unless, reads-last, reads-says, lowest-none}
 use Rattle.requests.proofs.RequestFaultLemmas.{ReadsUnlessFaulty, ReadsMember, reads-list, reads-member}
 use Rattle.requests.proofs.EntryReadLemmas.{reads-entries, reads-entry_members, reads-maxes}
@@ -70,6 +70,13 @@ reads-terms : (d : Data) → ReadsUnlessFaulty (terms_in d) (part_faults terms_m
 reads-terms d =
     reads-mapped terms_of (λ p says. (says.0.0, says.1, says.0.1.0, says.0.1.1))
     (reads-both (reads-asn_and_days d) (reads-last (reads-entries d)))
+
+reads-grant_terms : (d : Data) → ReadsUnlessFaulty (grant_terms_in d) (member_faults (body_members AskGrant) d) (HasGrantTerms d)
+reads-grant_terms d =
+    reads-mapped _ (λ p says. (says.0, says.1.0, says.1.1.0, says.1.1.1))
+    (reads-both (reads-member as_name Caller (codes "name") d)
+    (reads-both (reads-member as_role Role (codes "role") d)
+    (reads-both (reads-member (as_scope (role_at d)) Role (codes "scope") d) (reads-last (until d)))))
 
 -- a row has one entry
 row-split : (d : Data) → member_faults row_members d ≡ member_faults terms_members d ++ member_faults entry_members d
@@ -179,10 +186,7 @@ module _ (h : Heading) (subject : Subject) (named : Named → List Fault)
       reads-mapped _ (λ p says. (does, says.0, says.1))
       (reads-both (reads-last holder) (reads-last (reads-last (prefix d))))
   reads-request AskGrant d does files_brought list_brought rows_brought =
-      reads-mapped _ (λ p says. (does, says.0, says.1.0, says.1.1.0, says.1.1.1.0, says.1.1.1.1))
-      (reads-both (reads-last holder) (reads-last (reads-both (reads-member as_name Caller (codes "name") d)
-      (reads-both (reads-member as_role Role (codes "role") d)
-      (reads-both (reads-member (as_scope (role_at d)) Role (codes "scope") d) (reads-last (until d)))))))
+      reads-mapped _ (λ p says. (does, says.0, says.1)) (reads-both (reads-last holder) (reads-last (reads-grant_terms d)))
   reads-request AskRevoke d does files_brought list_brought rows_brought =
       reads-mapped _ (λ p says. (does, says.0, says.1)) (reads-last holder_and_number)
   reads-request AskCreate d does files_brought list_brought rows_brought =

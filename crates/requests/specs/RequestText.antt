@@ -13,6 +13,7 @@ use Rattle.registry.specs.declared.command.Proposed.{Proposed}
 use Rattle.registry.specs.declared.command.Proposed.TheVariants.{Create as CreateChange, Withdraw as WithdrawChange}
 use Rattle.registry.specs.declared.command.Query.{Query}
 use Rattle.registry.specs.declared.command.Query.TheVariants.{Show, Content, List as ListQuery, Payloads, Validity, WhatIf}
+use Rattle.registry.specs.declared.grant.GrantTerms.{GrantTerms}
 use Rattle.serde_json.specs.Data.{Data, Items}
 use Rattle.serde_json.specs.Find.{get, as_array}
 use Rattle.json_values.specs.Tree.{tree_of, list_of}
@@ -87,6 +88,12 @@ abbrev pub HasMaxes : Data → List ℕ → Type 0
 HasMaxes d maxes =
     HasOneMax d maxes ⊎ HasItems (λ value max. as_max value ≡ Some max) (get (codes "maxes") d) maxes
 
+-- what a grant gives, and to whom
+abbrev pub HasGrantTerms : Data → GrantTerms → Type 0
+HasGrantTerms d terms =
+    HasName (codes "name") d terms.to × HasMember as_role (codes "role") d terms.role
+    × HasMember (as_scope (role_at d)) (codes "scope") d terms.scope × HasDay (codes "until") d terms.until
+
 -- what a create is to authorize
 abbrev pub HasTerms : Data → AuthTerms → Type 0
 HasTerms d terms =
@@ -157,10 +164,8 @@ SaysCommand h d (Transfer prefix giver taker) =
     × HasName (codes "giver") d giver × HasName (codes "taker") d taker
 SaysCommand h d (Reclaim holder prefix) =
     Does AskReclaim h × NamesHolder h holder × HasPrefix d prefix
-SaysCommand h d (Grant holder name role scope until) =
-    Does AskGrant h × NamesHolder h holder × HasName (codes "name") d name
-    × HasMember as_role (codes "role") d role
-    × HasMember (as_scope (role_at d)) (codes "scope") d scope × HasDay (codes "until") d until
+SaysCommand h d (Grant holder terms) =
+    Does AskGrant h × NamesHolder h holder × HasGrantTerms d terms
 SaysCommand h d (Revoke holder number) =
     Does AskRevoke h × NamesHolder h holder × NamesNumber h number
 SaysCommand h d (Create holder terms) =

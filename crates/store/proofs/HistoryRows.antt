@@ -30,7 +30,7 @@ use Rattle.registry.specs.Resources.{resource_holder, is_held_by, IsFree}
 use Rattle.registry.specs.RoaPrefixes.{with_maxes}
 use Rattle.registry.specs.Rows.{Rows, RowsIfAny, grants_if_any, auths_if_any}
 use Rattle.registry.specs.RowsOfAll.{AllRows, HasRows, IsTaken}
-use Rattle.registry.specs.Terms.{granted_after, grants_made, grants_after, grant_terms, authorizations_made, authorization_terms, gives_some, AreActive, HeldSinceMade, Keeps, OfActive}
+use Rattle.registry.specs.Terms.{numbered_grant, granted_after, grants_made, grants_after, grant_terms, authorizations_made, authorization_terms, gives_some, AreActive, HeldSinceMade, Keeps, OfActive}
 use Rattle.registry.specs.Verdict.{IsLegal, auth_of_number, maxes_fit}
 use Rattle.registry.proofs.Amended.{shares_with_other}
 use Rattle.registry.proofs.Held.{active-numbered}
@@ -91,8 +91,8 @@ GrantsRise = Rise (λ (g : Granted). g.number)
 
 -- the numbers of grants rise from 1, up to how many were made
 grants_after-rise : (c : Command) (h : List ℕ) (made : ℕ) (grants : List Granted) → GrantsRise 0 grants made → GrantsRise 0 (grants_after c h made grants) (granted_after c h made)
-grants_after-rise (Grant holder name role scope until) h made grants n =
-    let g : Granted = record { number = made + 1; caller = name; role = role; scope = scope; until = until } in
+grants_after-rise (Grant holder terms) h made grants n =
+    let g = numbered_grant terms (made + 1) in
     elim (same_name holder h) as (λ b. GrantsRise 0 (cond b (grants ++ g ∷ []) grants) (cond b (made + 1) made))
     [ true ↦ rise-append (λ (x : Granted). x.number) 0 grants made g (omega arith) n | false ↦ n ]
 grants_after-rise (Revoke holder m) h made grants n =
@@ -340,7 +340,7 @@ loads_facts charter history (Transfer p giver taker) rows loaded legal has are =
   loads_rows history taker (rows.of_holder taker) loaded.taker (has.holders taker) are.1,
 )
 loads_facts charter history (Reclaim h p) rows loaded legal has are = loads_rows history h (rows.of_holder h) loaded.rows (has.holders h) are
-loads_facts charter history (Grant h name role scope until) rows loaded legal has are = record {
+loads_facts charter history (Grant h terms) rows loaded legal has are = record {
   grants = granted_loaded charter history h (rows.of_holder h) (grants_if_any loaded.rows) legal (has.holders h) are.grants;
   counter = made_loaded history h (rows.of_holder h) _ (has.holders h) are.granted;
 }

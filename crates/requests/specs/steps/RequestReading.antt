@@ -18,8 +18,7 @@ use Rattle.requests.specs.declared.request.entries.TheConstants.{MOST_ENTRIES}
 use Rattle.registry.specs.RoaPrefixes.{repeats_prefix}
 use Rattle.registry.specs.declared.command.Command.TheVariants.{Register, Delegate, Transfer, Reclaim, Grant, Revoke, Create, Amend, Withdraw, Import, Slurm}
 use Rattle.registry.specs.declared.command.Proposed.{Proposed}
-use Rattle.registry.specs.declared.grant.Role.{Role as RoleGiven}
-use Rattle.registry.specs.declared.grant.Scope.{Scope}
+use Rattle.registry.specs.declared.grant.GrantTerms.{GrantTerms}
 use Rattle.registry.specs.declared.command.Proposed.TheVariants.{Create as CreateChange, Withdraw as WithdrawChange}
 use Rattle.registry.specs.declared.command.Query.TheVariants.{Show, Content, List as ListQuery, Payloads, Validity, WhatIf}
 use Rattle.serde_json.specs.Data.{Data, Items}
@@ -281,12 +280,13 @@ abbrev pub holder_and_number : Subject → Result (List ℕ × ℕ) Fault
 holder_and_number subject = both fault_order subject.holder subject.number
 
 -- what a grant gives, and to whom
-abbrev pub access_in : Data → Result (List ℕ × (RoleGiven × (Scope × ℕ))) Fault
-access_in d =
-    both fault_order (caller_in (codes "name") d)
+abbrev pub grant_terms_in : Data → Result GrantTerms Fault
+grant_terms_in d =
+    mapped (λ p. record { to = p.0; role = p.1.0; scope = p.1.1.0; until = p.1.1.1 })
+    (both fault_order (caller_in (codes "name") d)
     (both fault_order (member_in as_role Role (codes "role") d)
     (both fault_order (member_in (as_scope (role_at d)) Role (codes "scope") d)
-    (day_in (codes "until") d)))
+    (day_in (codes "until") d))))
 
 abbrev pub request_in : Action → Subject → Data → Result RequestTerms Fault
 request_in AskRegister subject d =
@@ -300,8 +300,7 @@ request_in AskTransfer subject d =
 request_in AskReclaim subject d =
     mapped (λ p. request (CommandRequest (Reclaim p.0 p.1))) (holder_and_prefix subject d)
 request_in AskGrant subject d =
-    mapped (λ p. request (CommandRequest (Grant p.0 p.1.0 p.1.1.0 p.1.1.1.0 p.1.1.1.1)))
-    (both fault_order subject.holder (access_in d))
+    mapped (λ p. request (CommandRequest (Grant p.0 p.1))) (both fault_order subject.holder (grant_terms_in d))
 request_in AskRevoke subject d =
     mapped (λ p. request (CommandRequest (Revoke p.0 p.1))) (holder_and_number subject)
 request_in AskCreate subject d =

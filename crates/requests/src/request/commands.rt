@@ -4,7 +4,7 @@ ghost use Rattle.std.specs.Prelude.{◌≡◌, IfOk};
 ghost use Rattle.serde_json.specs.Data.{null};
 ghost use Rattle.serde_json.specs.View.{view};
 ghost use Rattle.json_values.specs.Parts.{mapped};
-ghost use Rattle.requests.specs.steps.RequestReading.{access_in, holder_and_number, holder_and_prefix, request_in, request_terms};
+ghost use Rattle.requests.specs.steps.RequestReading.{grant_terms_in, holder_and_number, holder_and_prefix, request_in, request_terms};
 
 use super::entries::maxes_in;
 use super::fault::{Fault, Read};
@@ -14,7 +14,7 @@ use crate::action::Action;
 use crate::member_names::{GIVER, NAME, TAKER, UNTIL};
 use addr::{Day, Name, Prefix};
 use json_values::both;
-use registry::{AuthTerms, Command, Query, Request, Role, Scope};
+use registry::{AuthTerms, Command, GrantTerms, Query, Request};
 use serde_json::Value;
 use std::alloc::Global;
 
@@ -74,24 +74,24 @@ pub(crate) fn reclaim_in(subject: Subject, value: &Value) -> Result<Request, Fau
 }
 
 /// What a grant gives, and to whom.
-fn access_in(value: &Value) -> Result<(Name, (Role, (Scope, Day))), Fault>
-    ensures { result ≡ access_in (view value.now) }
+fn grant_terms_in(value: &Value) -> Result<GrantTerms, Fault>
+    ensures { result ≡ grant_terms_in (view value.now) }
 {
     let access = both(role_in(value), both(scope_in(value), day_in(value, UNTIL)));
-    both(caller_in(value, NAME), access)
+    let (to, (role, (scope, until))) = both(caller_in(value, NAME), access)?;
+    Ok(GrantTerms {
+        to,
+        role,
+        scope,
+        until,
+    })
 }
 
 pub(crate) fn grant_in(subject: Subject, value: &Value) -> Result<Request, Fault>
     ensures { mapped request_terms result ≡ request_in Action.Grant subject (view value.now) }
 {
-    let (holder, (name, (role, (scope, until)))) = both(subject.holder, access_in(value))?;
-    Ok(Request::Command(Command::Grant {
-        holder,
-        name,
-        role,
-        scope,
-        until,
-    }))
+    let (holder, terms) = both(subject.holder, grant_terms_in(value))?;
+    Ok(Request::Command(Command::Grant { holder, terms }))
 }
 
 pub(crate) fn revoke_in(subject: Subject) -> Result<Request, Fault>

@@ -4,7 +4,7 @@ use Rattle.registry.specs.declared.limits.TheConstants.{MOST_GRANTS, LAST_NUMBER
 use Rattle.registry.specs.declared.command.Command.TheVariants.{Grant}
 use Rattle.registry.specs.declared.grant.Granted.{Granted}
 use Rattle.registry.specs.Answer.{IsAccepted, IsMadeIfAny}
-use Rattle.registry.specs.Terms.{grant_terms, grants_made}
+use Rattle.registry.specs.Terms.{numbered_grant, grant_terms, grants_made}
 use Rattle.policy.proofs.CarryGrants.{carries-grant}
 use Rattle.policy.proofs.granting.grant.Goals as goal
 
@@ -21,13 +21,12 @@ returns-clause-answer c history legal are =
     let today = c.number.ensures.value in
     let last = c.number-2.ensures.value in
     let in_time : a.day ≤ t.until = grind (arith, nat_tests) in
-    let new = λ (k : ℕ). let g : Granted = record { number = k + 1; caller = t.caller; role = t.role; scope = t.scope; until = t.until } in g in
-    subst (IsAccepted a.charter.now history a.day a.caller.now (Grant h t.caller t.role t.scope t.until)) (sym c.change_of.ensures) (record {
+    subst (IsAccepted a.charter.now history a.day a.caller.now (Grant h t)) (sym c.change_of.ensures) (record {
       after = _;
       leaves = ((sym (c.is_steward.ensures history h are.grants) ∙ c.in_ok-require.ensures, (counted.0, (in_time, ((few, below), tt)))), refl);
       numbered = ap (λ (g : Granted). Some g.number) c.numbered-grant.ensures
           ∙ ap (λ n. Some (n + 1)) counted.1;
-      carries = carries-grant history a.day a.caller.now h t.caller t.role t.scope t.until _ counted.0 (c.numbered-grant.ensures ∙ ap new counted.1);
+      carries = carries-grant history a.day a.caller.now h t _ counted.0 (c.numbered-grant.ensures ∙ ap (λ n. numbered_grant t (n + 1)) counted.1);
       sparing = (tt, tt);
       of_command = (refl, tt);
     })
