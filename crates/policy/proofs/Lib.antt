@@ -7,3 +7,4 @@ pub mod AmendLemmas
 pub mod Growth
 pub mod Imports
 pub mod Hypothetical
+pub mod Parts

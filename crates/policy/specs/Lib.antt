@@ -1,1 +1,2 @@
+pub mod PartOfRows
 pub mod steps

@@ -1,20 +1,22 @@
 //! Parts of rules, each a test of the rows.
 
-ghost use Rattle.std.specs.Prelude.{◌≡◌, ℕ, ◌<◌, ◌==◌, ◌&&◌, not, length, List, true, false, ◌↔◌, IsTrue, Some, ◌≤◌, option_copied, option_map, IfOk, MatchResult};
+ghost use Rattle.std.specs.Prelude.{◌≡◌, ℕ, ◌+◌, ◌<◌, ◌==◌, ◌&&◌, nat_le, not, length, List, true, false, ◌↔◌, IsTrue, Some, ◌≤◌, option_copied, option_map, IfOk, MatchResult};
 ghost use Rattle.std.specs.List.{list_all, list_any};
 ghost use Rattle.registry.specs.declared.limits.TheConstants.{MOST_GRANTS, MOST_AUTHORIZATIONS, LAST_NUMBER};
-ghost use Rattle.addr.specs.Spans.{span_covers};
+ghost use Rattle.addr.specs.Address.{Address};
+ghost use Rattle.addr.specs.Spans.{span_covers, spans_have};
 ghost use Rattle.charters.specs.declared.charter.Charter.{Charter as CharterValue};
 ghost use Rattle.registry.specs.History.{History, is_registered};
 ghost use Rattle.registry.specs.Resources.{HoldsPrefix};
-ghost use Rattle.registry.specs.Terms.{grant_terms, HoldsEntries, OfActive, are_shared, gives_some, is_entry, row_terms, share_vrp};
+ghost use Rattle.registry.specs.Terms.{grant_terms, HoldsEntries, are_shared, gives_some, is_entry, row_terms, share_vrp};
 ghost use Rattle.registry.specs.RoaPrefixes.{with_maxes};
 ghost use Rattle.registry.specs.declared.authorization.ImportRow.{ImportRow as ImportRowValue};
 ghost use Rattle.registry.specs.Import.{has_terms, IsPresent};
 ghost use Rattle.registry.specs.Permission.{has_access, is_permitted_terms};
 ghost use Rattle.registry.specs.Answer.{AnswersNumber, OfRows};
 ghost use Rattle.registry.specs.Verdict.{is_steward, HasAccessTo};
-ghost use Rattle.registry.specs.Rows.{rows_of, rows_if_any, RowsOf, RowsIfAny, grants_if_any, auths_if_any};
+ghost use Rattle.registry.specs.Rows.{Rows, rows_of, rows_if_any, RowsOf, RowsIfAny, grants_if_any, auths_if_any};
+ghost use Rattle.policy.specs.PartOfRows.{AreInRuns};
 
 use crate::{Access, Auth, AuthTerms, Charter, Granted, HolderRows, LAST_NUMBER, Rule};
 use addr::{Asn, Day, Holdings, Name, Prefix};
@@ -132,9 +134,13 @@ pub(crate) fn holds(rows: &HolderRows, prefix: &Prefix) -> bool
     rows.holdings.holds(prefix)
 }
 
-/// Whether every address of the entries is held by the holder of the rows.
+/// Whether every address of the entries is held by the holder of the rows. Of its addresses these
+/// may be a part, if all of the entries are there whenever the holder has them.
 pub(crate) fn holds_entries(rows: &HolderRows, entries: &[RoaPrefix]) -> bool
-    ensures { (history : History) (h : List ℕ) → RowsOf history h (rows_of rows.now)
+    ensures { (history : History) (h : List ℕ) (whole : Rows) → RowsOf history h whole
+        → ((a : Address) → spans_have rows.now.holdings a ≡ true
+        → spans_have whole.holdings a ≡ true)
+        → (AreInRuns whole.holdings entries.now → AreInRuns rows.now.holdings entries.now)
         → (IsTrue result ↔ HoldsEntries history h entries.now) }
 {
     // For the proof alone: the runs are maximal, so one run covers a prefix that is held.
@@ -208,21 +214,10 @@ pub(crate) fn is_among(grants: &[Granted], number: u32) -> bool
 }
 
 /// Whether some authorization gives the AS with some entry of the list.
-fn some_gives(auths: &[Auth], asn: Asn, entries: &[RoaPrefix]) -> bool
+pub(crate) fn some_gives(auths: &[Auth], asn: Asn, entries: &[RoaPrefix]) -> bool
     ensures { result ≡ list_any (λ y. gives_some y asn entries.now) auths.now }
 {
     auths.iter().any(|auth| auth.gives_some(asn, entries))
-}
-
-/// Whether an active authorization gives the AS of the terms with some entry of theirs.
-pub(crate) fn gives_terms(rows: &HolderRows, terms: &AuthTerms) -> bool
-    ensures { (history : History) (h : List ℕ) → RowsOf history h (rows_of rows.now)
-        → ((result ≡ false)
-        ↔ OfActive history h
-        (λ active.
-        list_any (λ y. gives_some y terms.now.asn terms.now.entries) active ≡ false)) }
-{
-    some_gives(&rows.auths, terms.asn, terms.entries.as_slice())
 }
 
 /// Whether some authorization has the terms.
@@ -251,13 +246,11 @@ pub(crate) fn has_room_for_grant(grants: &[Granted], made: u32) -> bool
     grants.len() < MOST_GRANTS && made < LAST_NUMBER
 }
 
-/// Whether the holder has as many active authorizations as it may have.
-pub(crate) fn is_full(rows: &HolderRows) -> bool
-    ensures { (history : History) (h : List ℕ) → RowsOf history h (rows_of rows.now)
-        → ((result ≡ false)
-        ↔ OfActive history h (λ active. length active < MOST_AUTHORIZATIONS)) }
+/// Whether these authorizations and so many others are as many as a holder may have.
+pub(crate) fn is_full(auths: &[Auth], others: u32) -> bool
+    ensures { result ≡ nat_le MOST_AUTHORIZATIONS (length auths.now + others) }
 {
-    rows.auths.len() >= MOST_AUTHORIZATIONS
+    auths.len() + others as usize >= MOST_AUTHORIZATIONS
 }
 
 /// Whether some entry has this prefix and maxLength.

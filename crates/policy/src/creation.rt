@@ -1,21 +1,25 @@
 //! Creating an authorization.
 
-ghost use Rattle.std.specs.Prelude.{◌≡◌, ℕ, ◌<◌, ◌↔◌, true, false, IsTrue, List, Some, option_copied, MatchResult, IfOk, OnOk};
+ghost use Rattle.std.specs.Prelude.{◌≡◌, ℕ, ◌<◌, ◌↔◌, Bool, true, false, IsTrue, List, [], ◌∷◌, Some, option_copied, MatchResult, IfOk, OnOk};
 ghost use Rattle.charters.specs.declared.charter.Charter.{Charter as CharterValue};
 ghost use Rattle.registry.specs.declared.change.Edit.{Edit};
+ghost use Rattle.registry.specs.declared.authorization.Auth.{Auth as AuthValue};
 ghost use Rattle.registry.specs.declared.command.Command.{Command};
+ghost use Rattle.registry.specs.declared.command.Proposed.{Proposed};
 ghost use Rattle.registry.specs.declared.limits.TheConstants.{LAST_NUMBER};
 ghost use Rattle.registry.specs.History.{History};
 ghost use Rattle.registry.specs.RoaPrefixes.{AreInNumber};
-ghost use Rattle.registry.specs.Rows.{rows_of, rows_if_any, grants_if_any, edited, RowsOf};
+ghost use Rattle.registry.specs.Rows.{Rows, rows_of, rows_if_any, grants_if_any, edited, RowsOf};
 ghost use Rattle.registry.specs.Answer.{AnswersCreate, IsAnswer, OfRows};
 ghost use Rattle.registry.specs.Edits.{HasEditsOf, IsOfTerms};
 ghost use Rattle.registry.specs.Terms.{numbered_terms};
 ghost use Rattle.registry.specs.Verdict.{IsLegal, Verdict};
+ghost use Rattle.policy.specs.PartOfRows.{IsPartFor};
 ghost use Rattle.policy.specs.steps.Creation.{IsCreated};
+ghost use Rattle.policy.specs.steps.HypotheticalChange.{OfPart};
 ghost use Rattle.policy.specs.steps.Part.{Judged};
 
-use crate::admission::{are_dates, gives_terms, holds_entries, is_full, require, require_access};
+use crate::admission::{are_dates, holds_entries, is_full, require, require_access, some_gives};
 use crate::part::change_of;
 use crate::{
     Access, Answers, Auth, AuthTerms, Change, Edit, Granted, HolderRows, LAST_NUMBER, Refusal, Rule,
@@ -79,21 +83,25 @@ pub(crate) fn create(
     Ok(change_of(holder, Edit::Create(auth)))
 }
 
-/// What the rules of a create of the terms read of these rows, beside the grants.
-fn answers_of(rows: &HolderRows, terms: &AuthTerms) -> Answers
-    ensures { (history : History) (h : List ℕ) → RowsOf history h (rows_of rows.now)
+/// What the rules of a create of the terms read of these rows, beside the grants, if they leave out
+/// so many authorizations.
+fn answers_of(rows: &HolderRows, left_out: u32, terms: &AuthTerms) -> Answers
+    ensures { (history : History) (h : List ℕ) (keep : AuthValue → Bool) (whole : Rows)
+        → RowsOf history h whole
+        → IsPartFor (Proposed.Create terms.now ∷ []) 0 left_out keep whole (rows_of rows.now)
         → AnswersCreate history h terms.now rows.now.grants.items result }
 {
+    let entries = terms.entries.as_slice();
     Answers {
         created: rows.created,
-        holds: holds_entries(rows, terms.entries.as_slice()),
-        gives: gives_terms(rows, terms),
-        is_full: is_full(rows),
+        holds: holds_entries(rows, entries),
+        gives: some_gives(&rows.auths, terms.asn, entries),
+        is_full: is_full(&rows.auths, left_out),
         taken: false,
     }
 }
 
-/// Like `answers_of`, also if there are no rows.
+/// Like `answers_of`, for all rows of the holder, also if there are none.
 pub(crate) fn create_answers(rows: Option<&HolderRows>, terms: &AuthTerms) -> Answers
     ensures { (charter : CharterValue) → OfRows charter (rows_if_any (option_copied rows.entry))
         (λ history h. AnswersCreate history h terms.now
@@ -102,7 +110,7 @@ pub(crate) fn create_answers(rows: Option<&HolderRows>, terms: &AuthTerms) -> An
     // For the proof: its contract says that there is an entry, so a holder of the terms has rows.
     let _entries = terms.entries.as_slice();
     match rows {
-        Some(rows) => answers_of(rows, terms),
+        Some(rows) => answers_of(rows, 0, terms),
         None => Answers::NONE,
     }
 }
@@ -117,8 +125,10 @@ fn put(rows: &mut HolderRows, auth: &Auth) -> Result<(), AllocError>
 }
 
 /// Puts the authorization that a create of the terms makes among the rows, unless a rule denies it.
+/// The rows may leave out so many authorizations that the rules do not look for.
 pub(crate) fn create_in(
     rows: &mut HolderRows,
+    left_out: u32,
     day: Day,
     caller: &Name,
     terms: &AuthTerms,
@@ -126,12 +136,13 @@ pub(crate) fn create_in(
     ensures rows { IfOk result
         (λ x. rows_of rows.new ≡ edited (Edit.Create x) (rows_of rows.old)) }
     ensures terms { IfOk result (IsOfTerms terms.now) }
-    ensures judged { (charter : CharterValue) → OfRows charter (Some (rows_of rows.old))
-        (λ history h. Judged (IsCreated charter history h day caller.now terms.now)
+    ensures number { IfOk result (λ _. AreInNumber terms.now.entries) }
+    ensures judged { OfPart (Proposed.Create terms.now ∷ []) 0 left_out (rows_of rows.old)
+        (λ charter history h _ _. Judged (IsCreated charter history h day caller.now terms.now)
         (λ rule. Verdict charter history day caller.now (Command.Create h terms.now) (Some rule))
         result) }
 {
-    let answers = answers_of(rows, terms);
+    let answers = answers_of(rows, left_out, terms);
     let number = new_number(&rows.grants, answers, day, caller, terms)?;
     let auth = terms.numbered(number)?;
     put(rows, &auth)?;

@@ -21,4 +21,4 @@ pub use registry::{
     RoaPrefixes, Role, Rule, Scope, View, laws,
 };
 pub use sight::{see, see_all};
-pub use what_if::suppose;
+pub use what_if::{suppose, suppose_on};

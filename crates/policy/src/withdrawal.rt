@@ -1,14 +1,16 @@
 //! Withdrawing an authorization.
 
-ghost use Rattle.std.specs.Prelude.{◌≡◌, ℕ, List, Some, option_copied, MatchResult, IfOk};
+ghost use Rattle.std.specs.Prelude.{◌≡◌, ℕ, List, [], ◌∷◌, Some, option_copied, MatchResult, IfOk};
 ghost use Rattle.registry.specs.declared.change.Edit.{Edit};
 ghost use Rattle.charters.specs.declared.charter.Charter.{Charter as CharterValue};
 ghost use Rattle.registry.specs.declared.command.Command.{Command};
+ghost use Rattle.registry.specs.declared.command.Proposed.{Proposed};
 ghost use Rattle.registry.specs.History.{History};
 ghost use Rattle.registry.specs.Rows.{rows_of, edited};
-ghost use Rattle.registry.specs.Answer.{AnswersNumber, IsAccepted, OfRows};
+ghost use Rattle.registry.specs.Answer.{AnswersNumber, IsAccepted};
 ghost use Rattle.registry.specs.Edits.{HasEditsOf};
 ghost use Rattle.registry.specs.Verdict.{IsLegal, Verdict};
+ghost use Rattle.policy.specs.steps.HypotheticalChange.{OfPart};
 ghost use Rattle.policy.specs.steps.Withdrawal.{IsWithdrawn};
 
 use crate::admission::{found_with_access, require_access};
@@ -65,7 +67,8 @@ fn take_away(rows: &mut HolderRows, number: u32)
     rows.auths.retain(|auth| auth.number != number);
 }
 
-/// Removes the authorization of the number from the rows, unless a rule denies it.
+/// Removes the authorization of the number from the rows, unless a rule denies it. The rows may
+/// leave out authorizations of other numbers.
 pub(crate) fn withdraw_from(
     rows: &mut HolderRows,
     day: Day,
@@ -74,8 +77,9 @@ pub(crate) fn withdraw_from(
 ) -> Result<(), Rule>
     ensures rows { IfOk result
         (λ _. rows_of rows.new ≡ edited (Edit.Withdraw number) (rows_of rows.old)) }
-    ensures judged { (charter : CharterValue) → OfRows charter (Some (rows_of rows.old))
-        (λ history h. MatchResult result
+    ensures judged { (left_out : ℕ)
+        → OfPart (Proposed.Withdraw number ∷ []) 0 left_out (rows_of rows.old)
+        (λ charter history h _ _. MatchResult result
         (λ _. IsWithdrawn charter history h day caller.now number)
         (λ rule. Verdict charter history day caller.now (Command.Withdraw h number) (Some rule))) }
 {

@@ -43,7 +43,7 @@ fn import_row(
     if is_present(rows, day, caller, &terms) {
         return Ok(());
     }
-    let auth = create_in(rows, day, caller, &terms)?;
+    let auth = create_in(rows, 0, day, caller, &terms)?;
     auths.push(auth)?;
     Ok(())
 }

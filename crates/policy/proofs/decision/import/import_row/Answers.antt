@@ -1,12 +1,14 @@
-use Rattle.std.proofs.Common.{inr, sym, ◌∙◌, Some, Err}
+use Rattle.std.proofs.Common.{inr, true, sym, ◌∙◌, Some, Err}
 use Rattle.std.proofs.lemmas.Bool.{false≢true}
 use Rattle.std.proofs.lemmas.Result.{err_from_is_err_and}
 use Rattle.registry.specs.declared.rule.Refusal.{Refusal}
 use Rattle.registry.specs.declared.rule.Refusal.TheVariants.{Denied, Memory}
 use Rattle.registry.specs.declared.rule.Rule.{Rule}
 use Rattle.registry.specs.Import.{JudgesRow, row_command}
+use Rattle.registry.specs.Rows.{rows_of}
 use Rattle.registry.specs.Verdict.{Verdict}
 use Rattle.policy.specs.steps.Part.{IsRefusedBy}
+use Rattle.policy.proofs.Parts.{whole-part}
 use Rattle.policy.proofs.decision.import.import_row.Goals as goal
 
 -- another fact of the rule that denies
@@ -17,7 +19,8 @@ refused_by Memory to refused = tt
 pub returns-in_err-auth-clause-judged : goal.returns-in_err-auth-clause-judged
 returns-in_err-auth-clause-judged c charter history h legal are =
     let refused = err_from_is_err_and c.from_residual-in_err-auth.result c.from_residual-in_err-auth.ensures.1 in
-    let judged = rw c.in_ok-terms.ensures at c.in_err-auth.ensures.judged charter history h legal are in
+    let rows = rows_of c.args.rows.now in
+    let judged = rw c.in_ok-terms.ensures at c.in_err-auth.ensures.judged charter history h (λ _. true) rows legal are (whole-part _ 0 rows) in
     let a = c.args in
     rw (refused.1, refused.2) (refused_by
     {P = λ rule. Verdict charter history a.day a.caller.now (row_command h a.row.now) (Some rule)}
@@ -28,10 +31,11 @@ returns-in_err-auth-clause-judged c charter history h legal are =
 
 pub returns-clause-judged : goal.returns-clause-judged
 returns-clause-judged c charter history h legal are =
+    let rows = rows_of c.args.rows.now in
     inr (record {
       auth = c.in_ok-auth.auth;
       absent = λ present. false≢true (sym c.if-is_present.false ∙ (c.is_present.ensures c.args.row.now c.in_ok-terms.ensures history h are.1).1 present);
-      created = rw c.in_ok-terms.ensures at c.in_ok-auth.ensures.judged charter history h legal are;
+      created = rw c.in_ok-terms.ensures at c.in_ok-auth.ensures.judged charter history h (λ _. true) rows legal are (whole-part _ 0 rows);
       made_one = rw c.in_ok-push.was at c.push.ensures.items;
       put = c.in_ok-auth.ensures.rows;
     })
