@@ -28,7 +28,7 @@ ghost use Rattle.transactions.specs.Queries.{IsAskedOnce, IsClean, IsReadyToAsk,
 use crate::rise::rise;
 use addr::{Name, Prefix, Span};
 use moving::shows_old_schema;
-use registry::{Charter, Granted};
+use registry::{Charter, Granted, RoaPrefixes};
 use slurm::MOST_ENTRIES;
 use sqlite::{Alter, Connection, Row, Transaction};
 use std::alloc::Global;
@@ -37,7 +37,7 @@ use tables::{
     Claim, EntryRow, ExceptionRow, FromRow, OfHolder, Registered, SELECT_ALL_AUTHS,
     SELECT_ALL_CLAIMS, SELECT_ALL_ENTRIES, SELECT_ALL_EXCEPTIONS, SELECT_ALL_GRANTS,
     SELECT_ALL_HOLDERS, SELECT_ALL_OPERATORS, SELECT_ALL_PREFIXES, SELECT_ALL_SPANS, SELECT_SCHEMA,
-    group_entries, shows_schema,
+    first_entries, shows_schema,
 };
 use transactions::{StoreFault, ask_inside, read_all};
 
@@ -333,7 +333,8 @@ fn read_unused<S: Alter>(tx: &mut Transaction<'_, S>) -> Result<(), StoreFault>
     Ok(())
 }
 
-/// Checks that claims and entries, both in order, make authorizations.
+/// Checks that claims and entries, both in order, make authorizations. It keeps the entries of one
+/// claim at a time, since this takes most of the memory of an opening.
 fn check_auths(
     alloc: Global,
     claims: &[OfHolder<Claim>],
@@ -343,9 +344,18 @@ fn check_auths(
     ensures schema { result ≡ Err StoreFault.Schema
         → AllApart (holder_entry claim_entry) claims.now → ¬ MakeAuths claims.now entries.now }
 {
-    match group_entries(alloc, claims, entries)? {
-        Some(_) => Ok(()),
-        None => Err(StoreFault::Schema),
+    let mut rest = entries;
+    for claim in claims {
+        let found = first_entries(alloc, claim, rest)?;
+        (_, rest) = rest.split_at(found.len());
+        let Some(_) = RoaPrefixes::in_order(found) else {
+            return Err(StoreFault::Schema);
+        };
+    }
+    if rest.is_empty() {
+        Ok(())
+    } else {
+        Err(StoreFault::Schema)
     }
 }
 

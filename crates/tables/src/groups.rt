@@ -46,7 +46,7 @@ pub trait HasEntries<R>: Copy {
 }
 
 /// The entries that the first rows are, up to the first row that is no entry of the claim.
-fn first_entries<R, C: HasEntries<R>>(
+pub fn first_entries<R, C: HasEntries<R>>(
     alloc: Global,
     claim: &C,
     rows: &[R],

@@ -43,7 +43,7 @@ pub use granted::{
     CREATE_GRANTED, DELETE_GRANT, INSERT_GRANT, SELECT_ALL_GRANTS, SELECT_HOLDER_GRANTS,
     granted_values, scope_first,
 };
-pub use groups::{Group, HasEntries, OfHolder, group_entries};
+pub use groups::{Group, HasEntries, OfHolder, first_entries, group_entries};
 pub use holder::{
     CREATE_HOLDER, Counters, INSERT_HOLDER, Registered, SELECT_ALL_HOLDERS, SELECT_COUNTERS,
     UPDATE_CREATED, UPDATE_GRANTED,

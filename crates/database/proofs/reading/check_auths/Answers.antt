@@ -1,17 +1,33 @@
-use Rattle.std.proofs.Common.{OnOk, sym, subst}
-use Rattle.database.specs.steps.Opened.{MakeAuths}
-use Rattle.database.proofs.Grouped.{makes, none_made}
+use Rattle.std.proofs.Common.{arith, ap, length, sym, ◌∙◌}
+use Rattle.tables.proofs.Grouping.{no_more_than}
+use Rattle.database.proofs.Grouped.{entries_unfit, named_entry_if, no_row_left, row_left, walks_from, walks_on}
 use Rattle.database.proofs.reading.check_auths.Goals as goal
-use Rattle.database.proofs.reading.check_auths.Goals.{in-Some, in-None}
 
-pub returns-clause-found : goal.returns-clause-found
-returns-clause-found c = elim c.match-branch-2.branch [
-  | in-Some w ↦ subst (λ r. OnOk r (MakeAuths c.args.claims.now c.args.entries.now)) (sym w.result-is) (makes c.args.claims.now c.args.entries.now w.in-Some.field-0.items (rw w.in-Some.is at c.in_ok-group_entries.ensures))
-  | in-None w ↦ subst (λ r. OnOk r (MakeAuths c.args.claims.now c.args.entries.now)) (sym w.result-is) tt
-]
+pub loop-claim-init : goal.loop-claim-init
+loop-claim-init c = walks_from c.args.claims.now c.args.entries.now
 
-pub returns-clause-schema : goal.returns-clause-schema
-returns-clause-schema c = elim c.match-branch-2.branch [
-  | in-Some w ↦ λ is. let ok = w.result-is in absurd cc
-  | in-None w ↦ λ is apart. none_made c.args.claims.now c.args.entries.now apart (rw w.in-None.is at c.in_ok-group_entries.ensures)
-]
+pub split_at-requires : goal.split_at-requires
+split_at-requires c =
+    let first = ap length c.in_ok-found.ensures in
+    let less = no_more_than (named_entry_if c.claim-item.result) c.loop-claim.rest.now in
+    omega (arith, first, less, c.len.ensures, c.in_ok-found.found.ok.0)
+
+pub returns-in_default-clause-schema : goal.returns-in_default-clause-schema
+returns-in_default-clause-schema c is =
+    entries_unfit c.args.claims.now c.args.entries.now c.loop-claim.claim-index c.loop-claim.rest.now c.loop-claim.invariant c.claim-item.result
+    c.loop-claim-test.true c.claim-item.is c.in_ok-found.found.items c.in_ok-found.ensures c.in_default.ensures
+
+pub loop-claim-preserved : goal.loop-claim-preserved
+loop-claim-preserved c =
+    walks_on c.args.claims.now c.args.entries.now c.loop-claim.claim-index c.loop-claim.rest.now c.loop-claim.invariant c.claim-item.result
+    c.loop-claim-test.true c.claim-item.is c.in_ok-found.found.items c.in_ok-found.ensures
+    c.in-Some.field-0 c.len.result c.split_at.result.1.now c.in-Some.ensures.0 c.in-Some.ensures.1
+    (omega (arith, c.len.ensures, c.in_ok-found.found.ok.0)) c.split_at.ensures.back
+
+pub returns-then-is_empty-clause-found : goal.returns-then-is_empty-clause-found
+returns-then-is_empty-clause-found c =
+    no_row_left c.args.claims.now c.args.entries.now c.loop-claim.claim-index c.loop-claim.rest.now c.loop-claim.invariant (omega (arith, c.loop-claim-test.false)) (sym c.is_empty.ensures ∙ c.if-is_empty.true)
+
+pub returns-else-is_empty-clause-schema : goal.returns-else-is_empty-clause-schema
+returns-else-is_empty-clause-schema c is =
+    row_left c.args.claims.now c.args.entries.now c.loop-claim.claim-index c.loop-claim.rest.now c.loop-claim.invariant (omega (arith, c.loop-claim-test.false)) (sym c.is_empty.ensures ∙ c.if-is_empty.false)
