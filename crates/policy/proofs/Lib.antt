@@ -4,6 +4,7 @@ pub mod CarryTerms
 pub mod RowsLemmas
 pub mod HeldEntries
 pub mod AmendLemmas
+pub mod AuthorizedRows
 pub mod Growth
 pub mod Imports
 pub mod Hypothetical

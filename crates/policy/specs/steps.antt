@@ -1,6 +1,7 @@
 -- The steps of the code, which no public contract cites.
 pub mod Admission
 pub mod Amendment
+pub mod Authorized
 pub mod Creation
 pub mod Exchange
 pub mod Part

@@ -8,10 +8,8 @@ ghost use Rattle.addr.specs.Spans.{span_covers, spans_have};
 ghost use Rattle.charters.specs.declared.charter.Charter.{Charter as CharterValue};
 ghost use Rattle.registry.specs.History.{History, is_registered};
 ghost use Rattle.registry.specs.Resources.{HoldsPrefix};
-ghost use Rattle.registry.specs.Terms.{grant_terms, HoldsEntries, are_shared, gives_some, is_entry, row_terms, share_vrp};
+ghost use Rattle.registry.specs.Terms.{grant_terms, HoldsEntries, are_shared, gives_some, is_entry, share_vrp};
 ghost use Rattle.registry.specs.RoaPrefixes.{with_maxes};
-ghost use Rattle.registry.specs.declared.authorization.ImportRow.{ImportRow as ImportRowValue};
-ghost use Rattle.registry.specs.Import.{has_terms, IsPresent};
 ghost use Rattle.registry.specs.Permission.{has_access, is_permitted_terms};
 ghost use Rattle.registry.specs.Answer.{AnswersNumber, OfRows};
 ghost use Rattle.registry.specs.Verdict.{is_steward, HasAccessTo};
@@ -218,25 +216,6 @@ pub(crate) fn some_gives(auths: &[Auth], asn: Asn, entries: &[RoaPrefix]) -> boo
     ensures { result ≡ list_any (λ y. gives_some y asn entries.now) auths.now }
 {
     auths.iter().any(|auth| auth.gives_some(asn, entries))
-}
-
-/// Whether some authorization has the terms.
-fn some_has_terms(auths: &[Auth], terms: &AuthTerms) -> bool
-    ensures { result ≡ list_any (has_terms terms.now) auths.now }
-{
-    auths.iter().any(|auth| auth.has_terms(terms))
-}
-
-/// Whether a row of an import that has these terms is already authorized: the caller may alter
-/// authorizations of each prefix of the terms, and an active one has them.
-pub(crate) fn is_present(rows: &HolderRows, day: Day, caller: &Name, terms: &AuthTerms) -> bool
-    ensures { (row : ImportRowValue) → terms.now ≡ row_terms row
-        → (history : History) (h : List ℕ) → RowsOf history h (rows_of rows.now)
-        → (IsTrue result ↔ IsPresent day caller.now h history row) }
-{
-    let entries = terms.entries.as_slice();
-    are_permitted(&rows.grants, day, caller, Access::Alter, entries)
-        && some_has_terms(&rows.auths, terms)
 }
 
 /// Whether another grant may be made: neither too many are unrevoked, nor were too many made.

@@ -4,6 +4,7 @@
 
 mod admission;
 mod amendment;
+mod authorized;
 mod creation;
 mod decision;
 mod delegation;

@@ -9,3 +9,4 @@ pub mod Amended
 pub mod Entries
 pub mod EntryVrps
 pub mod Rising
+pub mod RowOrder

@@ -3,7 +3,6 @@
 ghost use Rattle.std.specs.Prelude.{◌≡◌, ◌≤◌, ◌↔◌, ◌&&◌, true, IsTrue, IsSome, IfSome, IfOk, option_copied};
 ghost use Rattle.std.specs.List.{list_any};
 ghost use Rattle.addr.specs.Address.{FitsMaxLength};
-ghost use Rattle.registry.specs.Import.{are_same, has_terms};
 ghost use Rattle.registry.specs.Terms.{numbered_terms, row_terms, terms_overlap, is_entry, are_shared, gives_some, with_terms, IsVrpOf, IsVrpOfEntry};
 ghost use Rattle.registry.specs.Verdict.{auth_of_number, fit_lengths, maxes_fit};
 
@@ -67,20 +66,6 @@ fn has_entry(entries: &[RoaPrefix], prefix: &Prefix, max: u8) -> bool
     entries.iter().any(|entry| entry.is(prefix, max))
 }
 
-/// Whether each entry of the one list has the prefix and maxLength of the entry in its place in the
-/// other.
-fn are_same(entries: &[RoaPrefix], others: &[RoaPrefix]) -> bool
-    ensures { result ≡ are_same entries.now others.now }
-{
-    match (entries, others) {
-        ([], []) => true,
-        ([entry, entries @ ..], [other, others @ ..]) => {
-            other.is(&entry.prefix, entry.max) && are_same(entries, others)
-        }
-        _ => false,
-    }
-}
-
 /// Whether some prefix and maxLength is an entry of both lists.
 fn are_shared(entries: &[RoaPrefix], others: &[RoaPrefix]) -> bool
     ensures { result ≡ are_shared entries.now others.now }
@@ -115,7 +100,7 @@ pub struct AuthTerms {
 }
 
 /// A row of an import, which authorizes an AS for one prefix.
-#[derive(Clone, Copy, Debug, PartialEq, Eq)]
+#[derive(Clone, Copy, Debug, PartialEq, Eq, PartialOrd, Ord)]
 pub struct ImportRow {
     pub asn: Asn,
     pub prefix: Prefix,
@@ -174,16 +159,6 @@ impl Auth {
         ensures { result ≡ gives_some self.now asn entries.now }
     {
         self.asn.0 == asn.0 && are_shared(self.entries.as_slice(), entries)
-    }
-
-    /// Whether the authorization has these terms: the AS, the entries and both days.
-    pub fn has_terms(&self, terms: &AuthTerms) -> bool
-        ensures { result ≡ has_terms terms.now self.now }
-    {
-        self.asn.0 == terms.asn.0
-            && are_same(terms.entries.as_slice(), self.entries.as_slice())
-            && self.from.number() == terms.from.number()
-            && self.until.number() == terms.until.number()
     }
 
     /// Whether there are as many maxLengths as entries, each one for the prefix of the entry in its

@@ -11,39 +11,45 @@ ghost use Rattle.registry.specs.Verdict.{IsLegal};
 ghost use Rattle.registry.specs.Rows.{rows_of, rows_if_any, RowsIfAny};
 ghost use Rattle.registry.specs.Answer.{OfRows, IsAnswer};
 ghost use Rattle.registry.specs.Edits.{HasEditsOf, IsImportOf};
+ghost use Rattle.policy.specs.steps.Authorized.{AreAuthorized};
 ghost use Rattle.policy.specs.steps.Import.{AnswersImport, IsRowDone, MakesOfRow};
 ghost use Rattle.policy.specs.steps.Part.{Judged};
 
 use super::{Basis, Holder};
-use crate::admission::is_present;
+use crate::authorized::{authorize, authorized_rows, is_present};
 use crate::creation::create_in;
 use crate::part::{change_of, refusal_at};
 use crate::{Auth, Change, Edit, HolderRows, ImportRow, Refusal, Rule};
 use addr::{Day, Name};
 use std::alloc::Global;
+use std::collections::BTreeSet;
 
 /// Puts the authorization that a row makes among the rows of the holder, and among those made. A
-/// row that is already authorized makes none.
+/// row that is already authorized makes none. `authorized` are the rows of which this is so.
 fn import_row(
     alloc: Global,
     rows: &mut HolderRows,
+    authorized: &mut BTreeSet<ImportRow>,
     auths: &mut Vec<Auth>,
     day: Day,
     caller: &Name,
     row: &ImportRow,
 ) -> Result<(), Refusal>
+    requires { AreAuthorized authorized.old rows.old.auths.items }
     ensures judged { (charter : CharterValue) → OfRows charter (Some (rows_of rows.old))
         (λ history h. Judged
         (λ _. IsRowDone charter history h day caller.now row.now auths.old auths.new
         (rows_of rows.old) (rows_of rows.new))
         (λ rule. JudgesRow charter day caller.now h history row.now (Err rule)) result) }
     ensures terms { OnOk result (MakesOfRow row.now auths.old.items auths.new.items) }
+    ensures authorized { OnOk result (AreAuthorized authorized.new rows.new.auths.items) }
 {
-    let terms = row.terms(alloc)?;
-    if is_present(rows, day, caller, &terms) {
+    if is_present(rows, authorized, day, caller, row) {
         return Ok(());
     }
+    let terms = row.terms(alloc)?;
     let auth = create_in(rows, 0, day, caller, &terms)?;
+    authorize(authorized, row)?;
     auths.push(auth)?;
     Ok(())
 }
@@ -61,11 +67,20 @@ fn import_rows(
     ensures shape { IfOk result (IsImportOf listed.now) }
 {
     let mut rows = before.clone()?;
+    let mut authorized = authorized_rows(alloc, &rows.auths)?;
     let mut auths = Vec::new(alloc);
     let mut place = 0;
     for row in listed {
         place += 1;
-        let done = import_row(alloc, &mut rows, &mut auths, day, caller, row);
+        let done = import_row(
+            alloc,
+            &mut rows,
+            &mut authorized,
+            &mut auths,
+            day,
+            caller,
+            row,
+        );
         if let Err(refusal) = done {
             return Err(refusal_at(refusal, place));
         }

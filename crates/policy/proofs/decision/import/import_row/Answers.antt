@@ -25,7 +25,7 @@ returns-in_err-auth-clause-judged c charter history h legal are =
     rw (refused.1, refused.2) (refused_by
     {P = λ rule. Verdict charter history a.day a.caller.now (row_command h a.row.now) (Some rule)}
     {Q = λ rule. JudgesRow charter a.day a.caller.now h history a.row.now (Err rule)} _ (λ rule denied. (
-      λ present. false≢true (sym c.if-is_present.false ∙ (c.is_present.ensures c.args.row.now c.in_ok-terms.ensures history h are.1).1 present),
+      λ present. false≢true (sym c.if-is_present.false ∙ (c.is_present.ensures history h are.1).1 present),
       denied,
     )) judged)
 
@@ -34,7 +34,7 @@ returns-clause-judged c charter history h legal are =
     let rows = rows_of c.args.rows.now in
     inr (record {
       auth = c.in_ok-auth.auth;
-      absent = λ present. false≢true (sym c.if-is_present.false ∙ (c.is_present.ensures c.args.row.now c.in_ok-terms.ensures history h are.1).1 present);
+      absent = λ present. false≢true (sym c.if-is_present.false ∙ (c.is_present.ensures history h are.1).1 present);
       created = rw c.in_ok-terms.ensures at c.in_ok-auth.ensures.judged charter history h (λ _. true) rows legal are (whole-part _ 0 rows);
       made_one = rw c.in_ok-push.was at c.push.ensures.items;
       put = c.in_ok-auth.ensures.rows;

@@ -1,6 +1,7 @@
 use Rattle.std.proofs.Common.{◌+◌, Some, refl, sym, ap, subst, arith}
 use Rattle.std.proofs.lemmas.List.{take_all}
 use Rattle.registry.specs.Rows.{Rows, rows_of, RowsIfAny}
+use Rattle.policy.specs.steps.Authorized.{AreAuthorized}
 use Rattle.policy.proofs.Imports.{of_rows-none, of_rows-more, so_far-start, so_far-more, so_far-denied}
 use Rattle.policy.proofs.decision.import.import_rows.Goals as goal
 
@@ -9,6 +10,7 @@ loop-row-init c = (
   refl,
   λ charter history h legal are. so_far-start charter history h c.args.day c.args.caller.now c.new-auths.result (rows_of c.in_ok-rows.rows) c.new-auths.ensures.items legal are,
   of_rows-none c.args.listed.now c.new-auths.result.items c.new-auths.ensures.items,
+  subst (AreAuthorized c.in_ok-authorized.authorized) c.deref.ensures.value c.in_ok-authorized.ensures,
 )
 
 pub returns-in-Err-clause-answer : goal.returns-in-Err-clause-answer
@@ -29,6 +31,7 @@ loop-row-preserved c = (
       so_far-more charter history h c.args.day c.args.caller.now c.args.listed.now c.loop-row.row-index c.row-item.result
       c.loop-row.auths c.import_row-done.new.auths (rows_of c.loop-row.rows) (rows_of c.import_row-done.new.rows) so_far (omega arith) c.row-item.is done,
   of_rows-more c.args.listed.now c.loop-row.row-index c.row-item.result c.loop-row.auths.items c.import_row-done.new.auths.items (omega arith) c.row-item.is c.loop-row.invariant.2 c.in_default.ensures.terms,
+  c.in_default.ensures.authorized,
 )
 
 pub returns-clause-answer : goal.returns-clause-answer

@@ -3,6 +3,7 @@ use Rattle.charters.specs.declared.charter.Charter.{Charter}
 use Rattle.registry.specs.Answer.{OfRows}
 use Rattle.registry.specs.Edits.{AreOfRows}
 use Rattle.registry.specs.Rows.{rows_of}
+use Rattle.policy.specs.steps.Authorized.{AreAuthorized}
 use Rattle.policy.proofs.Imports.{SoFar}
 use Rattle.policy.proofs.decision.import.import_rows.Given as goal
 
@@ -12,3 +13,4 @@ invariant-loop-row l =
     × ((charter : Charter) → OfRows charter (Some (rows_of l.initial.rows))
     (λ history h. SoFar charter history h l.day l.caller (take l.row-index l.listed) l.auths (rows_of l.rows)))
     × AreOfRows l.listed l.auths.items
+    × AreAuthorized l.authorized l.rows.auths.items

@@ -1,0 +1,6 @@
+use Rattle.std.proofs.Common.{take}
+use Rattle.policy.specs.steps.Authorized.{AreAuthorized}
+use Rattle.policy.proofs.authorized.authorized_rows.Given as goal
+
+abbrev pub invariant-loop-auth : goal.invariant-loop-auth
+invariant-loop-auth l = AreAuthorized l.rows (take l.auth-index l.auths)
