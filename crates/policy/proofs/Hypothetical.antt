@@ -17,7 +17,7 @@ use Rattle.registry.specs.Rows.{Rows, RowsIfAny}
 use Rattle.registry.specs.Terms.{grant_terms}
 use Rattle.registry.specs.Verdict.{IsLegal, Verdict}
 use Rattle.registry.specs.Answer.{IsHypotheticalAnswer}
-use Rattle.policy.specs.PartOfRows.{IsPartFor, not_kept}
+use Rattle.registry.specs.PartOfRows.{IsPartFor, not_kept}
 use Rattle.policy.specs.steps.Part.{IsRefusedBy, refusal_at}
 use Rattle.policy.specs.steps.HypotheticalChange.{IsHypotheticalChange}
 use Rattle.policy.proofs.Growth.{Grows-more, Grows-denied}

@@ -21,7 +21,7 @@ use Rattle.registry.specs.RoaPrefixes.{AreInNumber}
 use Rattle.registry.specs.Terms.{gives_some, is_entry}
 use Rattle.registry.specs.Verdict.{auth_of_number}
 use Rattle.registry.proofs.Entries.{both_share}
-use Rattle.policy.specs.PartOfRows.{IsPartFor, IsPartIfAny, looks_for, not_kept}
+use Rattle.registry.specs.PartOfRows.{IsPartFor, IsPartIfAny, looks_for, not_kept}
 
 -- ---- filters
 

@@ -1,2 +1,2 @@
-pub mod PartOfRows
+pub mod PartAnswer
 pub mod steps

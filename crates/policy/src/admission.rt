@@ -14,7 +14,7 @@ ghost use Rattle.registry.specs.Permission.{has_access, is_permitted_terms};
 ghost use Rattle.registry.specs.Answer.{AnswersNumber, OfRows};
 ghost use Rattle.registry.specs.Verdict.{is_steward, HasAccessTo};
 ghost use Rattle.registry.specs.Rows.{Rows, rows_of, rows_if_any, RowsOf, RowsIfAny, grants_if_any, auths_if_any};
-ghost use Rattle.policy.specs.PartOfRows.{AreInRuns};
+ghost use Rattle.registry.specs.PartOfRows.{AreInRuns};
 
 use crate::{Access, Auth, AuthTerms, Charter, Granted, HolderRows, LAST_NUMBER, Rule};
 use addr::{Asn, Day, Holdings, Name, Prefix};

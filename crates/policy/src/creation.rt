@@ -14,7 +14,7 @@ ghost use Rattle.registry.specs.Answer.{AnswersCreate, IsAnswer, OfRows};
 ghost use Rattle.registry.specs.Edits.{HasEditsOf, IsOfTerms};
 ghost use Rattle.registry.specs.Terms.{numbered_terms};
 ghost use Rattle.registry.specs.Verdict.{IsLegal, Verdict};
-ghost use Rattle.policy.specs.PartOfRows.{IsPartFor};
+ghost use Rattle.registry.specs.PartOfRows.{IsPartFor};
 ghost use Rattle.policy.specs.steps.Creation.{IsCreated};
 ghost use Rattle.policy.specs.steps.HypotheticalChange.{OfPart};
 ghost use Rattle.policy.specs.steps.Part.{Judged};

@@ -9,7 +9,8 @@ ghost use Rattle.registry.specs.Rows.{Rows, RowsIfAny, rows_of, rows_if_any, aut
 ghost use Rattle.registry.specs.Verdict.{IsLegal, Verdict};
 ghost use Rattle.registry.specs.HypotheticalHistory.{hypothetical_command};
 ghost use Rattle.registry.specs.Answer.{OfRows, IsHypotheticalAnswer};
-ghost use Rattle.policy.specs.PartOfRows.{IsPartIfAny, IsPartAnswer};
+ghost use Rattle.registry.specs.PartOfRows.{IsPartIfAny};
+ghost use Rattle.policy.specs.PartAnswer.{IsPartAnswer};
 ghost use Rattle.policy.specs.steps.Part.{Judged};
 ghost use Rattle.policy.specs.steps.HypotheticalChange.{IsHypotheticalChange, OfPart};
 

@@ -12,6 +12,7 @@ pub mod Rows
 pub mod RowsOfAll
 pub mod Values
 pub mod Answer
+pub mod PartOfRows
 pub mod Edits
 pub mod DailyVrps
 pub mod Unregistered

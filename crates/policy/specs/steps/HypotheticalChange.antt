@@ -7,7 +7,7 @@ use Rattle.registry.specs.History.{History}
 use Rattle.registry.specs.HypotheticalHistory.{hypothetical_command}
 use Rattle.registry.specs.Rows.{Rows, RowsIfAny}
 use Rattle.registry.specs.Verdict.{IsLegal, Verdict}
-use Rattle.policy.specs.PartOfRows.{IsPartFor, not_kept}
+use Rattle.registry.specs.PartOfRows.{IsPartFor, not_kept}
 
 -- a fact of each legal history and holder whose rows these are a part of, whichever authorizations it keeps
 abbrev pub OfPart :

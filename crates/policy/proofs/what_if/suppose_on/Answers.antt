@@ -2,7 +2,7 @@ use Rattle.std.proofs.Common.{◌≡◌, ℕ, ◌+◌, true, List, length, Some,
 use Rattle.std.proofs.lemmas.List.{take_all}
 use Rattle.registry.specs.declared.command.Proposed.{Proposed}
 use Rattle.registry.specs.Rows.{Rows, rows_of, RowsIfAny, RowsOf}
-use Rattle.policy.specs.PartOfRows.{IsPartFor}
+use Rattle.registry.specs.PartOfRows.{IsPartFor}
 use Rattle.policy.proofs.Hypothetical.{so_far-start, so_far-more, so_far-denied, denied-unregistered}
 use Rattle.policy.proofs.Parts.{no-part, some-part, whole-part}
 use Rattle.policy.proofs.what_if.suppose_on.Goals as goal

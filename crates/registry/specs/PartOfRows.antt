@@ -1,28 +1,27 @@
 -- A part of the rows of a holder that is enough to judge hypothetical changes on.
-use Rattle.std.specs.Prelude.{◌≡◌, ℕ, ◌+◌, ◌<◌, ◌==◌, ⊤, Bool, true, not, List, length, filter, Option, Some, None, Result, Ok, Err, ◌⊎◌, Contains}
+use Rattle.std.specs.Prelude.{◌≡◌, ℕ, ◌+◌, ◌<◌, ◌==◌, ⊤, Bool, true, not, List, length, filter, Option, Some, None, ◌⊎◌, Contains}
+use Rattle.std.specs.List.{list_any}
 use Rattle.addr.specs.Address.{Address}
 use Rattle.addr.specs.Spans.{spans_have}
 use Rattle.addr.specs.declared.span.Span.{Span}
-use Rattle.charters.specs.declared.charter.Charter.{Charter}
 use Rattle.registry.specs.declared.authorization.Auth.{Auth}
 use Rattle.registry.specs.declared.authorization.AuthTerms.{AuthTerms}
 use Rattle.registry.specs.declared.authorization.RoaPrefix.{RoaPrefix}
 use Rattle.registry.specs.declared.command.Proposed.{Proposed}
 use Rattle.registry.specs.declared.command.Proposed.TheVariants.{Create, Withdraw}
 use Rattle.registry.specs.declared.limits.TheConstants.{MOST_AUTHORIZATIONS}
-use Rattle.registry.specs.declared.rows.HolderRows.{HolderRows}
-use Rattle.registry.specs.declared.rule.Refusal.{Refusal}
-use Rattle.registry.specs.Answer.{IsHypotheticalAnswer}
-use Rattle.registry.specs.History.{History}
-use Rattle.registry.specs.HypotheticalHistory.{HypotheticalHistory}
 use Rattle.registry.specs.Rows.{Rows}
-use Rattle.registry.specs.Terms.{entries_have, gives_some, AreActive}
+use Rattle.registry.specs.Terms.{entries_have, gives_some}
 
 -- the rules of the change look for this authorization: of a create one that gives the AS with an entry of the terms, and of
 -- a withdrawal the one of the number
 abbrev pub looks_for : Proposed → Auth → Bool
 looks_for (Create terms) x = gives_some x terms.asn terms.entries
 looks_for (Withdraw n) x = x.number == n
+
+-- the rules of some of the changes do
+abbrev pub looked_for : List Proposed → Auth → Bool
+looked_for changes x = list_any (λ change. looks_for change x) changes
 
 -- the authorizations that the test does not keep
 abbrev pub not_kept : (Auth → Bool) → List Auth → List Auth
@@ -56,25 +55,3 @@ IsPartIfAny changes left_out keep None (Some part) = ⊥
 IsPartIfAny changes left_out keep (Some whole) None = ⊥
 IsPartIfAny changes left_out keep (Some whole) (Some part) =
     IsPartFor changes (length changes) left_out keep whole part
-
--- Of the active authorizations of the holder, those that a test keeps are the one list before and the other after; all
--- others stay.
-pub record ExchangesAuths (before after : History) (h : List ℕ) (ended begun : List Auth) : Type 0 where
-  pub keep : Auth → Bool
-  pub active_before : List Auth
-  pub active_after : List Auth
-  pub are_before : AreActive before h active_before
-  pub are_after : AreActive after h active_after
-  pub kept_before : ended ≡ filter keep active_before
-  pub kept_after : begun ≡ filter keep active_after
-  pub others : not_kept keep active_after ≡ not_kept keep active_before
-
--- The authorizations are those that the changes would leave in the place of these; or the rule denies the first change that
--- would be denied, and the row is its place.
-abbrev pub IsPartAnswer :
-    Charter → History → List ℕ → ℕ → List ℕ → List Proposed → List Auth → Result HolderRows Refusal → Type 0
-IsPartAnswer charter history holder day caller changes auths (Err refusal) =
-    IsHypotheticalAnswer charter history holder day caller changes (Err refusal)
-IsPartAnswer charter history holder day caller changes auths (Ok part) =
-    (after : History) × HypotheticalHistory charter day caller holder history changes after
-    × ExchangesAuths history after holder auths part.auths.items
