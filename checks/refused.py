@@ -8,8 +8,8 @@ is a desk, or a file that the next `init` goes on with, or one of which it says 
 in the files that are left: those of before where a response was 503 and the program went on to its end. A kind of run
 is over when the program made fewer allocations fifty times in a row. Those of opening are tried with the first request
 on a desk, and after the first 2,000 each STEPth (1 if not given), and of all from one on each 37th after the first
-hundred. From where a request is answered each is tried. Ends with 1 where something else is found, or nothing was
-refused.
+hundred. From where the desk was opened, and then prepares its day, each is tried. Ends with 1 where something else is
+found, or nothing was refused.
 """
 import json
 import os

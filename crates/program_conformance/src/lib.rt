@@ -11,6 +11,8 @@ mod database_files;
 #[cfg(test)]
 mod lines_on_faults;
 #[cfg(test)]
+mod prepared_day;
+#[cfg(test)]
 mod responses;
 #[cfg(test)]
 mod script_faults;

@@ -26,10 +26,20 @@ impl Read for Reset {
 /// Connections on which a client sends a text, or which it has reset, and takes so many bytes.
 /// Accepting a further one fails.
 #[derive(Drop)]
-struct Clients<'a> {
+pub(crate) struct Clients<'a> {
     clients: &'a [(Option<&'a str>, usize)],
     accepted: usize,
     has_failed: bool,
+}
+
+impl<'a> Clients<'a> {
+    pub(crate) fn new(clients: &'a [(Option<&'a str>, usize)]) -> Clients<'a> {
+        Clients {
+            clients,
+            accepted: 0,
+            has_failed: false,
+        }
+    }
 }
 
 impl Connections for Clients<'_> {
@@ -118,11 +128,7 @@ fn answer_clients<W: Write>(
     (clients, count): (&[(Option<&str>, usize)], u32),
     errors: &mut W,
 ) -> Result<(), Failed> {
-    let mut connections = Clients {
-        clients,
-        accepted: 0,
-        has_failed: false,
-    };
+    let mut connections = Clients::new(clients);
     let mut log = Printed::new(errors);
     let day = first_of_march(test);
     answer_each(alloc, None, &mut connections, count, desk, day, &mut log)

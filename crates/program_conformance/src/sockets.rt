@@ -130,6 +130,16 @@ impl Late<'_> {
 impl AnswerConnections for Late<'_> {
     ghost answers = { λ _ _ _ _. ⊤ };
 
+    ghost tells_ready = { λ _ _ _. ⊤ };
+
+    ghost readied = { λ _ _ _. ⊤ };
+
+    fn is_ready(&self, _day: Day) -> bool {
+        false
+    }
+
+    fn make_ready(&mut self, _day: Day) {}
+
     fn answer<S: Source, D: Drain>(
         &mut self,
         _alloc: Global,

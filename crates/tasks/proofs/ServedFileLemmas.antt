@@ -10,33 +10,52 @@ use Rattle.sqlite_trees.specs.View.{IsClean}
 use Rattle.sqlite_wal.specs.Recovery.{Image}
 use Rattle.charters.specs.declared.charter.Charter.{Charter}
 use Rattle.registry.specs.History.{History}
+use Rattle.registry.specs.Values.{HistoryFits}
 use Rattle.desk.specs.Desk.{charter_of, HoldsHistory, IsOnCleanDisk, Represents}
 use Rattle.desk.specs.declared.desk.Desk.{Desk}
 use Rattle.desk_files.specs.DeskFiles.{KeepDesk, ResumesFiles}
 use Rattle.desk_files.specs.Refused.{KeepsUnclosed}
 use Rattle.tasks.specs.Connections.{Accepts}
 use Rattle.tasks.specs.ServedFiles.{IfClosed, IfNotBind, IfNotOpened, IfUnclosed, IsCauseOf, IsLateCause, KeepsFiles, LeavesStore, LeavesUnclosed}
-use Rattle.tasks.specs.ServedHistories.{KeepServed, LeavesInTurn}
-use Rattle.tasks.specs.Serving.{AnswersInTurn, Serves, Transcript}
+use Rattle.tasks.specs.ServedHistories.{ConnectionLeads, KeepServed, LeavesInTurn}
+use Rattle.tasks.specs.Serving.{AnswersInTurn, ServesInTurn, Transcript}
 use Rattle.tasks.specs.declared.serve_desk.ServeFault.{ServeFault}
 use Rattle.tasks.specs.declared.serve_desk.ServeFault.TheVariants.{Accept, Bind, Close, Open}
 use Rattle.tasks.proofs.HistoryLemmas.{each_leads}
 
+-- the files hold what the desk holds
+abbrev pub HoldWhatIsHeld : {D : Type 0} (g : Ghosts D) → Desk (FileStore D g) → Files D → Type 0
+HoldWhatIsHeld g desk files =
+    (history : History) → HoldsHistory over_files desk history → KeepDesk g (charter_of desk) history files
+
+-- so they hold the history to which connections led, where the desk has that
+keep_led : {D : Type 0} (g : Ghosts D) (charter : Charter) (day : ℕ) (passed : List Transcript) (before after : History)
+    (desk : Desk (FileStore D g)) (files : Files D) → HoldWhatIsHeld g desk files → Represents over_files charter desk after
+    → (HistoryFits before → HistoryFits after) → AnswersInTurn (ConnectionLeads charter day) before passed after
+    → KeepServed g charter day passed before files
+keep_led g charter day passed before after desk files keeps is fits leads = record {
+  after = after;
+  leads = leads;
+  legal = is.legal;
+  fits = fits;
+  kept = subst (λ held. KeepDesk g held after files) is.chartered (keeps after is.rows);
+}
+
 -- the files of a desk that answered connections hold a history to which these lead
 pub keep_served : {D : Type 0} (g : Ghosts D) (day : ℕ) (passed : List Transcript) (old new : Desk (FileStore D g)) (files : Files D)
-    → AnswersInTurn (Serves over_files day) old passed new → IsOnCleanDisk over_files new
-    → ((history : History) → HoldsHistory over_files new history → KeepDesk g (charter_of new) history files)
+    → ServesInTurn over_files day old passed new → IsOnCleanDisk over_files new → HoldWhatIsHeld g new files
     → (charter : Charter) (history : History) → Represents over_files charter old history
     → KeepServed g charter day passed history files
-keep_served g day passed old new files in_turn clean keeps charter history is =
-    let it = each_leads over_files charter day passed old new history in_turn clean is in
-    record {
-      after = it.0;
-      leads = it.3;
-      legal = it.1.legal;
-      fits = it.2;
-      kept = subst (λ held. KeepDesk g held it.0 files) it.1.chartered (keeps it.0 it.1.rows);
-    }
+keep_served g day passed old new files served clean keeps charter history is =
+    let (after, represents, fits, leads) = each_leads over_files charter day passed old new history served clean is in
+    keep_led g charter day passed history after new files keeps represents fits leads
+
+-- and those of a desk that had none, the history that it has
+pub keep_unserved : {D : Type 0} (g : Ghosts D) (day : ℕ) (desk : Desk (FileStore D g)) (files : Files D)
+    → HoldWhatIsHeld g desk files → (charter : Charter) (history : History) → Represents over_files charter desk history
+    → KeepServed g charter day [] history files
+keep_unserved g day desk files keeps charter history is =
+    keep_led g charter day [] history history desk files keeps is (λ fits. fits) refl
 
 -- with the desk that was opened in files, what connections make of it is what they make of the files
 pub keeps_files : {D : Type 0} (g : Ghosts D) (image : Image) (day : ℕ) (passed : List Transcript) (desk : Desk (FileStore D g))

@@ -1,5 +1,5 @@
 -- A desk over several connections.
-use Rattle.std.proofs.Common.{◌≡◌, ◌∙◌, ℕ, Bool, true, List, [], ◌∷◌, ◌++◌, Result, Ok, Err, IfOk, ap, refl, subst, sym}
+use Rattle.std.proofs.Common.{◌≡◌, ◌∙◌, ℕ, Bool, true, false, List, [], ◌∷◌, ◌++◌, Result, Ok, Err, IfOk, ap, refl, subst, sym}
 use Rattle.std.specs.Result.{result_err}
 use Rattle.sqlite.specs.Store.{Ghosts}
 use Rattle.desk.specs.declared.desk.Desk.{Desk}
@@ -12,7 +12,7 @@ use Rattle.web.specs.ScriptAnswer.{IsLaterDesk}
 use Rattle.web.specs.declared.http.Extent.{Extent}
 use Rattle.web.specs.declared.http.WebFault.{WebFault}
 use Rattle.web.specs.declared.http.WebFault.TheVariants.{Read, Write}
-use Rattle.tasks.specs.Serving.{AnswersInTurn, Serves, Transcript}
+use Rattle.tasks.specs.Serving.{AnswersInTurn, AnswersReady, IsReadied, ReadiesAgain, Serves, ServesInTurn, TellsReady, Transcript}
 
 module _ {S : Type 0} (g : Ghosts S) where
   same_desk : (desk : Desk S) → IsLaterDesk g desk desk
@@ -21,11 +21,29 @@ module _ {S : Type 0} (g : Ghosts S) where
   later_still : (old state new : Desk S) → IsLaterDesk g old state → IsLaterDesk g state new → IsLaterDesk g old new
   later_still old state new first then = record { charter = then.charter ∙ first.charter; limit = then.limit ∙ first.limit; clean = λ c. first.clean (then.clean c) }
 
-  pub later-in-turn : (day : ℕ) (old new : Desk S) (passed : List Transcript) → AnswersInTurn (Serves g day) old passed new
+  -- a desk that was made ready
+  later_readied : (day : ℕ) (old new : Desk S) → IsReadied g day old new → IsLaterDesk g old new
+  later_readied day old new (done, prepared) =
+      record { charter = prepared.read.charter; limit = prepared.read.limit; clean = prepared.read.clean }
+
+  pub later_again : (day : ℕ) (old new : Desk S) (was_ready : Bool) → ReadiesAgain (IsReadied g day) was_ready old new → IsLaterDesk g old new
+  later_again day old new true readied = later_readied day old new readied
+  later_again day old new false same = subst (IsLaterDesk g old) (sym same) (same_desk old)
+
+  -- what a connection makes of a desk that is made ready again then
+  abbrev pub ServesReady : ℕ → Desk S → Transcript → Desk S → Type 0
+  ServesReady day = AnswersReady (Serves g day) (TellsReady day) (IsReadied g day)
+
+  pub later_in_turn : (day : ℕ) (old new : Desk S) (passed : List Transcript) → AnswersInTurn (ServesReady day) old passed new
       → IsLaterDesk g old new
-  later-in-turn day old new [] same = subst (IsLaterDesk g old) (sym same) (same_desk old)
-  later-in-turn day old new (first ∷ later) (next, served, in_turn) =
-      later_still old next new served.0 (later-in-turn day next new later in_turn)
+  later_in_turn day old new [] same = subst (IsLaterDesk g old) (sym same) (same_desk old)
+  later_in_turn day old new (first ∷ later) (next, (mid, served, was_ready, tells, again), in_turn) =
+      later_still old mid new served.0
+      (later_still mid next new (later_again day mid next was_ready again) (later_in_turn day next new later in_turn))
+
+  pub later_served : (day : ℕ) (old new : Desk S) (passed : List Transcript) → ServesInTurn g day old passed new → IsLaterDesk g old new
+  later_served day old new passed (ready, readied, in_turn) =
+      later_still old ready new (later_readied day old ready readied) (later_in_turn day ready new passed in_turn)
 
   -- what `serve_request` says of a connection on which nothing has passed before
   pub serves : (result : Result Extent WebFault) (day : ℕ) (old new : Desk S) (given_old given_new : List ℕ)

@@ -1,6 +1,7 @@
 -- What `roadesk serve` does on its connections, and the line that it prints for one that failed.
-use Rattle.std.specs.Prelude.{◌≡◌, ℕ, suc, Bool, true, List, [], ◌∷◌, ◌++◌, Option, Some, None, codes, decimal}
+use Rattle.std.specs.Prelude.{◌≡◌, ◌≢◌, ℕ, suc, Bool, true, false, List, [], ◌∷◌, ◌++◌, MatchBool, Option, Some, None, codes, decimal}
 use Rattle.sqlite.specs.Store.{Ghosts}
+use Rattle.desk.specs.Prepared.{day_of, IsPrepared}
 use Rattle.desk.specs.declared.desk.Desk.{Desk}
 use Rattle.http_messages.specs.Input.{IsOver}
 use Rattle.requests.specs.HttpRequests.{IsCutShort}
@@ -38,6 +39,28 @@ Serves g day old passed new =
     IsLaterDesk g old new
     × EndsWith (λ before bytes text after. RespondsTo g before day bytes text after) old passed passed.fault new
 
+-- ---- ready for a day
+
+-- the desk was made ready for the day: the day is kept, or it could not be read and none is
+abbrev pub IsReadied : {S : Type 0} → Ghosts S → ℕ → Desk S → Desk S → Type 0
+IsReadied g day old new = (done : Bool) × IsPrepared g day done old new
+
+-- the desk is ready for the day if it keeps it, and this is said of it
+abbrev pub TellsReady : {S : Type 0} → ℕ → Desk S → Bool → Type 0
+TellsReady day desk said =
+    (said ≡ true → day_of desk.kept ≡ Some day) × (said ≡ false → day_of desk.kept ≢ Some day)
+
+-- what was ready before a connection is made ready again after it, and what was not is left alone
+abbrev pub ReadiesAgain : {State : Type 0} → (State → State → Type 0) → Bool → State → State → Type 0
+ReadiesAgain readied was_ready old new = MatchBool was_ready (readied old new) (new ≡ old)
+
+-- a connection is answered, and then the state is made ready again
+abbrev pub AnswersReady : {State : Type 0} → (State → Transcript → State → Type 0) → (State → Bool → Type 0)
+    → (State → State → Type 0) → State → Transcript → State → Type 0
+AnswersReady {State} answers tells_ready readied old passed new =
+    (next : State) × answers old passed next
+    × (was_ready : Bool) × tells_ready old was_ready × ReadiesAgain readied was_ready next new
+
 -- ---- one after the other
 
 -- each is answered on the state that the one before it left
@@ -45,6 +68,12 @@ abbrev pub AnswersInTurn : {State : Type 0} → (State → Transcript → State 
 AnswersInTurn answers old [] new = new ≡ old
 AnswersInTurn {State} answers old (passed ∷ later) new =
     (next : State) × answers old passed next × AnswersInTurn answers next later new
+
+-- the desk is made ready for the day, and then answers these connections, each on what the one before it left
+abbrev pub ServesInTurn : {S : Type 0} → Ghosts S → ℕ → Desk S → List Transcript → Desk S → Type 0
+ServesInTurn {S} g day old passed new =
+    (ready : Desk S) × IsReadied g day old ready
+    × AnswersInTurn (AnswersReady (Serves g day) (TellsReady day) (IsReadied g day)) ready passed new
 
 -- the line for the connection of this number, counted from 1, and this fault
 abbrev pub fault_line : ℕ → ℕ → List ℕ

@@ -4,7 +4,7 @@ ghost use Rattle.std.specs.Result.{result_err};
 ghost use Rattle.http_messages.specs.Input.{Gives, IsOver};
 ghost use Rattle.tasks.specs.ConnectionTime.{discard_limit};
 ghost use Rattle.tasks.specs.Connections.{Accepts, Passes};
-ghost use Rattle.tasks.specs.Serving.{Serves, Transcript};
+ghost use Rattle.tasks.specs.Serving.{IsReadied, Serves, TellsReady, Transcript};
 ghost use Rattle.web.specs.declared.http.WebFault.{WebFault as Fault};
 
 use crate::serve::followed::{Beginning, Place, Received, Sent};
@@ -25,6 +25,20 @@ use web::{Device, Drain, Extent, Failed, Source, WebFault, serve_request};
 pub trait AnswerConnections {
     // What may pass on a connection on a day, and which state that leaves.
     ghost answers: { ℕ → Self → Transcript → Self → Type 0 };
+
+    // Whether this may be said of how ready it is for a day.
+    ghost tells_ready: { ℕ → Self → Bool → Type 0 };
+
+    // Which state it leaves to be made ready for a day.
+    ghost readied: { ℕ → Self → Self → Type 0 };
+
+    /// Whether nothing has to be prepared before a question about the day.
+    fn is_ready(&self, day: Day) -> bool
+        ensures { tells_ready day self.now result };
+
+    /// Prepares what questions about the day need, if there is memory for it.
+    fn make_ready(&mut self, day: Day)
+        ensures { readied day self.old self.new };
 
     /// Answers the request of a new connection, and returns how much of it was read. The routes are
     /// those that all connections share, if there was memory for them.
@@ -49,6 +63,18 @@ pub trait AnswerConnections {
 
 impl<A: Alter> AnswerConnections for Desk<A> {
     ghost answers = { Serves A.Store };
+
+    ghost tells_ready = { TellsReady };
+
+    ghost readied = { IsReadied A.Store };
+
+    fn is_ready(&self, day: Day) -> bool {
+        self.kept() == Some(day)
+    }
+
+    fn make_ready(&mut self, day: Day) {
+        let _is_kept = self.prepare(day);
+    }
 
     fn answer<S: Source, D: Drain>(
         &mut self,

@@ -1,4 +1,5 @@
 use Rattle.std.proofs.Common.{◌∙◌, ◌+◌, ◌≤◌, ◌++◌, ◌∷◌, [], ap, arith}
+use Rattle.tasks.specs.Serving.{AnswersReady}
 use Rattle.tasks.proofs.ConnectionLemmas.{accepts-then, in-turn-then, length-then, logs-one}
 use Rattle.tasks.proofs.serve.answer_each.Goals as goal
 
@@ -12,7 +13,9 @@ loop-served-preserved g c =
       passed ++ one ∷ [],
       length-then passed one ∙ ap (λ n. n + 1) counted,
       accepts-then _ _ _ passed (one ∷ []) accepted accepted_one,
-      in-turn-then (g.E.AnswerConnections.answers c.args.day) c.args.engine.now c.loop-served.engine c.answer_next.new.engine
-          passed one in_turn answered,
+      in-turn-then (AnswersReady (g.E.AnswerConnections.answers c.args.day) (g.E.AnswerConnections.tells_ready c.args.day)
+          (g.E.AnswerConnections.readied c.args.day)) c.args.engine.now c.loop-served.engine c.make_ready_again.new.engine
+          passed one in_turn
+          (c.answer_next.new.engine, answered, c.is_ready-was_ready.result, c.is_ready-was_ready.ensures, c.make_ready_again.ensures),
       logs-one _ _ _ _ _ _ c.loop-served.served passed one _ counted fault logged c.log_fault.ensures,
     )

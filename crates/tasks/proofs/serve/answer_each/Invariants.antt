@@ -1,6 +1,6 @@
 use Rattle.std.proofs.Common.{◌≡◌, ◌-◌, ◌≤◌, List, length}
 use Rattle.tasks.specs.Connections.{Accepts, Logs}
-use Rattle.tasks.specs.Serving.{AnswersInTurn, fault_lines, Transcript}
+use Rattle.tasks.specs.Serving.{AnswersInTurn, AnswersReady, fault_lines, Transcript}
 use Rattle.tasks.proofs.serve.answer_each.Given as goal
 
 abbrev pub invariant-loop-served : goal.invariant-loop-served
@@ -8,7 +8,8 @@ invariant-loop-served g l = (l.served ≤ l.fn.count)
     × (g.C.Connections.cannot_listen l.connections ≡ g.C.Connections.cannot_listen l.fn.connections)
     × (passed : List Transcript) × (length passed ≡ l.served)
     × Accepts (g.C.Connections.accepted l.fn.connections) (g.C.Connections.accepted l.connections) passed
-    × AnswersInTurn (g.E.AnswerConnections.answers l.fn.day) l.fn.engine passed l.engine
+    × AnswersInTurn (AnswersReady (g.E.AnswerConnections.answers l.fn.day) (g.E.AnswerConnections.tells_ready l.fn.day)
+    (g.E.AnswerConnections.readied l.fn.day)) l.fn.engine passed l.engine
     × Logs (g.L.Log.has_lost l.fn.log) (g.L.Log.has_lost l.log) (g.L.Log.contents l.fn.log) (g.L.Log.contents l.log)
     (fault_lines 1 passed)
 

@@ -3,7 +3,7 @@ use Rattle.std.proofs.lemmas.Result.{IfErr-weaker}
 use Rattle.sqlite.specs.Files.{image_of}
 use Rattle.tasks.proofs.ConnectionLemmas.{accepts-then, logs-none}
 use Rattle.tasks.proofs.HistoryLemmas.{if_ok_both}
-use Rattle.tasks.proofs.ServedFileLemmas.{if_closed, if_unclosed, keep_served, keeps_files, late_cause, late_not_bind, late_opened, leaves_none, leaves_store, leaves_unclosed}
+use Rattle.tasks.proofs.ServedFileLemmas.{if_closed, if_unclosed, keep_unserved, keeps_files, late_cause, late_not_bind, late_opened, leaves_none, leaves_store, leaves_unclosed}
 use Rattle.tasks.proofs.serve_desk.serve_files.Goals as goal
 
 pub returns-in-Ok-listen-clause-clean : goal.returns-in-Ok-listen-clause-clean
@@ -52,7 +52,7 @@ returns-in-Err-listen-clause-served g c = (
   if_ok_both c.close_desk.result _ _ _ (λ files cleaned keeps clean.
       keeps_files g.D.Disk (image_of g.D.Disk c.args.files) c.args.day [] c.in-Ok.desk files
       (c.in-Ok.ensures.resumed (cleaned clean))
-      (keep_served g.D.Disk c.args.day [] c.in-Ok.desk c.in-Ok.desk files refl (cleaned clean) (keeps clean)))
+      (keep_unserved g.D.Disk c.args.day c.in-Ok.desk files (keeps clean)))
       c.close_desk.ensures.clean c.close_desk.ensures.kept,
   IfErr-weaker c.close_desk.result _ _ (λ store kept clean.
       leaves_unclosed (image_of g.D.Disk c.args.files) c.args.day [] c.in-Ok.desk store
