@@ -14,7 +14,7 @@ use Rattle.sqlite_trees.proofs.Doubt.{no_doubt}
 use Rattle.sqlite_store.specs.FileStore.{faults, files, is_shielded, recovers, view}
 use Rattle.sqlite_store.specs.declared.store.FileStore.{FileStore}
 use Rattle.sqlite.specs.Closing.{IsCopied}
-use Rattle.sqlite.specs.Files.{file_state, image_of, over_files, Finds, HoldsDatabase, IsOpened}
+use Rattle.sqlite.specs.Files.{FailsToClose, file_state, image_of, over_files, Finds, HoldsDatabase, IsOpened}
 use Rattle.sqlite.specs.Held.{AreDatabases, Held}
 use Rattle.sqlite.specs.Start.{FindsIn}
 use Rattle.sqlite.specs.State.{HasCleanDisk, IsLive}
@@ -30,6 +30,7 @@ use Rattle.desk.specs.Desk.{charter_of, ContinuesHistories, HoldsHistory, IsOnCl
 use Rattle.desk.specs.Resumed.{FindsLeft, HoldHistory, MayBeFound, MayBeLeftInEitherSchema, ResumesHistories}
 use Rattle.desk.specs.declared.desk.Desk.{Desk}
 use Rattle.desk_files.specs.Refused.{KeepsUnclosed}
+use Rattle.desk_files.specs.declared.file.CloseFault.{CloseFault}
 use Rattle.desk_files.specs.DeskFiles.{AreLeftFiles, AreLeftFilesInEitherSchema, AreLeftOfLegal, ContinuesFiles, HoldLeft, IsOver, KeepDesk, KeptLeaves, ResumesFiles, StoppedLeaves}
 
 -- a disk that returned what was written until the close did so before
@@ -60,10 +61,12 @@ closed_keeps g desk conn files history same settled obeyed copied holds =
     }
 
 -- a store that was not closed leaves no more than the desk did
-pub unclosed_keeps : {D : Type 0} {g : Ghosts D} (desk : Desk (FileStore D g)) (conn : Held (FileStore D g)) (last : FileStore D g)
-    → conn ≡ desk.store.connection → IsQuiet view faults recovers is_shielded conn.store last → KeepsUnclosed desk last
-unclosed_keeps desk conn last same quiet = record {
+pub unclosed_keeps : {D : Type 0} {g : Ghosts D} (desk : Desk (FileStore D g)) (conn : Held (FileStore D g))
+    (fault : CloseFault D g) → conn ≡ desk.store.connection → IsQuiet view faults recovers is_shielded conn.store fault.store
+    → (IsClean (view fault.store) → FailsToClose conn fault.store fault.error) → KeepsUnclosed desk fault
+unclosed_keeps desk conn fault same quiet cause = record {
   clean = λ clean. subst (λ h. HasCleanDisk (file_state h)) same (omega (arith, quiet.clean, clean));
+  cause = λ clean. subst (λ h. FailsToClose h fault.store fault.error) same (cause clean);
   left = λ charter history pending left trees may.
       left trees (subst (λ h. (file_state h).may_leave trees) same (quiet.outcomes trees may));
 }

@@ -16,17 +16,19 @@ use Rattle.charters.specs.declared.charter.Charter.{Charter}
 use Rattle.registry.specs.History.{History}
 use Rattle.registry.specs.declared.asked.Asked.{Asked}
 use Rattle.registry.specs.RowsOfAll.{blank_rows, HasRows}
-use Rattle.transactions.specs.Databases.{IsUnused}
+use Rattle.transactions.specs.Databases.{IsNew, IsUnused}
 use Rattle.transactions.specs.declared.fault.StoreFault.{StoreFault}
 use Rattle.database.specs.Opening.{AreMoved}
+use Rattle.store.specs.StoreRows.{connection_state, IfClean}
 use Rattle.store.specs.RefusedOpening.{IsGivenBack, IsNotMade}
 use Rattle.desk.specs.CrashOutcomes.{HoldDesk, LeavesAtMost}
-use Rattle.desk.specs.Desk.{IsOnCleanDisk}
+use Rattle.desk.specs.Desk.{IsOnCleanDisk, store_of}
 use Rattle.desk.specs.Resumed.{MayBeFound, MayBeLeftInEitherSchema, Resumes}
 use Rattle.desk.specs.declared.desk.Desk.{Desk}
 use Rattle.desk.proofs.ResumedLemmas.{left_found}
 use Rattle.desk_files.specs.DeskFiles.{AreLeftFilesInEitherSchema, FilesLeaveAtMost, HoldLeft, IsOver, LeavesNoMore, ResumesFiles, ResumesLeft}
 use Rattle.desk_files.specs.Refused.{KeepsRefused, KeepsRefusedOver, KeepsUnclosed, LeavesUnmade, RefusedDatabase, RefusesNoLeft, RefusesNoLegal}
+use Rattle.desk_files.specs.declared.file.CloseFault.{CloseFault}
 use Rattle.desk_files.specs.declared.file.MakeFault.TheVariants as unmade
 use Rattle.desk_files.specs.declared.file.OpenFault.{OpenFault}
 use Rattle.desk_files.specs.declared.file.OpenFault.TheVariants.{File, Path, Store}
@@ -119,15 +121,20 @@ if_err_both (Err e) P Q R both p q = both e p q
 
 -- the desk was made, and not closed
 pub unmade_closed : {D : Type 0} {g : Ghosts D} (charter : Charter) (conn : Held (FileStore D g)) (desk : Desk (FileStore D g))
-    (store : FileStore D g)
-    → IsUnused (file_state conn) → (IsOnCleanDisk over_files desk → HasCleanDisk (file_state conn))
-    → (IsOnCleanDisk over_files desk → LeavesAtMost over_files charter desk [] []) → KeepsUnclosed desk store
-    → LeavesUnmade charter conn (unmade.Close store)
-unmade_closed charter conn desk store unused cleaned left kept = (
+    (fault : CloseFault D g)
+    → IsUnused (file_state conn)
+    → IfClean over_files (store_of desk) (IsNew charter (connection_state over_files (store_of desk)))
+    → (IsOnCleanDisk over_files desk → HasCleanDisk (file_state conn))
+    → (IsOnCleanDisk over_files desk → LeavesAtMost over_files charter desk [] []) → KeepsUnclosed desk fault
+    → LeavesUnmade charter conn (unmade.Close fault)
+unmade_closed charter conn desk fault unused made cleaned left kept = (
   unused,
   λ clean.
-      let none = kept.clean clean in
-      (cleaned none, kept.left charter [] [] (left none)),
+      let none = kept.clean clean in (
+        cleaned none,
+        record { desk = desk; made = made none; cause = kept.cause clean },
+        kept.left charter [] [] (left none),
+      ),
 )
 
 -- the desk was not made, and its connection was stopped

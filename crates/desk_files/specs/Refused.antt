@@ -9,7 +9,7 @@ use Rattle.sqlite_trees.specs.Tree.{Trees}
 use Rattle.sqlite_trees.specs.View.{IsClean}
 use Rattle.sqlite_store.specs.FileStore.{view}
 use Rattle.sqlite_store.specs.declared.store.FileStore.{FileStore}
-use Rattle.sqlite.specs.Files.{file_state, FailsToOpenFiles, HoldsDatabase, image_of, IsCleanLeft, over_files}
+use Rattle.sqlite.specs.Files.{file_state, image_of, over_files, FailsToClose, FailsToOpenFiles, HoldsDatabase, IsCleanLeft}
 use Rattle.sqlite.specs.Files as sqlite
 use Rattle.sqlite.specs.Held.{Held}
 use Rattle.sqlite.specs.State.{HasCleanDisk}
@@ -20,17 +20,18 @@ use Rattle.charters.specs.declared.charter.Charter.{Charter}
 use Rattle.registry.specs.History.{History}
 use Rattle.registry.specs.declared.asked.Asked.{Asked}
 use Rattle.command_line.specs.declared.fault.ProgramFault.{ProgramFault}
-use Rattle.command_line.specs.declared.fault.ProgramFault.TheVariants.{Database}
 use Rattle.transactions.specs.declared.fault.StoreFault.{StoreFault}
 use Rattle.transactions.specs.declared.fault.StoreFault.TheVariants.{Schema}
-use Rattle.transactions.specs.Databases.{IsUnused}
+use Rattle.transactions.specs.Databases.{IsNew, IsUnused}
 use Rattle.database.specs.Opening.{AreMoved, IsOfAnotherSchema}
+use Rattle.store.specs.StoreRows.{connection_state}
 use Rattle.desk.specs.CrashOutcomes.{HoldDesk, LeavesAtMost}
-use Rattle.desk.specs.Desk.{charter_of, HoldsHistory, IsOnCleanDisk}
+use Rattle.desk.specs.Desk.{charter_of, HoldsHistory, IsOnCleanDisk, store_of}
 use Rattle.desk.specs.declared.desk.Desk.{Desk}
 use Rattle.desk_files.specs.DeskFiles.{AreLeftOfLegal, IsOver, KeepDesk, LeaveLegal, LeavesNoMore}
 use Rattle.desk_files.specs.Faults.{IsFaultOf, IsOfDatabase}
 use Rattle.desk_files.specs.Lives.{StoreLeavesAtMost}
+use Rattle.desk_files.specs.declared.file.CloseFault.{CloseFault}
 use Rattle.desk_files.specs.declared.file.MakeFault.{MakeFault}
 use Rattle.desk_files.specs.declared.file.MakeFault.TheVariants as unmade
 use Rattle.desk_files.specs.declared.file.OpenFault.{OpenFault}
@@ -100,19 +101,22 @@ KeepsRefusedOver {D} {g} image (Store fault now) =
 
 -- ---- not closed
 
--- The desk was not closed, and the store is what is left of it. A crash of the store leaves no more than one of the desk
--- did.
-pub record KeepsUnclosed {D : Type 0} {g : Ghosts D} (desk : Desk (FileStore D g)) (store : FileStore D g) : Type 0 where
-  pub clean : IsClean (view store) → IsOnCleanDisk over_files desk
+-- The desk was not closed, and the store is what is left of it. The error tells why, where the disk returned what was
+-- written: an allocation failed, the disk failed during the close, or a failure had shut the connection before it. A
+-- crash of the store leaves no more than one of the desk did.
+pub record KeepsUnclosed {D : Type 0} {g : Ghosts D} (desk : Desk (FileStore D g)) (fault : CloseFault D g) : Type 0 where
+  pub clean : IsClean (view fault.store) → IsOnCleanDisk over_files desk
+  pub cause : IsClean (view fault.store) → FailsToClose (store_of desk).connection fault.store fault.error
   pub left :
       (charter : Charter) (history : History) (pending : List Asked)
       → LeavesAtMost over_files charter desk history pending
-      → StoreLeavesAtMost over_files charter store history pending
+      → StoreLeavesAtMost over_files charter fault.store history pending
 
 -- The desk was not closed, or it was closed and not opened again in its files.
 abbrev pub RefusesReopen : {D : Type 0} {g : Ghosts D} → Desk (FileStore D g) → OpenFault D g → Type 0
 RefusesReopen {D} {g} desk fault =
-    ((store : FileStore D g) × (fault ≡ File Database (left.Store store)) × KeepsUnclosed desk store)
+    ((closing : CloseFault D g) × (told : ProgramFault) × IsFaultOf closing.error told
+    × (fault ≡ File told (left.Store closing.store)) × KeepsUnclosed desk closing)
     ⊎ ((files : Files D)
     × (AreClean g files.log files.db → (history : History) → HoldsHistory over_files desk history
     → KeepDesk g (charter_of desk) history files)
@@ -120,9 +124,15 @@ RefusesReopen {D} {g} desk fault =
 
 -- ---- not made
 
+-- a desk that was made of the charter was not closed, for the cause that the error tells
+pub record FailsToCloseNew {D : Type 0} {g : Ghosts D} (charter : Charter) (fault : CloseFault D g) : Type 0 where
+  pub desk : Desk (FileStore D g)
+  pub made : IsNew charter (connection_state over_files (store_of desk))
+  pub cause : FailsToClose (store_of desk).connection fault.store fault.error
+
 -- What is left where no desk was made and the disk returned what was written. If the database was refused, whatever a
 -- crash leaves of the files holds trees that it left before, or, of an unused database, those of a desk of the charter
--- with no history. If the desk was made and not closed, a crash of the store leaves that desk.
+-- with no history. If the desk was made and not closed, the error tells why, and a crash of the store leaves that desk.
 abbrev pub LeavesUnmade : {D : Type 0} {g : Ghosts D} → Charter → Held (FileStore D g) → MakeFault D g → Type 0
 LeavesUnmade {D} {g} charter conn (unmade.Database files) =
     AreClean g files.log files.db
@@ -131,6 +141,7 @@ LeavesUnmade {D} {g} charter conn (unmade.Database files) =
     → ∥ ((trees : Trees)
     × ((file_state conn).may_leave trees ⊎ (IsUnused (file_state conn) × HoldDesk charter [] trees))
     × HoldsDatabase image trees) ∥₁)
-LeavesUnmade charter conn (unmade.Close store) =
+LeavesUnmade charter conn (unmade.Close fault) =
     IsUnused (file_state conn)
-    × (IsClean (view store) → HasCleanDisk (file_state conn) × StoreLeavesAtMost over_files charter store [] [])
+    × (IsClean (view fault.store) → HasCleanDisk (file_state conn) × FailsToCloseNew charter fault
+    × StoreLeavesAtMost over_files charter fault.store [] [])

@@ -52,7 +52,15 @@ pub enum MakeFault<D: Disk> {
     /// The database was refused.
     Database(Files<D>),
     /// The desk was made, but its files were not closed.
-    Close(FileStore<D>),
+    Close(CloseFault<D>),
+}
+
+/// Why the files of a desk were not closed. Its store is returned, so that a contract can say what
+/// is left of the desk.
+#[derive(Drop)]
+pub struct CloseFault<D: Disk> {
+    pub error: Error,
+    pub store: FileStore<D>,
 }
 
 /// A connection to the file at the path, which is made if there is none. What is left of files that
@@ -100,12 +108,12 @@ fn connect_files<D: Disk + Drop>(
 {
     match Connection::open_files(alloc, files, options) {
         Ok(conn) => Ok(conn),
-        Err((error, left)) => Err((fault_of_opening(&error), left)),
+        Err((error, left)) => Err((fault_of_sqlite(&error), left)),
     }
 }
 
-/// The program's fault if files could not be opened.
-fn fault_of_opening(error: &Error) -> ProgramFault
+/// The program's fault if files could not be opened or closed.
+pub fn fault_of_sqlite(error: &Error) -> ProgramFault
     ensures told { IsFaultOf error.now result }
     ensures kind { IsOfDatabase result }
 {
@@ -130,7 +138,7 @@ pub fn make_desk<D: Disk + Drop>(
     match Desk::create_or_return(alloc, conn, charter) {
         Ok(desk) => match close_desk(desk) {
             Ok(files) => Ok(files),
-            Err(store) => Err(MakeFault::Close(store)),
+            Err(fault) => Err(MakeFault::Close(fault)),
         },
         Err((_, conn)) => Err(MakeFault::Database(stop_connection(conn))),
     }
@@ -262,9 +270,8 @@ fn open_over<D: Disk + Drop>(
     }
 }
 
-/// Ends the desk, so that its one file holds everything. If that fails, the store is returned, so
-/// that a contract can say what is left of the desk.
-pub fn close_desk<D: Disk + Drop>(desk: Desk<FileStore<D>>) -> Result<Files<D>, FileStore<D>>
+/// Ends the desk, so that its one file holds everything.
+pub fn close_desk<D: Disk + Drop>(desk: Desk<FileStore<D>>) -> Result<Files<D>, CloseFault<D>>
     ensures clean { IfOk result (λ files. AreClean D.Disk files.log files.db
         → IsOnCleanDisk over_files desk) }
     ensures usable { IfOk result (λ files. IsTrue (D.Disk.is_usable files.log)
@@ -279,7 +286,7 @@ pub fn close_desk<D: Disk + Drop>(desk: Desk<FileStore<D>>) -> Result<Files<D>, 
     let _schema = conn.schema();
     match conn.close_files() {
         Ok(files) => Ok(files),
-        Err((_, store)) => Err(store),
+        Err((error, store)) => Err(CloseFault { error, store }),
     }
 }
 

@@ -7,8 +7,8 @@ mod lives;
 mod stopping;
 
 pub use file::{
-    MakeFault, OpenFault, close_desk, connect, files_at, make_desk, open_desk, open_files,
-    stop_connection,
+    CloseFault, MakeFault, OpenFault, close_desk, connect, files_at, make_desk, open_desk,
+    open_files, stop_connection,
 };
 pub use lives::{Lived, live, restart};
 pub use stopping::{reopen, stop};

@@ -10,8 +10,7 @@ ghost use Rattle.desk.specs.Desk.{IsOnCleanDisk, Represents};
 ghost use Rattle.desk_files.specs.DeskFiles.{LeavesFiles};
 ghost use Rattle.desk_files.specs.Refused.{RefusesReopen};
 
-use crate::file::{OpenFault, close_desk, open_files, stop_connection};
-use command_line::ProgramFault;
+use crate::file::{OpenFault, close_desk, fault_of_sqlite, open_files, stop_connection};
 use desk::Desk;
 use sqlite::Leftover;
 use sqlite_disk::{Disk, Files};
@@ -46,6 +45,9 @@ pub fn reopen<D: Disk + Drop>(
 {
     match close_desk(desk) {
         Ok(files) => open_files(alloc, files, options),
-        Err(store) => Err(OpenFault::File(ProgramFault::Database, Leftover::Store(store))),
+        Err(fault) => {
+            let told = fault_of_sqlite(&fault.error);
+            Err(OpenFault::File(told, Leftover::Store(fault.store)))
+        }
     }
 }

@@ -137,8 +137,8 @@ fn serve_parts<S: Alter>(
 fn closes(desk: Desk<FileStore<FileFrom<Unknown>>>) -> bool {
     match close_desk(desk) {
         Ok(_) => true,
-        Err(store) => {
-            drop(store.close());
+        Err(fault) => {
+            drop(fault.store.close());
             false
         }
     }

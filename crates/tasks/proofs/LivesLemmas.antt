@@ -27,12 +27,13 @@ use Rattle.desk_files.proofs.DeskFileLemmas.{kept_leaves_lem, stopped_leaves_lem
 use Rattle.desk_files.proofs.RefusedFileLemmas.{left_in_either_found}
 use Rattle.desk_files.specs.DeskFiles.{FilesLeaveAtMost, LeavesFiles, ResumesLeft}
 use Rattle.desk_files.specs.Refused.{KeepsRefused, RefusesNoLegal}
+use Rattle.desk_files.specs.declared.file.CloseFault.{CloseFault}
 use Rattle.desk_files.specs.declared.file.OpenFault.{OpenFault}
 use Rattle.desk_files.specs.declared.file.OpenFault.TheVariants.{File, Path, Store}
 use Rattle.web.specs.ScriptAnswer.{Standing}
 use Rattle.tasks.specs.Connections.{Accepts, Logs}
 use Rattle.tasks.specs.ServedHistories.{LeavesInTurn}
-use Rattle.tasks.specs.ServedFiles.{IfClosed, IfUnclosed, IsCauseOf, IsServedCount, KeepsFiles, LeavesUnclosed}
+use Rattle.tasks.specs.ServedFiles.{FailsToCloseOver, IfClosed, IfUnclosed, IsCauseOf, IsServedCount, KeepsFiles, LeavesUnclosed}
 use Rattle.tasks.specs.ServedLives.{end_of_close, end_of_serve, EndsLife, EndsLives, LeavesEnded, LeavesRefused, LifeLeads, LivesAllow, LivesLead, ServesLife, ServesLives}
 use Rattle.tasks.specs.Serving.{fault_lines, Transcript}
 use Rattle.tasks.specs.declared.lives.Life.{Life}
@@ -88,8 +89,10 @@ module _ {D : Type 0} (g : Ghosts D) (stays : SeenMayStay g) (day count : ℕ) (
   abbrev pub Closed : Files D → Type 0
   Closed left = AreClean g left.log left.db → KeepsFiles g (image_of g files) day passed left
 
-  abbrev pub Unclosed : FileStore D g → Type 0
-  Unclosed store = IsClean (view store) → LeavesUnclosed (image_of g files) day passed store
+  abbrev pub Unclosed : CloseFault D g → Type 0
+  Unclosed fault =
+      IsClean (view fault.store)
+      → FailsToCloseOver (image_of g files) day passed fault × LeavesUnclosed (image_of g files) day passed fault.store
 
   abbrev pub Served : Result (Files D) (LifeFault D g) → Type 0
   Served end =
@@ -98,17 +101,18 @@ module _ {D : Type 0} (g : Ghosts D) (stays : SeenMayStay g) (day count : ℕ) (
       × IfOk end (λ left. AreClean g left.log left.db → ServesLife g true day files passed left)
       × IfErr end (EndsLife g day files passed)
 
-  closed_ends : (end : Result (Files D) (FileStore D g)) → length passed ≤ count
+  closed_ends : (end : Result (Files D) (CloseFault D g)) → length passed ≤ count
       → IfOk end (λ left. AreClean g left.log left.db → AreClean g files.log files.db)
-      → IfErr end (λ store. IsClean (view store) → AreClean g files.log files.db)
+      → IfErr end (λ fault. IsClean (view fault.store) → AreClean g files.log files.db)
       → IfOk end Closed → IfErr end Unclosed → Served (end_of_close end)
   closed_ends (Ok left) few clean clean_store closed unclosed =
       (few, clean, (λ was. closes_life g stays day passed files left (closed was)), tt)
-  closed_ends (Err store) few clean clean_store closed unclosed = (few, tt, tt, (λ was. (clean_store was, unclosed was)))
+  closed_ends (Err fault) few clean clean_store closed unclosed =
+      (few, tt, tt, (λ was. (clean_store was, (unclosed was).0, (unclosed was).1)))
 
   pub serve_ends : (end : Result (Files D) (ServeFault D g))
       → IfClosed end (λ left. AreClean g left.log left.db → AreClean g files.log files.db)
-      → IfUnclosed end (λ store. IsClean (view store) → AreClean g files.log files.db)
+      → IfUnclosed end (λ fault. IsClean (view fault.store) → AreClean g files.log files.db)
       → IsServedCount end (length passed) count
       → IfClosed end Closed → IfUnclosed end Unclosed → IfErr end (IsCauseOf files cannot_listen not_accepted)
       → Served (end_of_serve end)
@@ -120,8 +124,8 @@ module _ {D : Type 0} (g : Ghosts D) (stays : SeenMayStay g) (day count : ℕ) (
       closed_ends end (omega (arith, counted)) clean clean_store closed unclosed
   serve_ends (Err (Accept end)) clean clean_store counted closed unclosed cause =
       closed_ends end (omega (arith, counted)) clean clean_store closed unclosed
-  serve_ends (Err (Close store)) clean clean_store counted closed unclosed cause =
-      (omega (arith, counted), tt, tt, (λ was. (clean_store was, unclosed was)))
+  serve_ends (Err (Close fault)) clean clean_store counted closed unclosed cause =
+      (omega (arith, counted), tt, tt, (λ was. (clean_store was, (unclosed was).0, (unclosed was).1)))
 
 -- ---- one more life
 
@@ -227,8 +231,8 @@ module _ {D : Type 0} (g : Ghosts D) (stays : SeenMayStay g) (more_fits : Pendin
       → EndsLife g day found passed fault
       → LeavesEnded g lives start served day found passed fault
   leaves_ended found day passed (ended.Open fault) led ends = leaves_refused found fault led ends.2 ends.3
-  leaves_ended found day passed (ended.Close store) led ends = λ clean.
-      let (was, leaves) = ends clean in λ charter before chartered legal start_left.
+  leaves_ended found day passed (ended.Close fault) led ends = λ clean.
+      let (was, fails, leaves) = ends clean in λ charter before chartered legal start_left.
       ∥∥₁_elim (led was charter before chartered legal start_left) squash₁ (λ at.
       ∥∥₁_map (at.4 (image_of g found) (stays found.log, stays found.db)) (λ held. (
         at.0,

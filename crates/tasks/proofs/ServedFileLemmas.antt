@@ -1,5 +1,5 @@
 -- What connections leave of the files of a desk.
-use Rattle.std.proofs.Common.{Bool, List, [], Option, Some, None, Result, Ok, Err, IfErr, ℕ, refl, subst, sym}
+use Rattle.std.proofs.Common.{◌≡◌, ◌⊎◌, Bool, List, [], Option, Some, None, Result, Ok, Err, IfErr, ℕ, refl, subst, sym}
 use Rattle.std.proofs.lemmas.List.{append-nil}
 use Rattle.sqlite.specs.Files.{over_files}
 use Rattle.sqlite_disk.specs.declared.Disk.{Ghosts}
@@ -13,10 +13,11 @@ use Rattle.registry.specs.History.{History}
 use Rattle.registry.specs.Values.{HistoryFits}
 use Rattle.desk.specs.Desk.{charter_of, HoldsHistory, IsOnCleanDisk, Represents}
 use Rattle.desk.specs.declared.desk.Desk.{Desk}
-use Rattle.desk_files.specs.DeskFiles.{KeepDesk, ResumesFiles}
+use Rattle.desk_files.specs.DeskFiles.{KeepDesk, OpensFiles, ResumesFiles}
 use Rattle.desk_files.specs.Refused.{KeepsUnclosed}
+use Rattle.desk_files.specs.declared.file.CloseFault.{CloseFault}
 use Rattle.tasks.specs.Connections.{Accepts}
-use Rattle.tasks.specs.ServedFiles.{IfClosed, IfNotBind, IfNotOpened, IfUnclosed, IsCauseOf, IsLateCause, KeepsFiles, LeavesStore, LeavesUnclosed}
+use Rattle.tasks.specs.ServedFiles.{FailsToCloseAfter, FailsToCloseOver, IfClosed, IfNotBind, IfNotOpened, IfUnclosed, IsCauseOf, IsLateCause, KeepsFiles, LeavesStore, LeavesUnclosed}
 use Rattle.tasks.specs.ServedHistories.{ConnectionLeads, KeepServed, LeavesInTurn}
 use Rattle.tasks.specs.Serving.{AnswersInTurn, ServesInTurn, Transcript}
 use Rattle.tasks.specs.declared.serve_desk.ServeFault.{ServeFault}
@@ -73,18 +74,18 @@ pub if_closed : {D : Type 0} {g : Ghosts D} (result : Result (Files D) (ServeFau
 if_closed (Ok files) P Q R both p q = both files p q
 if_closed (Err (Open fault)) P Q R both p q = tt
 if_closed (Err (Bind fault (Ok files))) P Q R both p q = both files p q
-if_closed (Err (Bind fault (Err store))) P Q R both p q = tt
+if_closed (Err (Bind fault (Err closing))) P Q R both p q = tt
 if_closed (Err (Accept (Ok files))) P Q R both p q = both files p q
-if_closed (Err (Accept (Err store))) P Q R both p q = tt
-if_closed (Err (Close store)) P Q R both p q = tt
+if_closed (Err (Accept (Err closing))) P Q R both p q = tt
+if_closed (Err (Close closing)) P Q R both p q = tt
 
 -- ---- not closed
 
 -- a desk that answered connections and was not closed leaves at most what they lead to
-pub leaves_store : {D : Type 0} {g : Ghosts D} (day : ℕ) (passed : List Transcript) (old new : Desk (FileStore D g))
-    (store : FileStore D g) → LeavesInTurn over_files day old passed new → KeepsUnclosed new store
-    → IsClean (view store) → LeavesStore day old passed store
-leaves_store day passed old new store leaves kept clean charter before is left =
+leaves_store : {D : Type 0} {g : Ghosts D} (day : ℕ) (passed : List Transcript) (old new : Desk (FileStore D g))
+    (fault : CloseFault D g) → LeavesInTurn over_files day old passed new → KeepsUnclosed new fault
+    → IsClean (view fault.store) → LeavesStore day old passed fault.store
+leaves_store day passed old new fault leaves kept clean charter before is left =
     let (after, leads, represents, fits, asked_fit, left_after) = leaves (kept.clean clean) charter before is left in
     record {
       after = after;
@@ -95,27 +96,46 @@ leaves_store day passed old new store leaves kept clean charter before is left =
       left = kept.left charter after.history after.pending left_after;
     }
 
+-- and the error tells why
+pub not_closed : {D : Type 0} {g : Ghosts D} (day : ℕ) (passed : List Transcript) (old new : Desk (FileStore D g))
+    (fault : CloseFault D g)
+    → ServesInTurn over_files day old passed new ⊎ ((passed ≡ []) × (new ≡ old)) → LeavesInTurn over_files day old passed new
+    → KeepsUnclosed new fault → IsClean (view fault.store)
+    → FailsToCloseAfter day old passed fault × LeavesStore day old passed fault.store
+not_closed day passed old new fault in_turn leaves kept clean =
+    let fails : FailsToCloseAfter day old passed fault = record { last = new; answered = in_turn; cause = kept.cause clean } in
+    (fails, leaves_store day passed old new fault leaves kept clean)
+
 -- no connection changes nothing
 pub leaves_none : {D : Type 0} {g : Ghosts D} (day : ℕ) (desk : Desk (FileStore D g)) → LeavesInTurn over_files day desk [] desk
 leaves_none day desk clean charter before is left = (before, refl, is, (λ fits. fits), (λ fits. fits), left)
 
 -- with the desk that was opened in files, what a crash leaves of it is what one leaves of the files
-pub leaves_unclosed : {D : Type 0} {g : Ghosts D} (image : Image) (day : ℕ) (passed : List Transcript)
+leaves_unclosed : {D : Type 0} {g : Ghosts D} (image : Image) (day : ℕ) (passed : List Transcript)
     (desk : Desk (FileStore D g)) (store : FileStore D g) → ResumesFiles image desk → LeavesStore day desk passed store
     → LeavesUnclosed image day passed store
 leaves_unclosed image day passed desk store resumes leaves charter before pending chartered legal found =
     let (history, more, is, none) = resumes charter before pending chartered legal found in
     (history, more, leaves charter (record { history = history; pending = [] }) is none)
 
-pub if_unclosed : {D : Type 0} {g : Ghosts D} (result : Result (Files D) (ServeFault D g)) (P Q R : FileStore D g → Type 0)
-    → ((store : FileStore D g) → P store → Q store → R store) → IfUnclosed result P → IfUnclosed result Q → IfUnclosed result R
+-- and the error tells why
+pub not_closed_over : {D : Type 0} {g : Ghosts D} (image : Image) (day : ℕ) (passed : List Transcript)
+    (desk : Desk (FileStore D g)) (fault : CloseFault D g) → OpensFiles image desk → ResumesFiles image desk
+    → FailsToCloseAfter day desk passed fault × LeavesStore day desk passed fault.store
+    → FailsToCloseOver image day passed fault × LeavesUnclosed image day passed fault.store
+not_closed_over image day passed desk fault opens resumes (fails, leaves) =
+    (record { desk = desk; opened = opens; fails = fails }, leaves_unclosed image day passed desk fault.store resumes leaves)
+
+pub if_unclosed : {D : Type 0} {g : Ghosts D} (result : Result (Files D) (ServeFault D g)) (P Q R : CloseFault D g → Type 0)
+    → ((closing : CloseFault D g) → P closing → Q closing → R closing) → IfUnclosed result P → IfUnclosed result Q
+    → IfUnclosed result R
 if_unclosed (Ok files) P Q R both p q = tt
 if_unclosed (Err (Open fault)) P Q R both p q = tt
 if_unclosed (Err (Bind fault (Ok files))) P Q R both p q = tt
-if_unclosed (Err (Bind fault (Err store))) P Q R both p q = both store p q
+if_unclosed (Err (Bind fault (Err closing))) P Q R both p q = both closing p q
 if_unclosed (Err (Accept (Ok files))) P Q R both p q = tt
-if_unclosed (Err (Accept (Err store))) P Q R both p q = both store p q
-if_unclosed (Err (Close store)) P Q R both p q = both store p q
+if_unclosed (Err (Accept (Err closing))) P Q R both p q = both closing p q
+if_unclosed (Err (Close closing)) P Q R both p q = both closing p q
 
 -- ---- causes
 
@@ -125,7 +145,7 @@ pub late_cause : {D : Type 0} {g : Ghosts D} (files : Files D) (cannot_listen no
 late_cause files cannot_listen not_accepted (Open fault) late = absurd late
 late_cause files cannot_listen not_accepted (Bind fault closed) late = absurd late
 late_cause files cannot_listen not_accepted (Accept closed) late = late
-late_cause files cannot_listen not_accepted (Close store) late = tt
+late_cause files cannot_listen not_accepted (Close closing) late = tt
 
 -- and none of them is that listening failed
 pub late_not_bind : {D : Type 0} {g : Ghosts D} (not_accepted : Bool) (result : Result (Files D) (ServeFault D g)) (P : Type 0)
@@ -134,7 +154,7 @@ late_not_bind not_accepted (Ok files) P late holds = holds
 late_not_bind not_accepted (Err (Open fault)) P late holds = absurd late
 late_not_bind not_accepted (Err (Bind fault closed)) P late holds = absurd late
 late_not_bind not_accepted (Err (Accept closed)) P late holds = holds
-late_not_bind not_accepted (Err (Close store)) P late holds = holds
+late_not_bind not_accepted (Err (Close closing)) P late holds = holds
 
 -- and the desk was opened
 pub late_opened : {D : Type 0} {g : Ghosts D} (not_accepted : Bool) (result : Result (Files D) (ServeFault D g)) (P : Type 0)
@@ -143,7 +163,7 @@ late_opened not_accepted (Ok files) P late = tt
 late_opened not_accepted (Err (Open fault)) P late = absurd late
 late_opened not_accepted (Err (Bind fault closed)) P late = tt
 late_opened not_accepted (Err (Accept closed)) P late = tt
-late_opened not_accepted (Err (Close store)) P late = tt
+late_opened not_accepted (Err (Close closing)) P late = tt
 
 -- known connections are as they were
 pub accepts_none : (known : Option (List Transcript)) → Accepts known known []

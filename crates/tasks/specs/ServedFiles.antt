@@ -4,7 +4,7 @@ use Rattle.sqlite_disk.specs.declared.Disk.{Ghosts}
 use Rattle.sqlite_disk.specs.declared.Files.{Files}
 use Rattle.sqlite_wal.specs.Recovery.{Image}
 use Rattle.sqlite_store.specs.declared.store.FileStore.{FileStore}
-use Rattle.sqlite.specs.Files.{image_of, over_files}
+use Rattle.sqlite.specs.Files.{image_of, over_files, FailsToClose}
 use Rattle.charters.specs.CharterSets.{IsCharter}
 use Rattle.charters.specs.declared.charter.Charter.{Charter}
 use Rattle.registry.specs.History.{History}
@@ -13,15 +13,16 @@ use Rattle.registry.specs.Verdict.{IsLegal}
 use Rattle.registry.specs.declared.asked.Asked.{Asked}
 use Rattle.command_line.specs.declared.fault.ProgramFault.TheVariants.{Memory, Socket}
 use Rattle.desk.specs.CrashOutcomes.{LeavesAtMost}
-use Rattle.desk.specs.Desk.{Represents}
+use Rattle.desk.specs.Desk.{Represents, store_of}
 use Rattle.desk.specs.Resumed.{IsAtMostOneMore}
 use Rattle.desk.specs.declared.desk.Desk.{Desk}
-use Rattle.desk_files.specs.DeskFiles.{AreFoundFiles}
+use Rattle.desk_files.specs.DeskFiles.{AreFoundFiles, OpensFiles}
 use Rattle.desk_files.specs.Lives.{StoreLeavesAtMost}
 use Rattle.desk_files.specs.Refused.{KeepsRefused, RefusesFiles, RefusesNoLeft, RefusesNoLegal}
+use Rattle.desk_files.specs.declared.file.CloseFault.{CloseFault}
 use Rattle.web.specs.ScriptAnswer.{Standing}
 use Rattle.tasks.specs.ServedHistories.{ConnectionLeaves, KeepServed}
-use Rattle.tasks.specs.Serving.{AnswersInTurn, Transcript}
+use Rattle.tasks.specs.Serving.{AnswersInTurn, ServesInTurn, Transcript}
 use Rattle.tasks.specs.declared.serve_desk.ServeFault.{ServeFault}
 use Rattle.tasks.specs.declared.serve_desk.ServeFault.TheVariants.{Accept, Bind, Close, Open}
 
@@ -31,15 +32,15 @@ IfClosed (Ok files) Holds = Holds files
 IfClosed (Err (Open fault)) Holds = ⊤
 IfClosed (Err (Bind fault closed)) Holds = IfOk closed Holds
 IfClosed (Err (Accept closed)) Holds = IfOk closed Holds
-IfClosed (Err (Close store)) Holds = ⊤
+IfClosed (Err (Close fault)) Holds = ⊤
 
--- this holds of the store that is left, where the desk in the files was opened and they were not closed
-abbrev pub IfUnclosed : {D : Type 0} {g : Ghosts D} → Result (Files D) (ServeFault D g) → (FileStore D g → Type 0) → Type 0
+-- this holds of the fault of the close, where the desk in the files was opened and they were not closed
+abbrev pub IfUnclosed : {D : Type 0} {g : Ghosts D} → Result (Files D) (ServeFault D g) → (CloseFault D g → Type 0) → Type 0
 IfUnclosed (Ok files) Holds = ⊤
 IfUnclosed (Err (Open fault)) Holds = ⊤
 IfUnclosed (Err (Bind fault closed)) Holds = IfErr closed Holds
 IfUnclosed (Err (Accept closed)) Holds = IfErr closed Holds
-IfUnclosed (Err (Close store)) Holds = Holds store
+IfUnclosed (Err (Close fault)) Holds = Holds fault
 
 -- How many connections there were: all of the count where only the close was left, fewer where the next one could not be
 -- accepted, and none where nothing was bound.
@@ -48,7 +49,7 @@ IsServedCount (Ok files) served count = served ≡ count
 IsServedCount (Err (Open fault)) served count = served ≡ 0
 IsServedCount (Err (Bind fault closed)) served count = served ≡ 0
 IsServedCount (Err (Accept closed)) served count = served < count
-IsServedCount (Err (Close store)) served count = served ≡ count
+IsServedCount (Err (Close fault)) served count = served ≡ count
 
 -- From files that hold a legal history, or that with one of the pending requests, to files of a history to which these
 -- connections on the day lead: from that history, or from it with one of the requests. Where none is pending, it is from
@@ -89,6 +90,21 @@ LeavesUnclosed image day passed store =
     → (history : History) × IsAtMostOneMore charter before pending history
     × LeavesServed charter day passed (record { history = history; pending = [] }) (StoreLeavesAtMost over_files charter store)
 
+-- The desk as it was after these connections on the day, or where there was none as it was opened, was not closed, for the
+-- cause that the error tells.
+pub record FailsToCloseAfter {D : Type 0} {g : Ghosts D} (day : ℕ) (desk : Desk (FileStore D g)) (passed : List Transcript)
+    (fault : CloseFault D g) : Type 0 where
+  pub last : Desk (FileStore D g)
+  pub answered : ServesInTurn over_files day desk passed last ⊎ ((passed ≡ []) × (last ≡ desk))
+  pub cause : FailsToClose (store_of last).connection fault.store fault.error
+
+-- the same of a desk that was opened in files that read so
+pub record FailsToCloseOver {D : Type 0} {g : Ghosts D} (image : Image) (day : ℕ) (passed : List Transcript)
+    (fault : CloseFault D g) : Type 0 where
+  pub desk : Desk (FileStore D g)
+  pub opened : OpensFiles image desk
+  pub fails : FailsToCloseAfter day desk passed fault
+
 -- Each fault with its cause: the desk in the files was not opened, which is not for its schema where they may be left of
 -- a legal history, and leaves no more of them than before; listening failed; or the last connection could not be
 -- accepted.
@@ -98,14 +114,14 @@ IsCauseOf {D} {g} files cannot_listen not_accepted (Open fault) =
     × KeepsRefused files fault
 IsCauseOf files cannot_listen not_accepted (Bind fault closed) = (cannot_listen ≡ true) × ((fault ≡ Socket) ⊎ (fault ≡ Memory))
 IsCauseOf files cannot_listen not_accepted (Accept closed) = not_accepted ≡ true
-IsCauseOf files cannot_listen not_accepted (Close store) = ⊤
+IsCauseOf files cannot_listen not_accepted (Close fault) = ⊤
 
 -- a cause that comes once the desk was opened and the socket bound
 abbrev pub IsLateCause : {D : Type 0} {g : Ghosts D} → Bool → ServeFault D g → Type 0
 IsLateCause not_accepted (Open fault) = ⊥
 IsLateCause not_accepted (Bind fault closed) = ⊥
 IsLateCause not_accepted (Accept closed) = not_accepted ≡ true
-IsLateCause not_accepted (Close store) = ⊤
+IsLateCause not_accepted (Close fault) = ⊤
 
 -- this holds, where the desk was not opened
 abbrev pub IfNotOpened : {D : Type 0} {g : Ghosts D} → Result (Files D) (ServeFault D g) → Type 0 → Type 0
@@ -113,7 +129,7 @@ IfNotOpened (Ok files) Holds = ⊤
 IfNotOpened (Err (Open fault)) Holds = Holds
 IfNotOpened (Err (Bind fault closed)) Holds = ⊤
 IfNotOpened (Err (Accept closed)) Holds = ⊤
-IfNotOpened (Err (Close store)) Holds = ⊤
+IfNotOpened (Err (Close fault)) Holds = ⊤
 
 -- this holds, unless `serve` ended early because listening failed
 abbrev pub IfNotBind : {D : Type 0} {g : Ghosts D} → Result (Files D) (ServeFault D g) → Type 0 → Type 0
@@ -121,4 +137,4 @@ IfNotBind (Ok files) Holds = Holds
 IfNotBind (Err (Open fault)) Holds = Holds
 IfNotBind (Err (Bind fault closed)) Holds = ⊤
 IfNotBind (Err (Accept closed)) Holds = Holds
-IfNotBind (Err (Close store)) Holds = Holds
+IfNotBind (Err (Close fault)) Holds = Holds

@@ -7,7 +7,6 @@ use Rattle.sqlite.specs.declared.file.Leftover.TheVariants as left
 use Rattle.sqlite_disk.specs.declared.Disk.{Ghosts}
 use Rattle.sqlite_disk.specs.declared.Files.{Files}
 use Rattle.sqlite_store.specs.FileStore.{view}
-use Rattle.sqlite_store.specs.declared.store.FileStore.{FileStore}
 use Rattle.sqlite_trees.specs.Tree.{Trees}
 use Rattle.sqlite_trees.specs.View.{IsClean}
 use Rattle.sqlite_wal.specs.Reads.{AreClean}
@@ -23,10 +22,11 @@ use Rattle.desk.specs.Resumed.{IsAtMostOneMore, MayBeLeftInEitherSchema}
 use Rattle.desk_files.specs.DeskFiles.{FilesLeaveAtMost}
 use Rattle.desk_files.specs.Lives.{StoreLeavesAtMost}
 use Rattle.desk_files.specs.Refused.{KeepsRefused, RefusesFiles, RefusesNoLegal}
+use Rattle.desk_files.specs.declared.file.CloseFault.{CloseFault}
 use Rattle.desk_files.specs.declared.file.OpenFault.{OpenFault}
 use Rattle.desk_files.specs.declared.file.OpenFault.TheVariants.{File, Path, Store}
 use Rattle.web.specs.ScriptAnswer.{Standing}
-use Rattle.tasks.specs.ServedFiles.{LeavesServed, LeavesUnclosed}
+use Rattle.tasks.specs.ServedFiles.{FailsToCloseOver, LeavesServed, LeavesUnclosed}
 use Rattle.tasks.specs.ServedHistories.{ConnectionLeads, ConnectionLeaves}
 use Rattle.tasks.specs.Serving.{AnswersInTurn, Transcript}
 use Rattle.tasks.specs.declared.lives.Life.{Life}
@@ -123,33 +123,36 @@ LeavesRefused g lives old served found (Store fault now) =
 
 -- The end of a life that is to close its files. It is a good one if they were closed, even if the socket was not bound or
 -- a connection could not be accepted.
-abbrev pub end_of_close : {D : Type 0} {g : Ghosts D} → Result (Files D) (FileStore D g) → Result (Files D) (LifeFault D g)
+abbrev pub end_of_close : {D : Type 0} {g : Ghosts D} → Result (Files D) (CloseFault D g) → Result (Files D) (LifeFault D g)
 end_of_close (Ok files) = Ok files
-end_of_close (Err store) = Err (ended.Close store)
+end_of_close (Err fault) = Err (ended.Close fault)
 
 abbrev pub end_of_serve : {D : Type 0} {g : Ghosts D} → Result (Files D) (ServeFault D g) → Result (Files D) (LifeFault D g)
 end_of_serve (Ok files) = Ok files
 end_of_serve (Err (Open fault)) = Err (ended.Open fault)
 end_of_serve (Err (Bind fault closed)) = end_of_close closed
 end_of_serve (Err (Accept closed)) = end_of_close closed
-end_of_serve (Err (Close store)) = Err (ended.Close store)
+end_of_serve (Err (Close fault)) = Err (ended.Close fault)
 
--- Why a life is the last one. Either its opening was refused, and it had no connection. Or its files were not closed, and
--- a crash of the store leaves at most that to which its connections lead.
+-- Why a life is the last one. Either its opening was refused, and it had no connection. Or its files were not closed,
+-- for the cause that the error tells, and a crash of the store leaves at most that to which its connections lead.
 abbrev pub EndsLife : {D : Type 0} (g : Ghosts D) → ℕ → Files D → List Transcript → LifeFault D g → Type 0
 EndsLife g day found passed (ended.Open fault) =
     (passed ≡ []) × RefusesFiles (image_of g found) fault × RefusesNoLegal found fault × KeepsRefused found fault
-EndsLife g day found passed (ended.Close store) =
-    IsClean (view store) → AreClean g found.log found.db × LeavesUnclosed (image_of g found) day passed store
+EndsLife g day found passed (ended.Close fault) =
+    IsClean (view fault.store)
+    → AreClean g found.log found.db
+    × FailsToCloseOver (image_of g found) day passed fault
+    × LeavesUnclosed (image_of g found) day passed fault.store
 
 -- What is left then by it and the lives before it.
 abbrev pub LeavesEnded : {D : Type 0} (g : Ghosts D) → List Life → Files D → List (List Transcript) → ℕ → Files D → List Transcript → LifeFault D g → Type 0
 LeavesEnded g before old whole day found passed (ended.Open fault) = LeavesRefused g before old whole found fault
-LeavesEnded g before old whole day found passed (ended.Close store) =
-    IsClean (view store)
+LeavesEnded g before old whole day found passed (ended.Close fault) =
+    IsClean (view fault.store)
     → LivesAllow g before old whole (λ charter history pending.
     (next : History) × IsAtMostOneMore charter history pending next
-    × LeavesServed charter day passed (record { history = next; pending = [] }) (StoreLeavesAtMost over_files charter store))
+    × LeavesServed charter day passed (record { history = next; pending = [] }) (StoreLeavesAtMost over_files charter fault.store))
 
 -- The lives ended with one that did not end well, after those that did. The files that it found are those that these left,
 -- after a crash, and it is for them that the fault has its cause.

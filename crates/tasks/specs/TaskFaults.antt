@@ -30,4 +30,4 @@ abbrev pub fault_of_serve : {D : Type 0} {g : Ghosts D} → ServeFault D g → P
 fault_of_serve (serving.Open fault) = fault_of_open fault
 fault_of_serve (serving.Bind fault closed) = fault
 fault_of_serve (serving.Accept closed) = Socket
-fault_of_serve (serving.Close store) = Database
+fault_of_serve (serving.Close fault) = Database

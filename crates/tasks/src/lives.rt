@@ -14,10 +14,9 @@ ghost use Rattle.tasks.specs.Serving.{Transcript, fault_lines};
 use crate::serve::{Connections, Log, serve_on};
 use crate::serve_desk::{ServeFault, serve_files};
 use addr::Day;
-use desk_files::{OpenFault, open_files, stop};
+use desk_files::{CloseFault, OpenFault, open_files, stop};
 use sqlite_disk::{Crash, Disk, Files};
 use sqlite_pager::Options;
-use sqlite_store::FileStore;
 use std::alloc::Global;
 
 /// A life of `serve`: the day, how many connections it has at most, the options of its opening, and
@@ -36,7 +35,7 @@ pub enum LifeFault<D: Disk> {
     /// The desk was not opened.
     Open(OpenFault<D>),
     /// The files were to be closed, and were not.
-    Close(FileStore<D>),
+    Close(CloseFault<D>),
 }
 
 /// Opens the desk in the files, serves at most this many connections on this day, and returns the
@@ -159,16 +158,16 @@ fn end_of_serve<D: Disk>(end: Result<Files<D>, ServeFault<D>>) -> Result<Files<D
         Err(ServeFault::Open(fault)) => Err(LifeFault::Open(fault)),
         Err(ServeFault::Bind(_, closed)) => end_of_close(closed),
         Err(ServeFault::Accept(closed)) => end_of_close(closed),
-        Err(ServeFault::Close(store)) => Err(LifeFault::Close(store)),
+        Err(ServeFault::Close(fault)) => Err(LifeFault::Close(fault)),
     }
 }
 
-fn end_of_close<D: Disk>(closed: Result<Files<D>, FileStore<D>>) -> Result<Files<D>, LifeFault<D>>
+fn end_of_close<D: Disk>(closed: Result<Files<D>, CloseFault<D>>) -> Result<Files<D>, LifeFault<D>>
     ensures { result ≡ end_of_close closed }
 {
     match closed {
         Ok(files) => Ok(files),
-        Err(store) => Err(LifeFault::Close(store)),
+        Err(fault) => Err(LifeFault::Close(fault)),
     }
 }
 

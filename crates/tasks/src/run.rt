@@ -73,8 +73,8 @@ fn run_init_task(rt: &HostRuntime, database: &str, charter: &str) -> Result<(), 
     match make_desk(rt.alloc(), conn, &charter) {
         Ok(_) => Ok(()),
         Err(MakeFault::Database(_)) => Err(ProgramFault::Database),
-        Err(MakeFault::Close(store)) => {
-            drop(store.close());
+        Err(MakeFault::Close(fault)) => {
+            drop(fault.store.close());
             Err(ProgramFault::Database)
         }
     }

@@ -8,7 +8,8 @@ ghost use Rattle.registry.specs.History.{History};
 ghost use Rattle.charters.specs.declared.charter.Charter as shown;
 ghost use Rattle.desk.specs.Desk.{IsOnCleanDisk, Represents};
 ghost use Rattle.tasks.specs.Connections.{Accepts, Logs};
-ghost use Rattle.tasks.specs.ServedFiles.{IfClosed, IfNotBind, IfNotOpened, IfUnclosed, IsCauseOf};
+ghost use Rattle.tasks.specs.ServedFiles.{FailsToCloseAfter, FailsToCloseOver, IfClosed, IfNotBind};
+ghost use Rattle.tasks.specs.ServedFiles.{IfNotOpened, IfUnclosed, IsCauseOf};
 ghost use Rattle.tasks.specs.ServedFiles.{IsLateCause, IsServedCount, KeepsFiles, LeavesStore};
 ghost use Rattle.tasks.specs.ServedFiles.{LeavesUnclosed};
 ghost use Rattle.tasks.specs.ServedHistories.{KeepServed};
@@ -19,7 +20,7 @@ use crate::serve::{Connections, Log, serve_on};
 use addr::Day;
 use command_line::ProgramFault;
 use desk::Desk;
-use desk_files::{OpenFault, close_desk, open_files};
+use desk_files::{CloseFault, OpenFault, close_desk, open_files};
 use sqlite_disk::{Disk, Files};
 use sqlite_pager::Options;
 use sqlite_store::FileStore;
@@ -33,11 +34,11 @@ pub enum ServeFault<D: Disk> {
     /// The desk was not opened.
     Open(OpenFault<D>),
     /// The socket was not bound.
-    Bind(ProgramFault, Result<Files<D>, FileStore<D>>),
+    Bind(ProgramFault, Result<Files<D>, CloseFault<D>>),
     /// A connection could not be accepted.
-    Accept(Result<Files<D>, FileStore<D>>),
+    Accept(Result<Files<D>, CloseFault<D>>),
     /// All connections were answered, but the files were not closed.
-    Close(FileStore<D>),
+    Close(CloseFault<D>),
 }
 
 /// Opens the desk in the files, binds the socket, serves this many connections on this day, and
@@ -55,19 +56,20 @@ pub fn serve_files<D: Disk + Drop, C: Connections, L: Log>(
     requires db { IsTrue (D.Disk.is_usable files.db) }
     ensures clean { IfClosed result (λ left. AreClean D.Disk left.log left.db
         → AreClean D.Disk files.log files.db) }
-    ensures clean_store { IfUnclosed result (λ store. IsClean (view store)
+    ensures clean_store { IfUnclosed result (λ fault. IsClean (view fault.store)
         → AreClean D.Disk files.log files.db) }
     // `passed` are the connections: there are as many, they were accepted, the files have what they
-    // lead to, a store that was not closed leaves no more, and the log has the lines of those that
-    // failed.
+    // lead to, a store that could not be closed leaves no more, and the log has the lines of those
+    // that failed.
     ensures served { (passed : List Transcript) × IsServedCount result (length passed) count
         × Accepts (C.accepted connections.old) (C.accepted connections.new) passed
         × Logs (L.has_lost log.old) (L.has_lost log.new) (L.contents log.old)
         (L.contents log.new) (fault_lines 1 passed)
         × IfClosed result (λ left. AreClean D.Disk left.log left.db
         → KeepsFiles D.Disk (image_of D.Disk files) day passed left)
-        × IfUnclosed result (λ store. IsClean (view store)
-        → LeavesUnclosed (image_of D.Disk files) day passed store) }
+        × IfUnclosed result (λ fault. IsClean (view fault.store)
+        → FailsToCloseOver (image_of D.Disk files) day passed fault
+        × LeavesUnclosed (image_of D.Disk files) day passed fault.store) }
     ensures err { IfErr result (IsCauseOf files
         (C.cannot_listen connections.new) (C.has_failed connections.new)) }
     ensures listens { IfNotBind result
@@ -101,7 +103,7 @@ pub fn serve_desk<D: Disk + Drop, C: Connections, L: Log>(
 ) -> Result<Files<D>, ServeFault<D>>
     ensures clean { IfClosed result (λ files. AreClean D.Disk files.log files.db
         → IsOnCleanDisk over_files desk) }
-    ensures clean_store { IfUnclosed result (λ store. IsClean (view store)
+    ensures clean_store { IfUnclosed result (λ fault. IsClean (view fault.store)
         → IsOnCleanDisk over_files desk) }
     ensures served { (passed : List Transcript) × IsServedCount result (length passed) count
         × Accepts (C.accepted connections.old) (C.accepted connections.new) passed
@@ -110,15 +112,16 @@ pub fn serve_desk<D: Disk + Drop, C: Connections, L: Log>(
         × IfClosed result (λ files. AreClean D.Disk files.log files.db
         → (charter : shown.Charter) (history : History) → Represents over_files charter desk history
         → KeepServed D.Disk charter day passed history files)
-        × IfUnclosed result (λ store. IsClean (view store)
-        → LeavesStore day desk passed store) }
+        × IfUnclosed result (λ fault. IsClean (view fault.store)
+        → FailsToCloseAfter day desk passed fault
+        × LeavesStore day desk passed fault.store) }
     ensures err { IfErr result (IsLateCause (C.has_failed connections.new)) }
     ensures listens { C.cannot_listen connections.new ≡ C.cannot_listen connections.old }
 {
     match serve_on(alloc, connections, count, &mut desk, day, log) {
         Ok(()) => match close_desk(desk) {
             Ok(files) => Ok(files),
-            Err(store) => Err(ServeFault::Close(store)),
+            Err(fault) => Err(ServeFault::Close(fault)),
         },
         Err(Failed) => Err(ServeFault::Accept(close_desk(desk))),
     }

@@ -12,4 +12,5 @@ returns-in-Ok-clause-kept g c clean history holds =
 
 pub returns-in-Err-clause-err : goal.returns-in-Err-clause-err
 returns-in-Err-clause-err g c =
-    unclosed_keeps c.args.desk c.close-conn.result c.in-Err.store c.close-conn.ensures.same c.in-Err.ensures.err.0.quiet
+    unclosed_keeps c.args.desk c.close-conn.result (record { error = c.in-Err.error; store = c.in-Err.store })
+    c.close-conn.ensures.same c.in-Err.ensures.err.0.quiet c.in-Err.ensures.err.1

@@ -6,6 +6,6 @@ returns-in-Ok-clause-over g c = finds_over c.args.files c.in-Ok.conn c.in-Ok.ens
 
 pub returns-in-Err-clause-left : goal.returns-in-Err-clause-left
 returns-in-Err-clause-left g c = (
-  (λ clean. (c.in-Err.error, c.fault_of_opening.ensures.told, c.in-Err.ensures.cause clean)),
+  (λ clean. (c.in-Err.error, c.fault_of_sqlite.ensures.told, c.in-Err.ensures.cause clean)),
   c.in-Err.ensures.unharmed,
 )

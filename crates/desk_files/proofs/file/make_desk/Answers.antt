@@ -12,8 +12,8 @@ returns-in-Ok-close_desk-clause-made g c clean =
 pub returns-in-Err-close_desk-clause-err : goal.returns-in-Err-close_desk-clause-err
 returns-in-Err-close_desk-clause-err g c =
     let made = c.in-Ok.ensures in
-    unmade_closed c.args.charter.now c.args.conn c.in-Ok.desk c.in-Err-close_desk.store made.unused made.clean made.none_pending
-    c.in-Err-close_desk.ensures.err
+    unmade_closed c.args.charter.now c.args.conn c.in-Ok.desk c.in-Err-close_desk.fault made.unused made.made made.clean
+    made.none_pending c.in-Err-close_desk.ensures.err
 
 pub returns-in-Err-clause-err : goal.returns-in-Err-clause-err
 returns-in-Err-clause-err g c =

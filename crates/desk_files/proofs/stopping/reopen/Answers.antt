@@ -15,4 +15,10 @@ returns-in-Ok-clause-err g c =
     c.open_files.ensures.err c.open_files.ensures.left
 
 pub returns-in-Err-clause-err : goal.returns-in-Err-clause-err
-returns-in-Err-clause-err g c = inl (c.in-Err.store, refl, c.in-Err.ensures.err)
+returns-in-Err-clause-err g c = inl (
+  c.in-Err.fault,
+  c.fault_of_sqlite-told.result,
+  c.fault_of_sqlite-told.ensures.told,
+  refl,
+  c.in-Err.ensures.err,
+)

@@ -1,8 +1,8 @@
-use Rattle.std.proofs.Common.{◌≡◌, length, subst}
+use Rattle.std.proofs.Common.{◌≡◌, inl, length, subst}
 use Rattle.std.specs.Prelude.{◌<◌, OnErr, OnOk}
 use Rattle.std.proofs.lemmas.Result.{IfErr-weaker}
 use Rattle.tasks.proofs.HistoryLemmas.{if_ok_both}
-use Rattle.tasks.proofs.ServedFileLemmas.{keep_served, leaves_store}
+use Rattle.tasks.proofs.ServedFileLemmas.{keep_served, not_closed}
 use Rattle.tasks.proofs.serve_desk.serve_desk.Goals as goal
 
 pub returns-in-Ok-close_desk-clause-served : goal.returns-in-Ok-close_desk-clause-served
@@ -25,7 +25,7 @@ returns-in-Err-close_desk-clause-served g c =
       accepted,
       logged,
       tt,
-      leaves_store c.args.day passed c.args.desk c.serve_on.new.desk c.in-Err-close_desk.store leaves
+      not_closed c.args.day passed c.args.desk c.serve_on.new.desk c.in-Err-close_desk.fault (inl in_turn) leaves
           c.in-Err-close_desk.ensures.err,
     )
 
@@ -39,11 +39,12 @@ returns-in-Err-clause-served g c =
       if_ok_both c.close_desk-in-Err.result _ _ _ (λ files cleaned keeps clean.
           keep_served g.D.Disk c.args.day passed c.args.desk c.serve_on.new.desk files in_turn (cleaned clean) (keeps clean))
           c.close_desk-in-Err.ensures.clean c.close_desk-in-Err.ensures.kept,
-      IfErr-weaker c.close_desk-in-Err.result _ _ (λ store kept.
-          leaves_store c.args.day passed c.args.desk c.serve_on.new.desk store leaves kept) c.close_desk-in-Err.ensures.err,
+      IfErr-weaker c.close_desk-in-Err.result _ _ (λ fault kept.
+          not_closed c.args.day passed c.args.desk c.serve_on.new.desk fault (inl in_turn) leaves kept)
+          c.close_desk-in-Err.ensures.err,
     )
 
 pub returns-in-Err-clause-clean_store : goal.returns-in-Err-clause-clean_store
 returns-in-Err-clause-clean_store g c =
-    IfErr-weaker c.close_desk-in-Err.result _ _ (λ store kept clean. c.serve_on.ensures.later.clean (kept.clean clean))
+    IfErr-weaker c.close_desk-in-Err.result _ _ (λ fault kept clean. c.serve_on.ensures.later.clean (kept.clean clean))
     c.close_desk-in-Err.ensures.err

@@ -1,9 +1,9 @@
-use Rattle.std.proofs.Common.{◌≡◌, ◌∙◌, [], OnOk, refl, subst}
+use Rattle.std.proofs.Common.{◌≡◌, ◌∙◌, inr, [], OnOk, refl, subst}
 use Rattle.std.proofs.lemmas.Result.{IfErr-weaker}
 use Rattle.sqlite.specs.Files.{image_of}
 use Rattle.tasks.proofs.ConnectionLemmas.{accepts-then, logs-none}
 use Rattle.tasks.proofs.HistoryLemmas.{if_ok_both}
-use Rattle.tasks.proofs.ServedFileLemmas.{if_closed, if_unclosed, keep_unserved, keeps_files, late_cause, late_not_bind, late_opened, leaves_none, leaves_store, leaves_unclosed}
+use Rattle.tasks.proofs.ServedFileLemmas.{if_closed, if_unclosed, keep_unserved, keeps_files, late_cause, late_not_bind, late_opened, leaves_none, not_closed, not_closed_over}
 use Rattle.tasks.proofs.serve_desk.serve_files.Goals as goal
 
 pub returns-in-Ok-listen-clause-clean : goal.returns-in-Ok-listen-clause-clean
@@ -13,7 +13,7 @@ returns-in-Ok-listen-clause-clean g c =
 
 pub returns-in-Ok-listen-clause-clean_store : goal.returns-in-Ok-listen-clause-clean_store
 returns-in-Ok-listen-clause-clean_store g c =
-    if_unclosed c.serve_desk.result _ _ _ (λ store cleaned again clean. c.in-Ok.ensures.clean (cleaned clean))
+    if_unclosed c.serve_desk.result _ _ _ (λ fault cleaned again clean. c.in-Ok.ensures.clean (cleaned clean))
     c.serve_desk.ensures.clean_store c.serve_desk.ensures.clean_store
 
 pub returns-in-Err-listen-clause-clean : goal.returns-in-Err-listen-clause-clean
@@ -23,7 +23,7 @@ returns-in-Err-listen-clause-clean g c =
 
 pub returns-in-Err-listen-clause-clean_store : goal.returns-in-Err-listen-clause-clean_store
 returns-in-Err-listen-clause-clean_store g c =
-    IfErr-weaker c.close_desk.result _ _ (λ store kept clean. c.in-Ok.ensures.clean (kept.clean clean)) c.close_desk.ensures.err
+    IfErr-weaker c.close_desk.result _ _ (λ fault kept clean. c.in-Ok.ensures.clean (kept.clean clean)) c.close_desk.ensures.err
 
 pub returns-in-Ok-listen-clause-served : goal.returns-in-Ok-listen-clause-served
 returns-in-Ok-listen-clause-served g c =
@@ -37,9 +37,9 @@ returns-in-Ok-listen-clause-served g c =
           keeps_files g.D.Disk (image_of g.D.Disk c.args.files) c.args.day passed c.in-Ok.desk files
           (c.in-Ok.ensures.resumed (cleaned clean)) (keeps clean))
           c.serve_desk.ensures.clean closed,
-      if_unclosed c.serve_desk.result _ _ _ (λ store cleaned leaves clean.
-          leaves_unclosed (image_of g.D.Disk c.args.files) c.args.day passed c.in-Ok.desk store
-          (c.in-Ok.ensures.resumed (cleaned clean)) (leaves clean))
+      if_unclosed c.serve_desk.result _ _ _ (λ fault cleaned leaves clean.
+          not_closed_over (image_of g.D.Disk c.args.files) c.args.day passed c.in-Ok.desk fault
+          (c.in-Ok.ensures.opened (cleaned clean)) (c.in-Ok.ensures.resumed (cleaned clean)) (leaves clean))
           c.serve_desk.ensures.clean_store unclosed,
     )
 
@@ -54,10 +54,10 @@ returns-in-Err-listen-clause-served g c = (
       (c.in-Ok.ensures.resumed (cleaned clean))
       (keep_unserved g.D.Disk c.args.day c.in-Ok.desk files (keeps clean)))
       c.close_desk.ensures.clean c.close_desk.ensures.kept,
-  IfErr-weaker c.close_desk.result _ _ (λ store kept clean.
-      leaves_unclosed (image_of g.D.Disk c.args.files) c.args.day [] c.in-Ok.desk store
-      (c.in-Ok.ensures.resumed (kept.clean clean))
-      (leaves_store c.args.day [] c.in-Ok.desk c.in-Ok.desk store (leaves_none c.args.day c.in-Ok.desk) kept clean))
+  IfErr-weaker c.close_desk.result _ _ (λ fault kept clean.
+      not_closed_over (image_of g.D.Disk c.args.files) c.args.day [] c.in-Ok.desk fault
+      (c.in-Ok.ensures.opened (kept.clean clean)) (c.in-Ok.ensures.resumed (kept.clean clean))
+      (not_closed c.args.day [] c.in-Ok.desk c.in-Ok.desk fault (inr (refl, refl)) (leaves_none c.args.day c.in-Ok.desk) kept clean))
       c.close_desk.ensures.err,
 )
 
