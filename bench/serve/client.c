@@ -2,16 +2,20 @@
  *
  *     client PORT OPERATION HOLDERS AUTHORIZATIONS COUNT [SERVER]
  *     client PORT start HOLDERS AUTHORIZATIONS COMMAND...
+ *     client peak COMMAND...
  *
  * The desk is that of desk.awk, with so many holders and authorizations of each. Before an operation, except for
- * those called first, the payloads are asked for once, so that the server has kept the day. A line is printed: the
+ * those called first, the payloads are asked for once, so that the server has kept the day. Before each request of an
+ * operation called slurm, a SLURM file is put in force and a show is asked for, neither of them timed. So the show waits
+ * for what the server does after it has answered the file. A line is printed: the
  * median of the times from the connection to the end of the response, of two requests to the end of the second,
  * and their mean, in nanoseconds, and a sum over all bytes of all responses. A response with an unexpected status
  * ends the client with 1. With SERVER, the process that answers, the mean of its processor time follows, and after that
  * time, so that the end of the server is not in it, the payloads are asked for once more, and are in the sum.
  *
  * The second form starts the server by its COMMAND, the path of a program and its words. The times are those from then
- * to the end of the response of a show, and the processor time is that of the whole process.
+ * to the end of the response of a show, and the processor time is that of the whole process. The third form prints the
+ * most memory that a COMMAND has taken when it has ended, in kB.
  */
 #include <arpa/inet.h>
 #include <err.h>
@@ -136,6 +140,16 @@ static char *put_transfer(char *body, unsigned holder)
                           holder + 1, holder, (holder + 1) % holders);
 }
 
+/* One filter and one assertion, of other AS numbers each time. */
+static char *put_slurm(char *body, unsigned at)
+{
+    return body + sprintf(body,
+                          "{\"slurmVersion\":1,\"validationOutputFilters\":{\"prefixFilters\":[{\"asn\":%u}],"
+                          "\"bgpsecFilters\":[]},\"locallyAddedAssertions\":{\"prefixAssertions\":[{\"asn\":%u,"
+                          "\"prefix\":\"198.51.100.0/24\"}],\"bgpsecAssertions\":[]}}",
+                          asn_of(auths + at), asn_of(at));
+}
+
 static void put_request(char *request, const char *caller, const char *method, const char *path, const char *body)
 {
     char length[96] = "";
@@ -164,30 +178,33 @@ enum kind {
     IMPORT,
     WHAT_IF,
     TRANSFER,
+    SLURM,
 };
 
 struct operation {
     const char *name;
-    int keeps_first;
+    int keeps_first, puts_slurm;
     enum kind first, second;
 };
 
 static const struct operation operations[] = {
-    {"show", 1, SHOW, NOTHING},
-    {"list", 1, LIST, NOTHING},
-    {"denied", 1, SAME, NOTHING},
-    {"full", 1, FULL, NOTHING},
-    {"create", 1, CREATE, NOTHING},
-    {"withdraw", 1, WITHDRAW, NOTHING},
-    {"payloads", 1, PAYLOADS, NOTHING},
-    {"validity", 1, VALIDITY, NOTHING},
-    {"create-validity", 1, CREATE, VALIDITY_OF_MADE},
-    {"withdraw-validity", 1, WITHDRAW, VALIDITY_OF_TAKEN},
-    {"import", 1, IMPORT, NOTHING},
-    {"what-if", 1, WHAT_IF, NOTHING},
-    {"transfer", 1, TRANSFER, NOTHING},
-    {"first-payloads", 0, PAYLOADS, NOTHING},
-    {"first-validity", 0, VALIDITY, NOTHING},
+    {"show", 1, 0, SHOW, NOTHING},
+    {"list", 1, 0, LIST, NOTHING},
+    {"denied", 1, 0, SAME, NOTHING},
+    {"full", 1, 0, FULL, NOTHING},
+    {"create", 1, 0, CREATE, NOTHING},
+    {"withdraw", 1, 0, WITHDRAW, NOTHING},
+    {"payloads", 1, 0, PAYLOADS, NOTHING},
+    {"validity", 1, 0, VALIDITY, NOTHING},
+    {"create-validity", 1, 0, CREATE, VALIDITY_OF_MADE},
+    {"withdraw-validity", 1, 0, WITHDRAW, VALIDITY_OF_TAKEN},
+    {"import", 1, 0, IMPORT, NOTHING},
+    {"what-if", 1, 0, WHAT_IF, NOTHING},
+    {"transfer", 1, 0, TRANSFER, NOTHING},
+    {"first-payloads", 0, 0, PAYLOADS, NOTHING},
+    {"first-validity", 0, 0, VALIDITY, NOTHING},
+    {"first-what-if", 0, 0, WHAT_IF, NOTHING},
+    {"slurm-what-if", 1, 1, WHAT_IF, NOTHING},
 };
 
 /* The request of a kind that comes after so many others. Those to the same holder have numbers of their own, as long as
@@ -241,6 +258,10 @@ static void make_request(char *request, enum kind kind, unsigned at)
     case TRANSFER:
         put_transfer(body, holder);
         put_request(request, "reg", "POST", "/transfers", body);
+        return;
+    case SLURM:
+        put_slurm(body, at);
+        put_request(request, "reg", "PUT", "/slurm", body);
     }
 }
 
@@ -343,6 +364,18 @@ static uint64_t sum_with_payloads(const struct sockaddr_in *server, uint64_t sum
     return checked_sum(sum, &last);
 }
 
+/* Puts a SLURM file in force, and asks for a show. */
+static void put_in_force(const struct sockaddr_in *server, unsigned at)
+{
+    static struct exchange exchange;
+    static const enum kind kinds[] = {SLURM, SHOW};
+    for (size_t i = 0; i < sizeof kinds / sizeof *kinds; i++) {
+        prepare(&exchange, kinds[i], at);
+        ask(connected_or_end(server), &exchange);
+        checked_sum(NO_SUM, &exchange);
+    }
+}
+
 static void measure(const struct sockaddr_in *server, const struct operation *operation, unsigned count, pid_t process)
 {
     static int64_t times[COUNT_MOST];
@@ -358,6 +391,8 @@ static void measure(const struct sockaddr_in *server, const struct operation *op
     }
     int64_t before = processor_time(process);
     for (unsigned at = 0; at < count; at++) {
+        if (operation->puts_slurm)
+            put_in_force(server, at);
         prepare(&first, operation->first, at);
         prepare(&second, operation->second, at);
         int64_t start = nanoseconds();
@@ -414,6 +449,15 @@ static void measure_start(const struct sockaddr_in *server, char **command)
            nanoseconds_of(&usage.ru_utime) + nanoseconds_of(&usage.ru_stime));
 }
 
+static void print_peak(char **command)
+{
+    struct rusage usage;
+    pid_t child = started(command);
+    if (wait4(child, NULL, 0, &usage) != child)
+        err(2, "wait4");
+    printf("%ld\n", usage.ru_maxrss);
+}
+
 static const struct operation *operation_of(const char *name)
 {
     for (size_t at = 0; at < sizeof operations / sizeof *operations; at++)
@@ -424,6 +468,10 @@ static const struct operation *operation_of(const char *name)
 
 int main(int count, char **words)
 {
+    if (count > 2 && !strcmp(words[1], "peak")) {
+        print_peak(words + 2);
+        return 0;
+    }
     int is_start = count > 5 && !strcmp(words[2], "start");
     if (!is_start && (count < 6 || count > 7 || atoi(words[5]) < 1 || atoi(words[5]) > COUNT_MOST))
         errx(2, "PORT OPERATION HOLDERS AUTHORIZATIONS COUNT [SERVER]");

@@ -68,6 +68,7 @@ sum_of_rows() {
 connections() {
     case $1 in
     first-*) echo $((1 + $2)) ;;
+    slurm-*) echo $((2 + 3 * $2)) ;;
     *-validity) echo $((2 + 2 * $2)) ;;
     *) echo $((2 + $2)) ;;
     esac
@@ -93,6 +94,12 @@ ask_at_start() {
     place 1 || return 1
     line=$("$work/client" "$port" "$1" "$2" "$3" "${@:5}" "${words[@]}") || return 1
     echo "$line $(sum_of_rows)"
+}
+
+# measure_alone SIZE OPERATION COUNT: of the program alone, since the C server leaves SLURM files out.
+measure_alone() {
+    local turn=roadesk
+    [ "$servers" = C ] || measure "$@"
 }
 
 # A line an operation: server, holders, authorizations, operation, median and mean in nanoseconds, the sum of the
@@ -127,6 +134,16 @@ ask_for_memory() {
     "$work/client" "$port" first-validity $size 1 >/dev/null && wait "$server" && echo "$line"
 }
 
+# print_check SIZE: the most memory that the check of the file by the program's SQLite library takes. The file has a
+# table too many, so the program ends after that check, before it reads a row.
+print_check() {
+    local port words
+    [ "$servers" != C ] || return 0
+    place 1 && sqlite3 "$work/served.db" 'CREATE TABLE more (x)' || fail "sqlite3 failed"
+    printf '%-30s  %8s  %7d kB\n' "${1/ / of }, the check alone" roadesk \
+        "$("$work/client" peak "$program" serve "${words[@]}" 2>/dev/null)"
+}
+
 # A line: server, holders, authorizations, the number of VRPs, and the memory, most and now, opened, kept and written.
 measure_memory() {
     local size=$1 server line vrps
@@ -149,6 +166,7 @@ syncs() {
 turn=$servers
 : >"$work/serve.lines"
 : >"$work/memory.lines"
+: >"$work/check.lines"
 for size in "${sizes[@]}"; do
     make_desk $size
     read -r holders auths <<<"$size"
@@ -167,7 +185,10 @@ for size in "${sizes[@]}"; do
         measure "$size" withdraw 200
         measure "$size" withdraw-validity 200
         # A what-if withdraws five authorizations. A holder has one import, which makes 100, and one transfer.
-        [ "$auths" -lt 5 ] || measure "$size" what-if 200
+        if [ "$auths" -ge 5 ]; then
+            measure "$size" what-if 200
+            measure_alone "$size" slurm-what-if 20
+        fi
         if [ "$holders" -ge 20 ] && [ "$auths" -ge 500 ] && [ "$auths" -le 900 ]; then
             measure "$size" import 20
             measure "$size" transfer 20
@@ -175,11 +196,13 @@ for size in "${sizes[@]}"; do
         measure "$size" payloads 20
         for _ in 1 2 3; do
             measure "$size" first-payloads 1
+            [ "$auths" -lt 5 ] || measure "$size" first-what-if 1
             measure "$size" start 1
         done
         measure_memory "$size"
         turn=$(tr ' ' '\n' <<<"$turn" | tac | xargs)
     done
+    print_check "$size" >>"$work/check.lines"
 done
 
 awk -v servers="$servers" '
@@ -207,9 +230,10 @@ awk -v servers="$servers" '
             printf "%-30s", order[at]
             for (one = 1; one <= count; one++) {
                 key = order[at] " " server[one]
-                printf "  %8.1f us  %10d  %8.1f us", median[key] / 1000, 1e9 / mean[key], busy[key] / 1000
+                if (key in median)
+                    printf "  %8.1f us  %10d  %8.1f us", median[key] / 1000, 1e9 / mean[key], busy[key] / 1000
             }
-            if (count == 2)
+            if (count == 2 && (order[at] " C") in median)
                 printf "  %6.2f  %6.2f", median[order[at] " roadesk"] / median[order[at] " C"],
                     busy[order[at] " roadesk"] / busy[order[at] " C"]
             print ""
@@ -239,6 +263,7 @@ awk -v servers="$servers" '
                     written[key], (kept[key] - opened[key]) * 1024 / vrps[row], grown[key] * 1024 / vrps[row]
             }
     }' "$work/memory.lines"
+cat "$work/check.lines"
 
 # What shows sync is for the opening and the end.
 if command -v strace >/dev/null; then
