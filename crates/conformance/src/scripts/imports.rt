@@ -79,20 +79,11 @@ pub(crate) const NOTHING_LISTED: &str = r#"
 ann {"do":"list","holder":"alpha"} => {"listed":[]}
 "#;
 
-/// What is answered where a thousand authorizations are active, and once all have ended with their
-/// prefix.
+/// What is answered where a thousand authorizations are active.
 pub(crate) const FULL: &str = r#"
 ann {"do":"whatif","holder":"alpha","changes":[{"do":"create","asn":64496,"prefix":"192.0.2.0/25","max":25,"from":"2026-01-01","until":"2026-12-31"}],"routes":[{"prefix":"192.0.2.0/25","origin":64496}]} => {"denied":"room","row":1}
 ann {"do":"whatif","holder":"alpha","changes":[{"do":"withdraw","number":1},{"do":"create","asn":64496,"prefix":"192.0.2.0/25","max":25,"from":"2026-01-01","until":"2026-12-31"}],"routes":[{"prefix":"192.0.2.0/25","origin":64496}]} => {"report":[["Invalid","Valid"]]}
 ann {"do":"create","holder":"alpha","asn":64496,"prefix":"192.0.2.0/25","max":25,"from":"2026-01-01","until":"2026-12-31"} => {"denied":"room"}
-reg {"do":"reclaim","holder":"alpha","prefix":"192.0.2.0/24"} => {"done":null}
-ann {"do":"whatif","holder":"alpha","changes":[{"do":"withdraw","number":7}],"routes":[{"prefix":"192.0.2.0/24","origin":7}]} => {"denied":"number","row":1}
-ann {"do":"whatif","holder":"alpha","changes":[{"do":"create","asn":7,"prefix":"192.0.2.0/24","max":24,"from":"2026-01-01","until":"2026-12-31"}],"routes":[{"prefix":"192.0.2.0/24","origin":7}]} => {"denied":"held","row":1}
-reg {"do":"delegate","holder":"alpha","prefix":"192.0.2.0/24"} => {"done":null}
-ann {"do":"whatif","holder":"alpha","changes":[{"do":"withdraw","number":7}],"routes":[{"prefix":"192.0.2.0/24","origin":7}]} => {"denied":"number","row":1}
-ann {"do":"whatif","holder":"alpha","changes":[{"do":"create","asn":7,"prefix":"192.0.2.0/24","max":24,"from":"2026-01-01","until":"2026-12-31"},{"do":"create","asn":8,"prefix":"192.0.2.0/24","max":24,"from":"2026-01-01","until":"2026-12-31"}],"routes":[{"prefix":"192.0.2.0/24","origin":7},{"prefix":"192.0.2.0/24","origin":8},{"prefix":"192.0.2.0/24","origin":9}]} => {"report":[["NotFound","Valid"],["NotFound","Valid"],["NotFound","Invalid"]]}
-ann {"do":"create","holder":"alpha","asn":7,"prefix":"192.0.2.0/24","max":24,"from":"2026-01-01","until":"2026-12-31"} => {"done":1001}
-ann {"do":"whatif","holder":"alpha","changes":[{"do":"create","asn":8,"prefix":"192.0.2.0/24","max":24,"from":"2026-01-01","until":"2026-12-31"},{"do":"withdraw","number":1001},{"do":"create","asn":7,"prefix":"192.0.2.0/24","max":24,"from":"2026-01-01","until":"2026-12-31"}],"routes":[{"prefix":"192.0.2.0/24","origin":7},{"prefix":"192.0.2.0/24","origin":8}]} => {"report":[["Valid","Valid"],["Invalid","Valid"]]}
 "#;
 
 /// What is answered where 999 authorizations are active, one for each AS from 1 on.
