@@ -41,7 +41,8 @@ use Rattle.tables.specs.declared.holding.TheConstants.{SELECT_HOLDER_SPANS}
 use Rattle.tables.proofs.CellLemmas.{is_bytes, is_number_cell, number_of_number, same_address, same_family_number}
 use Rattle.tables.proofs.ReadLemmas.{are_whole}
 use Rattle.tables.proofs.TreeRows.{filter_twice}
-use Rattle.loads.specs.steps.Queries.{by_column, AreAnswered, Selects, SelectsWith, entries_given, gives_entry}
+use Rattle.loads.specs.Loads.{entries_given, gives_entry}
+use Rattle.loads.specs.steps.Queries.{by_column, AreAnswered, Selects, SelectsWith}
 use Rattle.tables.proofs.Selecting.{from_table, no_limit, picks, permuted, sorted}
 use Rattle.tables.proofs.Columns.{column_after, shown_at, shown_columns, grant_places, grant_shown}
 use Rattle.tables.proofs.Testing.{equals_blob, equals_int, equals_text, holder_test}

@@ -24,8 +24,7 @@ use Rattle.tables.specs.Groups.{claim_entry}
 use Rattle.tables.specs.TablesHold.{items_if_any}
 use Rattle.tables.specs.declared.entry.EntryRow.{EntryRow}
 use Rattle.tables.proofs.TreeRows.{list_any-map}
-use Rattle.loads.specs.Loads.{auths_held, created_if_any, is_other, some_gives, AreCounted}
-use Rattle.loads.specs.steps.Queries.{entries_given, gives_entry}
+use Rattle.loads.specs.Loads.{auths_held, created_if_any, entries_given, gives_entry, AreCounted}
 use Rattle.loads.proofs.Loading.{entries_fit}
 
 -- ---- tests of lists
@@ -60,26 +59,28 @@ any_or p q (x ∷ xs) = ap (λ b. (p x || q x) || b) (any_or p q xs) ∙ or_swap
 
 -- ---- out of the entries that give it
 
--- an authorization gives an entry where one of its rows does
-row_gives : (but : Option ℕ) (asn : Asn) (e : RoaPrefix) (y : Auth)
-    → list_any (λ r. is_other but r.number && gives_entry asn e r) (entry_rows_of y) ≡ (is_other but y.number && gives_some y asn (e ∷ []))
-row_gives but asn e y =
-    let other = is_other but y.number in
-    let same = y.asn.0 == asn.0 in
-    list_any-map (λ (r : EntryRow). is_other but r.number && gives_entry asn e r) (claim_entry (claim_of y)) y.entries
-    ∙ any_and other (λ d. same && is_entry e.prefix e.max d) y.entries
-    ∙ ap (λ b. other && b) (any_and same (is_entry e.prefix e.max) y.entries ∙ ap (λ b. same && b) (sym (or-false (list_any (is_entry e.prefix e.max) y.entries))))
+-- some authorization whose number passes a test gives the AS with an entry of the list
+abbrev pub some_such_gives : (ℕ → Bool) → Asn → List RoaPrefix → List Auth → Bool
+some_such_gives such asn es ys = list_any (λ y. such y.number && gives_some y asn es) ys
 
-pub gives_out_of : (but : Option ℕ) (asn : Asn) (e : RoaPrefix) (o : Option Rows) (given : List EntryRow) → IsPermutation (items_if_any (entries_given asn e) o) given
-    → list_any (λ r. is_other but r.number) given ≡ some_gives but asn (e ∷ []) (auths_held o)
-gives_out_of but asn e o given same = sym (list_any-IsPermutation (λ (r : EntryRow). is_other but r.number) (items_if_any (entries_given asn e) o) given same) ∙ go o
+-- an authorization gives an entry where one of its rows does
+row_gives : (such : ℕ → Bool) (asn : Asn) (e : RoaPrefix) (y : Auth) → list_any (λ r. such r.number && gives_entry asn e r) (entry_rows_of y) ≡ (such y.number && gives_some y asn (e ∷ []))
+row_gives such asn e y =
+    let passes = such y.number in
+    let same = y.asn.0 == asn.0 in
+    list_any-map (λ (r : EntryRow). such r.number && gives_entry asn e r) (claim_entry (claim_of y)) y.entries
+    ∙ any_and passes (λ d. same && is_entry e.prefix e.max d) y.entries
+    ∙ ap (λ b. passes && b) (any_and same (is_entry e.prefix e.max) y.entries ∙ ap (λ b. same && b) (sym (or-false (list_any (is_entry e.prefix e.max) y.entries))))
+
+pub gives_out_of : (such : ℕ → Bool) (asn : Asn) (e : RoaPrefix) (o : Option Rows) (given : List EntryRow) → IsPermutation (items_if_any (entries_given asn e) o) given → list_any (λ r. such r.number) given ≡ some_such_gives such asn (e ∷ []) (auths_held o)
+gives_out_of such asn e o given same = sym (list_any-IsPermutation (λ (r : EntryRow). such r.number) (items_if_any (entries_given asn e) o) given same) ∙ go o
   where
-    go : (o : Option Rows) → list_any (λ (r : EntryRow). is_other but r.number) (items_if_any (entries_given asn e) o) ≡ some_gives but asn (e ∷ []) (auths_held o)
+    go : (o : Option Rows) → list_any (λ (r : EntryRow). such r.number) (items_if_any (entries_given asn e) o) ≡ some_such_gives such asn (e ∷ []) (auths_held o)
     go None = refl
     go (Some r) =
-        any_kept (λ (x : EntryRow). is_other but x.number) (gives_entry asn e) (flat_map entry_rows_of r.auths)
-        ∙ any_each (λ (x : EntryRow). is_other but x.number && gives_entry asn e x) entry_rows_of r.auths
-        ∙ (λ i. list_any (λ y. row_gives but asn e y i) r.auths)
+        any_kept (λ (x : EntryRow). such x.number) (gives_entry asn e) (flat_map entry_rows_of r.auths)
+        ∙ any_each (λ (x : EntryRow). such x.number && gives_entry asn e x) entry_rows_of r.auths
+        ∙ (λ i. list_any (λ y. row_gives such asn e y i) r.auths)
 
 pub given_fit : (asn : Asn) (e : RoaPrefix) (o : Option Rows) → FitIfAny o → All EntryRowFits (items_if_any (entries_given asn e) o)
 given_fit asn e None fit = All-nil EntryRowFits
@@ -87,28 +88,27 @@ given_fit asn e (Some r) fit = All-from_recursion EntryRowFits (entries_given as
 
 -- ---- entry by entry
 
-one_or_more : (other same f g : Bool) → (other && (same && (f || g))) ≡ ((other && (same && (f || false))) || (other && (same && g)))
+one_or_more : (passes same f g : Bool) → (passes && (same && (f || g))) ≡ ((passes && (same && (f || false))) || (passes && (same && g)))
 one_or_more true true f g = ap (λ b. b || g) (sym (or-false f))
 one_or_more true false f g = refl
 one_or_more false same f g = refl
 
-pub gives_none : (but : Option ℕ) (asn : Asn) (ys : List Auth) → some_gives but asn [] ys ≡ false
-gives_none but asn ys = (λ i. list_any (λ (y : Auth). none (is_other but y.number) (y.asn.0 == asn.0) i) ys) ∙ any_never ys
+pub gives_none : (such : ℕ → Bool) (asn : Asn) (ys : List Auth) → some_such_gives such asn [] ys ≡ false
+gives_none such asn ys = (λ i. list_any (λ (y : Auth). none (such y.number) (y.asn.0 == asn.0) i) ys) ∙ any_never ys
   where
-    none : (other same : Bool) → (other && (same && false)) ≡ false
-    none other same = ap (λ b. other && b) (and-false same) ∙ and-false other
+    none : (passes same : Bool) → (passes && (same && false)) ≡ false
+    none passes same = ap (λ b. passes && b) (and-false same) ∙ and-false passes
 
-pub gives_more : (but : Option ℕ) (asn : Asn) (e : RoaPrefix) (es : List RoaPrefix) (ys : List Auth) → some_gives but asn (e ∷ es) ys ≡ (some_gives but asn (e ∷ []) ys || some_gives but asn es ys)
-gives_more but asn e es ys =
-    (λ i. list_any (λ (y : Auth). one_or_more (is_other but y.number) (y.asn.0 == asn.0) (list_any (is_entry e.prefix e.max) y.entries) (are_shared y.entries es) i) ys)
-    ∙ any_or (λ (y : Auth). is_other but y.number && gives_some y asn (e ∷ [])) (λ y. is_other but y.number && gives_some y asn es) ys
+gives_more : (such : ℕ → Bool) (asn : Asn) (e : RoaPrefix) (es : List RoaPrefix) (ys : List Auth) → some_such_gives such asn (e ∷ es) ys ≡ (some_such_gives such asn (e ∷ []) ys || some_such_gives such asn es ys)
+gives_more such asn e es ys =
+    (λ i. list_any (λ (y : Auth). one_or_more (such y.number) (y.asn.0 == asn.0) (list_any (is_entry e.prefix e.max) y.entries) (are_shared y.entries es) i) ys)
+    ∙ any_or (λ (y : Auth). such y.number && gives_some y asn (e ∷ [])) (λ y. such y.number && gives_some y asn es) ys
 
 -- the entries from one on
-pub gives_from : (but : Option ℕ) (asn : Asn) (es : List RoaPrefix) (i : ℕ) (e : RoaPrefix) (ys : List Auth) → i < length es → e ≡ get_or es i e
-    → some_gives but asn (drop i es) ys ≡ (some_gives but asn (e ∷ []) ys || some_gives but asn (drop (i + 1) es) ys)
-gives_from but asn es i e ys low is =
-    ap (λ l. some_gives but asn l ys) (drop_more es i e low ∙ ap (λ d. d ∷ drop (i + 1) es) (sym is))
-    ∙ gives_more but asn e (drop (i + 1) es) ys
+pub gives_from : (such : ℕ → Bool) (asn : Asn) (es : List RoaPrefix) (i : ℕ) (e : RoaPrefix) (ys : List Auth) → i < length es → e ≡ get_or es i e → some_such_gives such asn (drop i es) ys ≡ (some_such_gives such asn (e ∷ []) ys || some_such_gives such asn (drop (i + 1) es) ys)
+gives_from such asn es i e ys low is =
+    ap (λ l. some_such_gives such asn l ys) (drop_more es i e low ∙ ap (λ d. d ∷ drop (i + 1) es) (sym is))
+    ∙ gives_more such asn e (drop (i + 1) es) ys
 
 -- ---- how many were made
 

@@ -2,7 +2,7 @@ mod AuthsFound
 mod Finding
 pub mod Loading
 mod NumberFound
-mod GivenAuths
+pub mod GivenAuths
 mod HeldEntries
 mod LastClaim
 mod Overlapping

@@ -6,6 +6,7 @@ use Rattle.std.specs.List.{AllByRecursion}
 use Rattle.std.proofs.Math.Bool.{or-false}
 use Rattle.std.proofs.lemmas.Bool.Decides.{nat_tests}
 use Rattle.std.proofs.lemmas.List.Elements.{All-nil, All-cons, All-from_recursion, recursion_from_All}
+use Rattle.std.proofs.lemmas.List.{length-map}
 use Rattle.std.proofs.lemmas.List.Folds.{list_any-append}
 use Rattle.std.proofs.lemmas.List.Sorted.{list_any-IsPermutation, length_permutation, IsPermutation-refl}
 use Rattle.sqlite.specs.Effect.{Database}
@@ -27,8 +28,9 @@ use Rattle.tables.specs.Cells.{grant_cells}
 use Rattle.tables.specs.Decode.{ClaimFits, EntryRowFits}
 use Rattle.tables.specs.Groups.{claim_entry}
 use Rattle.tables.specs.TablesHold.{items_if_any, TablesHold}
-use Rattle.loads.specs.Loads.{IsOf, IsOpenWith, AreCounted, AreGrants, AreInOrder, HaveSame, AreLoaded}
+use Rattle.loads.specs.Loads.{IsOf, IsOpenWith, AreCounted, AreGrants, AreInOrder, HaveSame, AreLoaded, auths_held}
 use Rattle.loads.specs.steps.Queries.{by_column, counters_if_any}
+use Rattle.tables.specs.declared.claim.Claim.{Claim}
 use Rattle.tables.specs.declared.holder.Counters.{Counters}
 use Rattle.registry.specs.Values.{IsCount, GrantFits, AuthFits, FitIfAny}
 use Rattle.registry.specs.RowsOfAll.{AllRows}
@@ -84,6 +86,11 @@ claims_fit (Some r) fit =
     All-from_recursion ClaimFits (map claim_of r.auths)
     (all-map ClaimFits claim_of r.auths (all_weaker AuthFits (λ x. ClaimFits (claim_of x)) claim_fits r.auths (recursion_from_All AuthFits r.auths fit.auths)))
 
+-- each authorization has one claim
+pub length-claims : (o : Option Rows) (claims : List Claim) → IsPermutation (items_if_any (λ r. map claim_of r.auths) o) claims → length claims ≡ length (auths_held o)
+length-claims None claims same = length_permutation _ _ same
+length-claims (Some r) claims same = length_permutation _ _ same ∙ length-map r.auths claim_of
+
 pub entries_fit : (o : Option Rows) → FitIfAny o → All EntryRowFits (items_if_any (λ r. flat_map entry_rows_of r.auths) o)
 entries_fit None fit = All-nil EntryRowFits
 entries_fit (Some r) fit =
@@ -136,6 +143,10 @@ pub never_fit :
     → IsOpenWith (λ all. ¬ All fits (items_if_any items (all.of_holder h))) mid → IsOpenWith (λ all. ¬ FitIfAny (all.of_holder h)) old
 never_fit fits items each h old mid opened same refusal =
     refused_before (λ all. ¬ FitIfAny (all.of_holder h)) old mid opened same (refusal.0, λ charter rows holds fit. refusal.1 charter rows holds (each (rows.of_holder h) fit))
+
+-- nor do those that do not at the first of them
+pub never_fit_first : {X : Type 0} (fits : X → Type 0) (items : Rows → List X) → ((o : Option Rows) → FitIfAny o → All fits (items_if_any items o)) → (h : List ℕ) (s : State) → IsOpenWith (λ all. ¬ All fits (items_if_any items (all.of_holder h))) s → IsOpenWith (λ all. ¬ FitIfAny (all.of_holder h)) s
+never_fit_first fits items each h s refusal = never_fit fits items each h s s refusal.0 refl refusal
 
 pub none_counted : (o : Option Rows) → None ≡ counters_if_any o → AreCounted o None
 none_counted None none = record { grants = (IsPermutation-refl [], λ k d low high. absurd (omega (arith, high))); granted = refl; created = refl }

@@ -1,5 +1,5 @@
 -- What is loaded of the rows that the tables hold.
-use Rattle.std.specs.Prelude.{◌≡◌, ◌≤◌, ◌==◌, ◌&&◌, ◌↔◌, ℕ, Bool, true, false, not, nat_le, List, map, filter, length, Option, Some, None, is_some, option_map, Contains, IfSome, IsSomeAnd, IsPermutation, IsSortedByKey, IsTrue, ⊤}
+use Rattle.std.specs.Prelude.{◌≡◌, ◌≤◌, ◌==◌, ◌&&◌, ◌↔◌, ℕ, Bool, true, false, not, nat_le, List, map, filter, flat_map, length, Option, Some, None, is_some, option_map, Contains, IfSome, IsSomeAnd, IsPermutation, IsSortedByKey, IsTrue, ⊤}
 use Rattle.std.specs.List.{list_any}
 use Rattle.std.specs.Ordering.{nat_cmp}
 use Rattle.sqlite.specs.State.{State}
@@ -22,12 +22,14 @@ use Rattle.registry.specs.declared.rows.HolderRows.{HolderRows}
 use Rattle.registry.specs.RoaPrefixes.{with_maxes}
 use Rattle.registry.specs.Rows.{Rows, grants_if_any, auths_if_any}
 use Rattle.registry.specs.RowsOfAll.{AllRows}
-use Rattle.registry.specs.Terms.{IsVrpOfEntry, entries_have, gives_some}
+use Rattle.registry.specs.Terms.{IsVrpOfEntry, entries_have, gives_some, is_entry}
 use Rattle.registry.specs.Values.{VrpFits}
 use Rattle.registry.specs.Verdict.{auth_of_number, maxes_fit}
 use Rattle.slurm.specs.Exceptions.{Exceptions}
 use Rattle.slurm.specs.declared.set.NamedSlurm.{NamedSlurm}
+use Rattle.tables.specs.Authorizations.{entry_rows_of}
 use Rattle.tables.specs.TablesHold.{items_if_any, TablesHold}
+use Rattle.tables.specs.declared.entry.EntryRow.{EntryRow}
 use Rattle.loads.specs.declared.answers.Loaded.{Loaded}
 
 -- this holds for all rows, and for those of one holder, whatever charter and rows the tables hold
@@ -125,6 +127,14 @@ is_other (Some n) m = not (m == n)
 -- an authorization, except the one of the number, gives the AS with an entry of the list
 abbrev pub some_gives : Option ℕ → Asn → List RoaPrefix → List Auth → Bool
 some_gives but asn es auths = list_any (λ y. is_other but y.number && gives_some y asn es) auths
+
+-- the entry of a row gives the AS with this prefix and maxLength
+abbrev pub gives_entry : Asn → RoaPrefix → EntryRow → Bool
+gives_entry asn e r = (r.asn.0 == asn.0) && is_entry e.prefix e.max r.entry
+
+-- the entries of a holder's authorizations that give it so
+abbrev pub entries_given : Asn → RoaPrefix → Rows → List EntryRow
+entries_given asn e r = filter (gives_entry asn e) (flat_map entry_rows_of r.auths)
 
 -- every address of the entries lies in one of the runs
 abbrev pub AreHeld : List Span → List RoaPrefix → Type 0

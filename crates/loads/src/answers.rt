@@ -9,8 +9,7 @@ ghost use Rattle.registry.specs.Values.{FitIfAny};
 ghost use Rattle.registry.specs.Verdict.{maxes_fit};
 ghost use Rattle.tables.specs.TablesHold.{items_if_any};
 ghost use Rattle.transactions.specs.Queries.{IsAsked, IsClean, IsReadyToAsk};
-ghost use Rattle.loads.specs.Loads.{AreAnswers, AreCounted, AreHeld, IsForAmend, IsForCreate, IsForDelegate, IsOf, IsOfAll, IsOpenWith, IsToldWhereApart, auths_held, created_if_any, is_other, some_gives};
-ghost use Rattle.loads.specs.steps.Queries.{entries_given};
+ghost use Rattle.loads.specs.Loads.{AreAnswers, AreCounted, AreHeld, IsForAmend, IsForCreate, IsForDelegate, IsOf, IsOfAll, IsOpenWith, IsToldWhereApart, auths_held, created_if_any, entries_given, is_other, some_gives};
 
 use crate::below::{is_held, is_taken};
 use crate::load::{load_counters, load_grants, load_holdings, load_numbered, load_selected};
@@ -97,7 +96,7 @@ pub fn load_for_delegate<S: Alter>(
 // ---- whether a VRP is given
 
 /// The entries of the holder's authorizations that give the AS with this entry.
-fn load_given<S: Alter>(
+pub fn load_given<S: Alter>(
     conn: &mut Connection<S>,
     alloc: Global,
     holder: &Name,

@@ -1,5 +1,5 @@
 //! What is loaded from the tables.
-ghost use Rattle.std.specs.Prelude.{◌≡◌, ◌≢◌, ◌↔◌, ◌==◌, ℕ, List, map, filter, is_some, All, AllPairs, Contains, Err, IfOk, IsPermutation, IsSorted};
+ghost use Rattle.std.specs.Prelude.{◌≡◌, ◌≢◌, ◌↔◌, ◌==◌, ℕ, List, map, filter, length, is_some, All, AllPairs, Contains, Err, IfOk, IsPermutation, IsSorted};
 ghost use Rattle.std.specs.declared.cmp.Ordering.{Ordering};
 ghost use Rattle.sqlite.specs.Given.{IsPlain};
 ghost use Rattle.sqlite.specs.Listing.{understood};
@@ -131,7 +131,7 @@ pub fn is_registered<S: Alter>(
 }
 
 /// The addresses of the holder; none if it is not registered.
-fn load_runs<S: Alter>(
+pub fn load_runs<S: Alter>(
     conn: &mut Connection<S>,
     alloc: Global,
     holder: &Name,
@@ -213,8 +213,25 @@ fn load_auths<S: Alter>(
     auths_of(alloc, &claims, &rows)?.ok_or(StoreFault::Schema)
 }
 
+/// How many authorizations the holder has.
+pub fn count_auths<S: Alter>(
+    conn: &mut Connection<S>,
+    alloc: Global,
+    holder: &Name,
+) -> Result<usize, StoreFault>
+    requires { IsReadyToAsk S.Store conn.old }
+    ensures asked { IsAsked S.Store conn.old conn.new result }
+    ensures found { IsClean S.Store conn.new → IfOk result (λ count.
+        IsOf (λ rows. count ≡ length (auths_held rows)) holder.now (state S.Store conn.old)) }
+    ensures schema { IsClean S.Store conn.new → result ≡ Err StoreFault.Schema
+        → IsOpenWith (λ all. ¬ FitIfAny (all.of_holder holder.now)) (state S.Store conn.old) }
+{
+    let claims: Vec<Claim> = load_values(conn, alloc, holder)?;
+    Ok(claims.len())
+}
+
 /// The authorizations of the holder that have the number. In a history there is one at most.
-fn load_auths_numbered<S: Alter>(
+pub fn load_auths_numbered<S: Alter>(
     conn: &mut Connection<S>,
     alloc: Global,
     holder: &Name,

@@ -1,5 +1,5 @@
 -- Steps of reading: what a query answers as raw rows.
-use Rattle.std.specs.Prelude.{◌≡◌, ◌==◌, ◌&&◌, ℕ, Bool, false, List, [], ◌∷◌, map, filter, flat_map, Option, Some, None, IsPermutation, IsSorted}
+use Rattle.std.specs.Prelude.{◌≡◌, ℕ, false, List, [], ◌∷◌, map, Option, Some, None, IsPermutation, IsSorted}
 use Rattle.std.specs.declared.cmp.Ordering.{Ordering}
 use Rattle.std.specs.Ordering.{on}
 use Rattle.sqlite.specs.Effect.{Database, Reads}
@@ -8,19 +8,14 @@ use Rattle.sqlite.specs.Listing.{understood, reads_listing}
 use Rattle.sqlite.proofs.Callers.{command_of}
 use Rattle.sqlite_value.specs.declared.value.Value.TheVariants.{Text}
 use Rattle.sqlite_value.specs.Order.{Row, column, value_cmp}
-use Rattle.addr.specs.declared.asn.Asn.{Asn}
 use Rattle.charters.specs.CharterSets.{CharterSets}
-use Rattle.registry.specs.declared.authorization.RoaPrefix.{RoaPrefix}
 use Rattle.registry.specs.Rows.{Rows}
 use Rattle.registry.specs.RowsOfAll.{AllRows}
-use Rattle.registry.specs.Terms.{is_entry}
 use Rattle.slurm.specs.Exceptions.{Exceptions}
 use Rattle.slurm.specs.SlurmSets.{exceptions_of}
-use Rattle.tables.specs.Authorizations.{entry_rows_of}
 use Rattle.tables.specs.Decode.{first_columns}
 use Rattle.tables.specs.Tables.{desk_beside, OverDesk}
 use Rattle.tables.specs.TablesHold.{TablesHold, items_if_any}
-use Rattle.tables.specs.declared.entry.EntryRow.{EntryRow}
 use Rattle.tables.specs.declared.holder.Counters.{Counters}
 
 abbrev pub by_column : ℕ → Row → Row → Ordering
@@ -61,14 +56,6 @@ Selects cells width items cmp sql = (h : List ℕ) → SelectsWith cells width i
 abbrev pub counters_if_any : Option Rows → Option Counters
 counters_if_any None = None
 counters_if_any (Some r) = Some (record { granted = r.granted; created = r.created })
-
--- the entry of a row gives the AS with this prefix and maxLength
-abbrev pub gives_entry : Asn → RoaPrefix → EntryRow → Bool
-gives_entry asn e r = (r.asn.0 == asn.0) && is_entry e.prefix e.max r.entry
-
--- the entries of a holder's authorizations that give it so
-abbrev pub entries_given : Asn → RoaPrefix → Rows → List EntryRow
-entries_given asn e r = filter (gives_entry asn e) (flat_map entry_rows_of r.auths)
 
 -- ---- queries of the exceptions of one SLURM file
 

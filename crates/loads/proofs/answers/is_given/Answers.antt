@@ -1,5 +1,6 @@
 use Rattle.std.proofs.Common.{◌∙◌}
 use Rattle.transactions.proofs.QueryLemmas.{refused_by}
+use Rattle.loads.specs.Loads.{is_other}
 use Rattle.loads.proofs.GivenAuths.{gives_out_of}
 use Rattle.loads.proofs.answers.is_given.Goals as goal
 
@@ -9,4 +10,4 @@ returns-in_err-given-clause-schema g c clean is = c.load_given.ensures.schema cl
 pub returns-clause-found : goal.returns-clause-found
 returns-clause-found g c clean charter all holds =
     let a = c.args in
-    (rw c.deref.ensures.value at c.has_other.ensures) ∙ gives_out_of a.but a.asn a.entry.now (all.of_holder a.holder.now) c.in_ok-given.given.items (c.in_ok-given.ensures.found clean charter all holds)
+    (rw c.deref.ensures.value at c.has_other.ensures) ∙ gives_out_of (is_other a.but) a.asn a.entry.now (all.of_holder a.holder.now) c.in_ok-given.given.items (c.in_ok-given.ensures.found clean charter all holds)

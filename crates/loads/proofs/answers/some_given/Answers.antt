@@ -4,7 +4,7 @@ use Rattle.sqlite.specs.Held.{state}
 use Rattle.sqlite.specs.State.{HasCleanDisk}
 use Rattle.registry.specs.Values.{FitIfAny}
 use Rattle.transactions.proofs.QueryLemmas.{refused_by}
-use Rattle.loads.specs.Loads.{auths_held, some_gives}
+use Rattle.loads.specs.Loads.{auths_held, is_other, some_gives}
 use Rattle.transactions.proofs.Asking.{asked_then}
 use Rattle.loads.proofs.GivenAuths.{gives_from, gives_none}
 use Rattle.loads.proofs.Loading.{held_before, refused_before}
@@ -30,7 +30,7 @@ returns-then-branch-clause-found g c clean charter all holds =
     let later = some_gives a.but a.asn (drop (c.loop-entry.entry-index + 1) a.entries.now) ys in
     sym
     (c.loop-entry.invariant.found before charter all holds
-    ∙ gives_from a.but a.asn a.entries.now c.loop-entry.entry-index c.entry-item.result ys c.loop-entry-test.true c.entry-item.is ∙ ap (λ b. b || later) (sym one ∙ c.if-branch.true))
+    ∙ gives_from (is_other a.but) a.asn a.entries.now c.loop-entry.entry-index c.entry-item.result ys c.loop-entry-test.true c.entry-item.is ∙ ap (λ b. b || later) (sym one ∙ c.if-branch.true))
 
 pub loop-entry-preserved : goal.loop-entry-preserved
 loop-entry-preserved g c =
@@ -48,7 +48,7 @@ loop-entry-preserved g c =
           let one = c.in_ok-is_given.ensures.found clean charter all (held_before old mid first.0.now_is charter all holds) in
           let later = some_gives a.but a.asn (drop (c.loop-entry.entry-index + 1) a.entries.now) ys in
           so_far.found before charter all holds
-          ∙ gives_from a.but a.asn a.entries.now c.loop-entry.entry-index c.entry-item.result ys c.loop-entry-test.true c.entry-item.is ∙ ap (λ b. b || later) (sym one ∙ c.if-branch.false);
+          ∙ gives_from (is_other a.but) a.asn a.entries.now c.loop-entry.entry-index c.entry-item.result ys c.loop-entry-test.true c.entry-item.is ∙ ap (λ b. b || later) (sym one ∙ c.if-branch.false);
     }
 
 pub returns-clause-found : goal.returns-clause-found
@@ -57,4 +57,4 @@ returns-clause-found g c clean charter all holds =
     let ys = auths_held (all.of_holder a.holder.now) in
     sym
     (c.loop-entry.invariant.found clean charter all holds
-    ∙ ap (λ l. some_gives a.but a.asn l ys) (drop_all c.loop-entry.entry-index a.entries.now (omega (arith, c.loop-entry-test.false))) ∙ gives_none a.but a.asn ys)
+    ∙ ap (λ l. some_gives a.but a.asn l ys) (drop_all c.loop-entry.entry-index a.entries.now (omega (arith, c.loop-entry-test.false))) ∙ gives_none (is_other a.but) a.asn ys)

@@ -1,4 +1,4 @@
-use Rattle.std.proofs.Common.{map, flat_map, arith, refl, sym, ◌∙◌}
+use Rattle.std.proofs.Common.{map, flat_map, arith, sym, ◌∙◌}
 use Rattle.sqlite.specs.Held.{state}
 use Rattle.sqlite.specs.State.{HasCleanDisk}
 use Rattle.transactions.specs.declared.fault.StoreFault.TheVariants.{Schema}
@@ -8,15 +8,14 @@ use Rattle.tables.specs.Decode.{ClaimFits, EntryRowFits}
 use Rattle.tables.specs.TablesHold.{items_if_any}
 use Rattle.loads.specs.Loads.{AreInOrder, IsOf}
 use Rattle.loads.proofs.AuthsFound.{auths_found, if_made, never_none, only_refused}
-use Rattle.loads.proofs.Loading.{claims_fit, entries_fit, held_before, never_fit}
+use Rattle.loads.proofs.Loading.{claims_fit, entries_fit, held_before, never_fit, never_fit_first}
 use Rattle.transactions.proofs.QueryLemmas.{refused_by}
 use Rattle.loads.proofs.load.load_auths.Goals as goal
 
 pub returns-in_err-claims-clause-schema : goal.returns-in_err-claims-clause-schema
 returns-in_err-claims-clause-schema g c clean is =
-    let old = state g.S.Store c.args.conn.now in
-    let refused = c.load_values.ensures.schema clean (refused_by c.load_values.result c.from_residual.result c.in_err-claims.field-0.0 c.in_err-claims.was c.from_residual.ensures.1 is) in
-    never_fit ClaimFits (λ r. map claim_of r.auths) claims_fit c.args.holder.now old old refused.0 refl refused
+    never_fit_first ClaimFits (λ r. map claim_of r.auths) claims_fit c.args.holder.now (state g.S.Store c.args.conn.now)
+    (c.load_values.ensures.schema clean (refused_by c.load_values.result c.from_residual.result c.in_err-claims.field-0.0 c.in_err-claims.was c.from_residual.ensures.1 is))
 
 pub returns-in_err-rows-clause-schema : goal.returns-in_err-rows-clause-schema
 returns-in_err-rows-clause-schema g c clean is =

@@ -1,4 +1,4 @@
-use Rattle.std.proofs.Common.{[], ◌∷◌, filter, arith, refl, sym, ◌∙◌}
+use Rattle.std.proofs.Common.{[], ◌∷◌, filter, arith, sym, ◌∙◌}
 use Rattle.sqlite.specs.Held.{state}
 use Rattle.sqlite.specs.State.{HasCleanDisk}
 use Rattle.sqlite_value.specs.declared.value.Value.TheVariants.{Text}
@@ -12,7 +12,7 @@ use Rattle.loads.specs.Loads.{AreInOrder, IsOf, auths_held}
 use Rattle.loads.specs.steps.Queries.{by_column}
 use Rattle.loads.proofs.AuthsFound.{if_made, only_refused}
 use Rattle.loads.proofs.Finding.{claims_numbered, entries_numbered, has_number, selects_claim, selects_entries}
-use Rattle.loads.proofs.Loading.{held_before, never_fit}
+use Rattle.loads.proofs.Loading.{held_before, never_fit, never_fit_first}
 use Rattle.loads.proofs.NumberFound.{never_no_number, number_found, numbered_claims_fit, numbered_entries_fit}
 use Rattle.transactions.proofs.QueryLemmas.{refused_by}
 use Rattle.loads.proofs.load.load_auths_numbered.Goals as goal
@@ -27,10 +27,9 @@ pub returns-in_err-claims-clause-schema : goal.returns-in_err-claims-clause-sche
 returns-in_err-claims-clause-schema g c clean is =
     let h = c.args.holder.now in
     let n = c.args.number in
-    let old = state g.S.Store c.args.conn.now in
-    let refused = c.load_selected.ensures.schema h (Text h ∷ number_cell n ∷ []) (claims_numbered n) (by_column 0) c.number_values-values.ensures (selects_claim h n) clean
-    (refused_by c.load_selected.result c.from_residual.result c.in_err-claims.field-0.0 c.in_err-claims.was c.from_residual.ensures.1 is) in
-    never_fit ClaimFits (claims_numbered n) (numbered_claims_fit n) h old old refused.0 refl refused
+    never_fit_first ClaimFits (claims_numbered n) (numbered_claims_fit n) h (state g.S.Store c.args.conn.now)
+    (c.load_selected.ensures.schema h (Text h ∷ number_cell n ∷ []) (claims_numbered n) (by_column 0) c.number_values-values.ensures (selects_claim h n) clean
+    (refused_by c.load_selected.result c.from_residual.result c.in_err-claims.field-0.0 c.in_err-claims.was c.from_residual.ensures.1 is))
 
 pub returns-in_err-rows-clause-schema : goal.returns-in_err-rows-clause-schema
 returns-in_err-rows-clause-schema g c clean is =

@@ -1,15 +1,14 @@
-use Rattle.std.proofs.Common.{◌≡◌, slice_get, refl, ◌∙◌}
+use Rattle.std.proofs.Common.{◌≡◌, slice_get, ◌∙◌}
 use Rattle.sqlite.specs.Held.{state}
 use Rattle.tables.proofs.CellsOnce.{counters_of_rows}
 use Rattle.transactions.proofs.QueryLemmas.{refused_by}
-use Rattle.loads.proofs.Loading.{CountersFit, counters_fit, first_counters, never_fit}
+use Rattle.loads.proofs.Loading.{CountersFit, counters_fit, first_counters, never_fit_first}
 use Rattle.loads.proofs.load.load_counters.Goals as goal
 
 pub returns-in_err-counters-clause-schema : goal.returns-in_err-counters-clause-schema
 returns-in_err-counters-clause-schema g c clean is =
-    let old = state g.S.Store c.args.conn.now in
-    let refused = c.load_values.ensures.schema clean (refused_by c.load_values.result c.from_residual.result c.in_err-counters.field-0.0 c.in_err-counters.was c.from_residual.ensures.1 is) in
-    never_fit CountersFit counters_of_rows counters_fit c.args.holder.now old old refused.0 refl refused
+    never_fit_first CountersFit counters_of_rows counters_fit c.args.holder.now (state g.S.Store c.args.conn.now)
+    (c.load_values.ensures.schema clean (refused_by c.load_values.result c.from_residual.result c.in_err-counters.field-0.0 c.in_err-counters.was c.from_residual.ensures.1 is))
 
 pub returns-clause-found : goal.returns-clause-found
 returns-clause-found g c clean charter all holds =

@@ -1,16 +1,15 @@
-use Rattle.std.proofs.Common.{refl, ◌∙◌}
+use Rattle.std.proofs.Common.{◌∙◌}
 use Rattle.std.specs.Prelude.{⊤}
 use Rattle.sqlite.specs.Held.{state}
 use Rattle.tables.specs.TablesHold.{items_if_any}
 use Rattle.transactions.proofs.QueryLemmas.{refused_by}
-use Rattle.loads.proofs.Loading.{all_spans_fit, never_fit, same-permuted}
+use Rattle.loads.proofs.Loading.{all_spans_fit, never_fit_first, same-permuted}
 use Rattle.loads.proofs.load.load_runs.Goals as goal
 
 pub returns-in_err-spans-clause-schema : goal.returns-in_err-spans-clause-schema
 returns-in_err-spans-clause-schema g c clean is =
-    let old = state g.S.Store c.args.conn.now in
-    let refused = c.load_values.ensures.schema clean (refused_by c.load_values.result c.from_residual.result c.in_err-spans.field-0.0 c.in_err-spans.was c.from_residual.ensures.1 is) in
-    never_fit (λ _. ⊤) (λ r. r.holdings) (λ o _. all_spans_fit (items_if_any (λ r. r.holdings) o)) c.args.holder.now old old refused.0 refl refused
+    never_fit_first (λ _. ⊤) (λ r. r.holdings) (λ o _. all_spans_fit (items_if_any (λ r. r.holdings) o)) c.args.holder.now (state g.S.Store c.args.conn.now)
+    (c.load_values.ensures.schema clean (refused_by c.load_values.result c.from_residual.result c.in_err-spans.field-0.0 c.in_err-spans.was c.from_residual.ensures.1 is))
 
 pub returns-clause-found : goal.returns-clause-found
 returns-clause-found g c clean charter all holds a =
