@@ -1,5 +1,5 @@
 -- The rows of a history rise by number, so they are loaded as they are; and what is answered of them is of the history.
-use Rattle.std.proofs.Common.{◌≡◌, ◌↔◌, ℕ, ◌+◌, ◌<◌, ◌≤◌, ◌==◌, ◌&&◌, Bool, true, false, cond, not, nat_le, IsTrue, MatchBool, List, [], ◌∷◌, ◌++◌, filter, find, length, Option, Some, None, is_some, Less, refl, sym, ap, subst, ◌∙◌, arith, nat_cmp, IfSome, IsSomeAnd}
+use Rattle.std.proofs.Common.{◌≡◌, ◌↔◌, ℕ, ◌+◌, ◌<◌, ◌≤◌, ◌==◌, ◌&&◌, Bool, true, false, cond, not, nat_le, IsTrue, MatchBool, List, [], ◌∷◌, ◌++◌, filter, find, length, Option, Some, None, is_some, inl, inr, ◌⊎◌, Less, refl, sym, ap, subst, ◌∙◌, arith, nat_cmp, IfSome, IsSomeAnd}
 use Rattle.std.specs.Cmp.{nat_cmp_is, nat_cmp_total}
 use Rattle.std.specs.List.{AllByRecursion, list_any}
 use Rattle.std.specs.Ordering.{on}
@@ -7,6 +7,7 @@ use Rattle.std.specs.Prelude.{option_map}
 use Rattle.std.proofs.lemmas.Bool.{cond-true, false≢true}
 use Rattle.std.proofs.lemmas.Bool.Decides.{nat_tests}
 use Rattle.std.proofs.lemmas.Cmp.{on_total}
+use Rattle.std.proofs.lemmas.List.Filters.{length-filter_both}
 use Rattle.sqlite_rules.proofs.ListLemmas.{has_contained, some_from}
 use Rattle.sqlite_trees.specs.Tree.{IsAscending}
 use Rattle.sqlite_trees.proofs.ListLemmas.{ascending_weaker}
@@ -22,13 +23,15 @@ use Rattle.registry.specs.declared.authorization.Auth.{Auth}
 use Rattle.registry.specs.declared.authorization.AuthTerms.{AuthTerms}
 use Rattle.registry.specs.declared.command.Command.{Command}
 use Rattle.registry.specs.declared.command.Command.TheVariants.{Register, Delegate, Transfer, Reclaim, Grant, Revoke, Create, Amend, Withdraw, Import, Slurm}
+use Rattle.registry.specs.declared.command.Proposed.{Proposed}
 use Rattle.registry.specs.declared.grant.Granted.{Granted}
 use Rattle.registry.specs.declared.limits.TheConstants.{MOST_AUTHORIZATIONS}
 use Rattle.registry.specs.declared.rows.HolderRows.{HolderRows}
 use Rattle.registry.specs.History.{History, is_registered, same_name}
+use Rattle.registry.specs.PartOfRows.{IsPartIfAny, looked_for, looks_for}
 use Rattle.registry.specs.Resources.{resource_holder, is_held_by, IsFree}
 use Rattle.registry.specs.RoaPrefixes.{with_maxes}
-use Rattle.registry.specs.Rows.{Rows, RowsIfAny, grants_if_any, auths_if_any}
+use Rattle.registry.specs.Rows.{Rows, RowsIfAny, rows_if_any, grants_if_any, auths_if_any}
 use Rattle.registry.specs.RowsOfAll.{AllRows, HasRows, IsTaken}
 use Rattle.registry.specs.Terms.{numbered_grant, granted_after, grants_made, grants_after, grant_terms, authorizations_made, authorization_terms, gives_some, AreActive, HeldSinceMade, Keeps, OfActive}
 use Rattle.registry.specs.Verdict.{IsLegal, auth_of_number, maxes_fit}
@@ -43,7 +46,7 @@ use Rattle.tables.specs.TablesHold.{items_if_any}
 use Rattle.loads.specs.declared.answers.Loaded.{Loaded}
 use Rattle.loads.specs.Loads.{AreCounted, AreGrants, AreInOrder, AreNumbered, AreRunsApart, HasRun, HaveSame, IsForCreate, IsForDelegate, MeetsSome, auths_held, created_if_any, some_gives}
 use Rattle.loads.proofs.Giving.{taken_iff}
-use Rattle.store.specs.Laws.{LoadsFactsOfHistories, LoadsNumberOfHistories, LoadsRowsOfHistories}
+use Rattle.store.specs.Laws.{LoadsFactsOfHistories, LoadsNumberOfHistories, LoadsPartsOfHistories, LoadsRowsOfHistories}
 
 module _ {X : Type 0} (number : X → ℕ) where
   -- the numbers rise, from above one number up to another
@@ -214,14 +217,13 @@ granted_loaded : (charter : Charter) (history : History) (h : List ℕ) (rows : 
 granted_loaded charter history h rows loaded legal of are =
     grants_in_order history h (items_if_any (λ r. r.grants) rows) loaded (is_held charter history h rows legal of).grants are
 
--- those of a number that are loaded in order are those of the number
-numbered_in_order : (history : History) (h : List ℕ) (n : ℕ) (xs loaded : List Auth) → AreActive history h xs → AreInOrder (λ (x : Auth). x.number) (filter (λ (x : Auth). x.number == n) xs) loaded
-    → loaded ≡ filter (λ (x : Auth). x.number == n) xs
-numbered_in_order history h n xs loaded active order =
+-- those that a test keeps are these where they are loaded in order
+kept_in_order : (history : History) (h : List ℕ) (keep : Auth → Bool) (xs loaded : List Auth) → AreActive history h xs → AreInOrder (λ (x : Auth). x.number) (filter keep xs) loaded → loaded ≡ filter keep xs
+kept_in_order history h keep xs loaded active order =
     let made = authorizations_made history h in
     let rise = auths-rise 0 xs made (active-numbered history h xs active) in
-    let kept = rise-filter (λ (x : Auth). x.number) (λ (x : Auth). x.number == n) 0 xs made rise in
-    in_order_same (λ (x : Auth). x.number) (filter (λ (x : Auth). x.number == n) xs) loaded (rise-ascending (λ (x : Auth). x.number) 0 (filter (λ (x : Auth). x.number == n) xs) made kept) order
+    let kept = rise-filter (λ (x : Auth). x.number) keep 0 xs made rise in
+    in_order_same (λ (x : Auth). x.number) (filter keep xs) loaded (rise-ascending (λ (x : Auth). x.number) 0 (filter keep xs) made kept) order
 
 -- the first that passes is that of all that pass
 find_kept : {X : Type 0} (p : X → Bool) (xs : List X) → find p (filter p xs) ≡ find p xs
@@ -237,7 +239,7 @@ loads_number charter history h n rows part legal of are =
     let xs = auths_held rows in
     let active = (is_held charter history h rows legal of).auths in record {
       grants = granted_loaded charter history h rows part.grants.items legal of are.grants;
-      auth = (xs, active, sym (find_kept (λ (x : Auth). x.number == n) xs) ∙ ap (auth_of_number n) (sym (numbered_in_order history h n xs part.auths.items active are.auths)));
+      auth = (xs, active, sym (find_kept (λ (x : Auth). x.number == n) xs) ∙ ap (auth_of_number n) (sym (kept_in_order history h (λ (x : Auth). x.number == n) xs part.auths.items active are.auths)));
     }
 
 number_facts : (charter : Charter) (history : History) (h : List ℕ) (n : ℕ) (rows : Option Rows) (part : Option HolderRows) → IsLegal charter history → RowsIfAny history h rows → IsSomeAnd part (AreNumbered n rows)
@@ -329,6 +331,38 @@ shared_by history h n maxes xs is_shared (Some x) active shared = λ fit.
     let z : Auth = record x { entries = with_maxes maxes x.entries } in
     let same = shared fit ∙ gives_shared n z xs in
     (λ none. (xs, active, sym same ∙ none), λ none. same ∙ of_these history h xs active (λ ys. shares_with_other n z ys ≡ false) none)
+
+-- ---- for hypothetical changes
+
+pub loads_parts : LoadsPartsOfHistories
+loads_parts charter history h changes rows part legal of are = go rows part.rows of are.counted are.holdings.runs are.auths are.left
+  where
+    keep : Auth → Bool
+    keep = looked_for changes
+
+    go : (rows : Option Rows) (loaded : Option HolderRows) → RowsIfAny history h rows → AreCounted rows loaded → IfSome loaded (λ p. HaveSame (items_if_any (λ (r : Rows). r.holdings) rows) p.holdings)
+        → AreInOrder (λ (x : Auth). x.number) (filter keep (auths_held rows)) (auths_if_any loaded)
+        → (part.left_out + length (auths_if_any loaded) ≡ length (auths_held rows)) ⊎ ((part.left_out ≡ 0) × (created_if_any rows + length changes < MOST_AUTHORIZATIONS))
+        → IsPartIfAny changes part.left_out keep rows (rows_if_any loaded)
+    go None None of counted runs auths left = tt
+    go None (Some p) of counted runs auths left = absurd (let c = counted.created in cc)
+    go (Some r) None of counted runs auths left = absurd (let c = counted.created in cc)
+    go (Some r) (Some p) of counted runs auths left =
+        let held = is_held charter history h (Some r) legal of in
+        let kept = kept_in_order history h keep r.auths p.auths.items held.auths auths in
+        let most = no_more 0 r.auths (authorizations_made history h) (active-numbered history h r.auths held.auths) in
+        record {
+          grants = granted_loaded charter history h (Some r) p.grants.items legal of counted.grants ∙ sym held.grants;
+          created = let c = counted.created in cc;
+          auths = kept;
+          kept = λ change x there looks. some_from (λ c. looks_for c x) changes change (has_contained changes change there) looks;
+          left = elim left [
+            | inl all ↦ inl (omega (arith, all, ap length kept, length-filter_both keep (λ x. not (keep x)) (λ x. refl) r.auths))
+            | inr few ↦ inr (few.0, omega (arith, few.1, held.created, most))
+          ];
+          held = λ a is. sym (runs a) ∙ is;
+          holds = λ terms there all a is. runs a ∙ all a is;
+        }
 
 -- ---- for each command
 

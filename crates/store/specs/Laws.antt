@@ -12,7 +12,9 @@ use Rattle.charters.specs.declared.charter.Charter.{Charter}
 use Rattle.registry.specs.declared.rows.HolderRows.{HolderRows}
 use Rattle.registry.specs.Answer.{AnswersNumber, AreFacts}
 use Rattle.registry.specs.declared.command.Command.{Command}
+use Rattle.registry.specs.declared.command.Proposed.{Proposed}
 use Rattle.registry.specs.History.{History}
+use Rattle.registry.specs.PartOfRows.{IsPartIfAny, looked_for}
 use Rattle.registry.specs.Rows.{Rows, rows_if_any, RowsIfAny}
 use Rattle.registry.specs.RowsOfAll.{AllRows, HasRows}
 use Rattle.registry.specs.Values.{HistoryFits, FitIfAny, FilesFit}
@@ -26,6 +28,8 @@ use Rattle.database.specs.OldTablesRead.{OldTablesRead}
 use Rattle.database.specs.TablesRead.{TablesRead}
 use Rattle.loads.specs.declared.answers.Loaded.{Loaded}
 use Rattle.loads.specs.Loads.{AreLoaded, AreNumbered, IsLoadedFor, AllGiveOn}
+use Rattle.store.specs.PartLoaded.{IsForChanges}
+use Rattle.store.specs.declared.part.Part.{Part}
 use Rattle.store.specs.StoreRows.{AreInRange, StoreView, connection_state, Holds}
 
 -- The rows of a holder after a history, as they are loaded, are its rows after the history.
@@ -48,6 +52,13 @@ LoadsFactsOfHistories =
     (charter : Charter) (history : History) (command : Command) (rows : AllRows) (loaded : Loaded)
     → IsLegal charter history → HasRows rows history → IsLoadedFor command rows loaded
     → AreFacts history command loaded.rows loaded.taker loaded.answers
+
+-- What is loaded of a holder for hypothetical changes is a part of its rows that they are judged on, after a legal history.
+abbrev pub LoadsPartsOfHistories : Type 0
+LoadsPartsOfHistories =
+    (charter : Charter) (history : History) (h : List ℕ) (changes : List Proposed) (rows : Option Rows) (part : Part)
+    → IsLegal charter history → RowsIfAny history h rows → IsForChanges changes rows part
+    → IsPartIfAny changes part.left_out (looked_for changes) rows (rows_if_any part.rows)
 
 -- The rows of a legal history whose values are those of their types fit, so that no load of a holder
 -- finds a row that shows none.

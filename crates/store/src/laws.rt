@@ -1,7 +1,7 @@
 //! Theorems, stated as contracts of functions whose bodies at most call other theorems.
 ghost use Rattle.store.specs.Laws.{AuthsOfHistoriesGive, FilesOfHistoriesFit, HistoriesRead};
 ghost use Rattle.store.specs.Laws.{LoadsFactsOfHistories, LoadsNumberOfHistories};
-ghost use Rattle.store.specs.Laws.{LoadsRowsOfHistories, RowsOfHistoriesFit, RowsThatReadFit};
+ghost use Rattle.store.specs.Laws.{LoadsPartsOfHistories, LoadsRowsOfHistories, RowsOfHistoriesFit, RowsThatReadFit};
 ghost use Rattle.store.specs.Laws.{MemoryHoldsRows, MemoryIsHonest, MemoryStaysOpen};
 ghost use Rattle.store.specs.Laws.{OldHistoriesRead, OldTablesThatReadAreOurs, RowsInRangeGive};
 ghost use Rattle.store.specs.Laws.{TablesThatReadAreOurs};
@@ -24,6 +24,13 @@ pub fn number_of_a_history()
 #[tactic(auto, using(crate::proofs::HistoryRows::loads_facts))]
 pub fn facts_of_a_history()
     ensures { LoadsFactsOfHistories }
+{}
+
+/// If the tables hold the rows of a legal history, what is loaded of a holder for hypothetical
+/// changes is a part of its rows that the rules judge as all of them.
+#[tactic(auto, using(crate::proofs::HistoryRows::loads_parts))]
+pub fn part_of_a_history()
+    ensures { LoadsPartsOfHistories }
 {}
 
 /// The rows of a legal history whose values are those of their types are in their ranges, so that

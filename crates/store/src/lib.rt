@@ -2,8 +2,10 @@
 #![tactic(auto)]
 
 pub mod laws;
+mod part;
 mod store;
 
 pub use loads::Loaded;
+pub use part::Part;
 pub use store::Store;
 pub use transactions::StoreFault;
