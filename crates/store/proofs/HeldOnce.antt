@@ -23,6 +23,13 @@ use Rattle.edits.proofs.Numbers.{number_of, numbered_apart}
 use Rattle.store.specs.Given.{GivenOnce}
 use Rattle.loads.proofs.Giving.{cells_of_vrp}
 
+module _ (claims_differ : ClaimsDiffer) (charter : CharterSets) (rows : AllRows) (db : Database) (sound : IsDatabase db) (tables : db.schema.tables ≡ desk_tables) (holds : TablesHold charter rows db.trees) where
+  -- no two authorizations of a holder have one number
+  pub one_of_number : (h : List ℕ) (r : Rows) (x y : Auth) → rows.of_holder h ≡ Some r → Has r.auths x → Has r.auths y → x.number ≡ y.number → x ≡ y
+  one_of_number h r x y of in_r in_s number =
+      let apart = numbered_apart h claims_differ db sound tables (holds.whole claim.tree refl) rows.of_holder r holds.claims of in
+      two_are_one (number_of h) r.auths apart x y in_r in_s (ap (λ n. number_columns (claim_row h (record (claim_of x) { number = n }))) number)
+
 module _ (entries_differ : EntriesDiffer) (claims_differ : ClaimsDiffer) (charter : CharterSets) (rows : AllRows) (db : Database) (sound : IsDatabase db) (tables : db.schema.tables ≡ desk_tables) (holds : TablesHold charter rows db.trees) where
   abbrev row_of : List ℕ → Auth → RoaPrefix → Row
   row_of h x e = entry_row h (claim_entry (claim_of x) e)
@@ -38,17 +45,11 @@ module _ (entries_differ : EntriesDiffer) (claims_differ : ClaimsDiffer) (charte
       let apart = entries_differ db sound tables (holds.whole entry.tree refl) (λ _. true) (map payload_columns table) (IsPermutation-same _ _ (ap (map payload_columns) every)) in
       two_are_one payload_columns table apart c d has_c has_d same
 
-  -- no two authorizations of a holder have one number
-  one_of_number : (h : List ℕ) (r : Rows) (x y : Auth) → rows.of_holder h ≡ Some r → Has r.auths x → Has r.auths y → x.number ≡ y.number → x ≡ y
-  one_of_number h r x y of in_r in_s number =
-      let apart = numbered_apart h claims_differ db sound tables (holds.whole claim.tree refl) rows.of_holder r holds.claims of in
-      two_are_one (number_of h) r.auths apart x y in_r in_s (ap (λ n. number_columns (claim_row h (record (claim_of x) { number = n }))) number)
-
   one_holder : (h k : List ℕ) (r s : Rows) (x y : Auth) → h ≡ k → rows.of_holder h ≡ Some r → rows.of_holder k ≡ Some s → Contains r.auths x → Contains s.auths y → x.number ≡ y.number → x ≡ y
   one_holder h k r s x y name of also in_r in_s number =
       let again : rows.of_holder h ≡ Some s = ap rows.of_holder name ∙ also in
       let same : s ≡ r = cc in
-      one_of_number h r x y of (has_contained r.auths x in_r) (has_contained r.auths y (subst (λ (t : Rows). Contains t.auths y) same in_s)) number
+      one_of_number claims_differ charter rows db sound tables holds h r x y of (has_contained r.auths x in_r) (has_contained r.auths y (subst (λ (t : Rows). Contains t.auths y) same in_s)) number
 
   pub held_once : GivenOnce rows
   held_once h k r s x y v of also in_r in_s is too =

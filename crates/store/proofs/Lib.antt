@@ -5,3 +5,4 @@ mod HeldRead
 mod OpenedStore
 mod ReadRows
 pub mod HeldOnce
+mod PartFound

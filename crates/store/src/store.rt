@@ -10,6 +10,7 @@ ghost use Rattle.database.specs.Opening.{IsOfAnotherSchema};
 ghost use Rattle.store.specs.steps.Commits.{CommitsChange, MayCommit};
 ghost use Rattle.transactions.specs.Statements.{IfCommitted, IfRolledBack, CommitsAtMost};
 
+use crate::part::{Part, load_part};
 use addr::{Day, Name, Prefix, Vrp};
 use database::{make_tables, open_tables};
 use edits::make_change;
@@ -17,7 +18,7 @@ use loads::{
     Loaded, is_registered, load_files, load_for_amend, load_for_create, load_for_delegate,
     load_grants_counted, load_numbered, load_rows, load_vrps, some_overlap,
 };
-use registry::{Answers, Change, Charter, Command, HolderRows};
+use registry::{Answers, Change, Charter, Command, HolderRows, Proposed};
 use slurm::Slurm;
 use sqlite::{Alter, Connection, MemStore};
 use std::alloc::Global;
@@ -191,6 +192,7 @@ impl<S: Alter> Store<S> {
     ghost use Rattle.registry.specs.RowsOfAll.{IsTaken, IsGivenOn};
     ghost use Rattle.registry.specs.Values.{FitIfAny, FilesFit};
     ghost use Rattle.store.specs.Given.{GivenOnce};
+    ghost use Rattle.store.specs.PartLoaded.{IsForChanges};
     ghost use Rattle.loads.specs.Loads.{AllGiveOn, AreCounted, AreFilesOf, AreLoaded};
     ghost use Rattle.loads.specs.Loads.{AreNumbered, IsLoadedFor};
     ghost use Rattle.store.specs.StoreRows.{connection_state, Holds, IsRead, NamedFit, OfHeldRows};
@@ -313,6 +315,24 @@ impl<S: Alter> Store<S> {
             Command::Import { holder, .. } => self.load_whole(alloc, holder),
             Command::Slurm { .. } => Ok(alone(None)),
         }
+    }
+
+    /// What the rules of hypothetical changes read of the holder: of its authorizations only those
+    /// that they look for, by key.
+    pub fn load_for_changes(
+        &mut self,
+        alloc: Global,
+        holder: &Name,
+        changes: &[Proposed],
+    ) -> Result<Part, StoreFault>
+        ensures read { IsRead S.Store self.old self.new }
+        ensures found { IfClean S.Store self.new (IfOk result (λ part.
+            OfHeldRows S.Store self.old
+            (λ rows. IsForChanges changes.now (rows.of_holder holder.now) part))) }
+        ensures schema { IfClean S.Store self.new (result ≡ Err StoreFault.Schema
+            → OfHeldRows S.Store self.old (λ rows. ¬ FitIfAny (rows.of_holder holder.now))) }
+    {
+        load_part(&mut self.conn, alloc, holder, changes)
     }
 
     /// The grants of the holder and its counters.

@@ -1,0 +1,6 @@
+use Rattle.std.proofs.Common.{◌≡◌, ◌++◌, map, take}
+use Rattle.tables.specs.declared.entry.EntryRow.{EntryRow}
+use Rattle.store.proofs.part.push_numbers.Given as goal
+
+abbrev pub invariant-loop-row : goal.invariant-loop-row
+invariant-loop-row l = l.numbers.items ≡ l.fn.numbers.items ++ map (λ (r : EntryRow). r.number) (take l.row-index l.rows)
