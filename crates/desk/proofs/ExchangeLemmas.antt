@@ -1,5 +1,6 @@
 -- The authorizations that changes at a holder would exchange.
-use Rattle.std.proofs.Common.{◌≡◌, ℕ, inl, inr, List, [], ◌∷◌, map, Option, Err, refl, sym, ap, length, arith}
+use Rattle.std.proofs.Common.{◌≡◌, ℕ, Bool, true, false, not, ◌⊎◌, inl, inr, List, [], ◌∷◌, map, Err, refl, sym, ap, ◌∙◌, subst, length, Contains, arith}
+use Rattle.std.proofs.lemmas.Bool.{cases_Bool, false≢true}
 use Rattle.addr.specs.OriginValidation.{validation_state}
 use Rattle.addr.specs.declared.route.Route.{Route}
 use Rattle.histories.specs.Growth.{HypotheticalIsLegal}
@@ -12,15 +13,16 @@ use Rattle.registry.specs.Answer.{IsHypotheticalAnswer}
 use Rattle.registry.specs.DailyVrps.{IsVrpOn}
 use Rattle.registry.specs.History.{History}
 use Rattle.registry.specs.HypotheticalHistory.{HypotheticalHistory}
-use Rattle.registry.specs.Rows.{Rows, RowsOf, RowsIfAny}
+use Rattle.registry.specs.PartOfRows.{not_kept}
 use Rattle.registry.specs.RowsOfAll.{AllRows, HasRows}
-use Rattle.registry.specs.Terms.{AreActive}
+use Rattle.registry.specs.Terms.{IsActive}
 use Rattle.registry.specs.Verdict.{IsLegal}
 use Rattle.registry.specs.declared.authorization.Auth.{Auth}
 use Rattle.charters.specs.declared.charter.Charter.{Charter}
 use Rattle.registry.specs.declared.command.Proposed.{Proposed}
 use Rattle.registry.specs.declared.rule.Refusal.{Refusal}
 use Rattle.registry.specs.declared.rule.Refusal.TheVariants.{Denied, Memory}
+use Rattle.policy.specs.PartAnswer.{ExchangesAuths}
 use Rattle.slurm.specs.SlurmSets.{union}
 use Rattle.sqlite.specs.Store.{Ghosts}
 use Rattle.desk.specs.Answer.{refused_with, AnswersWhatIf, AreStatesOn}
@@ -34,7 +36,7 @@ use Rattle.kept.specs.Days.{ExchangesVrps}
 use Rattle.kept.specs.KeptDay.{KeptDay}
 use Rattle.kept.proofs.DayLemmas.{day_of_history}
 use Rattle.kept.proofs.Exchanges.{exchanged_day}
-use Rattle.kept.proofs.Members.{none_in_nil}
+use Rattle.kept.proofs.Members.{in_filter, none_in_nil}
 use Rattle.kept.proofs.States.{states_such}
 use Rattle.kept.specs.States.{states_after, states_now, HaveStates}
 use Rattle.kept.proofs.Turns.{active_rows, has_active, in_force_then, is_active, EndsAndBegins}
@@ -66,42 +68,79 @@ exchanges_nothing charter history day caller holder [] none = (
 
 -- ---- the exchange that a what-if makes
 
--- all active authorizations of the holder end, and all of its hypothetical ones begin
-all_turn : (charter : Charter) (before after : History) (holder : List ℕ) (all : AllRows) → IsLegal charter before → IsLegal charter after → HasRows all before
-    → DifferAtMostAt holder before after → (mine later : List Auth) → AreActive before holder mine → AreActive after holder later
-    → EndsAndBegins before after holder mine later
-all_turn charter before after holder all legal legal_after has differ mine later are_mine are_later = record {
-  were = is_active before holder mine are_mine;
-  own = λ x. (
-    λ active. inr (has_active after holder later are_later x active),
-    λ is. elim is [
-      | inl kept ↦ absurd (kept.1 (has_active before holder mine are_mine x kept.0))
-      | inr new ↦ is_active after holder later are_later x new
-    ],
-  );
-  others = λ h x other.
+-- the authorizations of a part end, and those that the changes leave of it begin
+part_turns : (charter : Charter) (before after : History) (holder : List ℕ) (all : AllRows) → IsLegal charter before → IsLegal charter after → HasRows all before
+    → DifferAtMostAt holder before after → (ended begun : List Auth) → ExchangesAuths before after holder ended begun
+    → EndsAndBegins before after holder ended begun
+part_turns charter before after holder all legal legal_after has differ ended begun exchanges = record {
+  were = λ x gone. was x (ends x gone).0;
+  own = λ x. (goes x, comes x);
+  others = λ h x different.
       let rows = all.of_holder h in
       let auths = auths_if_any rows in
-      let was = active_rows charter before h rows legal (has.holders h) in
-      let is = active_rows charter after h rows legal_after ((differ.others h rows other).0 (has.holders h)) in (
-        λ active. is_active before h auths was x (has_active after h auths is x active),
-        λ active. is_active after h auths is x (has_active before h auths was x active),
+      let were = active_rows charter before h rows legal (has.holders h) in
+      let are = active_rows charter after h rows legal_after ((differ.others h rows different).0 (has.holders h)) in (
+        λ active. is_active before h auths were x (has_active after h auths are x active),
+        λ active. is_active after h auths are x (has_active before h auths were x active),
       );
 }
+  where
+    keep : Auth → Bool
+    keep = exchanges.keep
 
--- the changes exchange the holder's authorizations for those that they would leave
+    earlier : List Auth
+    earlier = exchanges.active_before
+
+    later : List Auth
+    later = exchanges.active_after
+
+    was : (x : Auth) → Contains earlier x → IsActive before holder x
+    was = is_active before holder earlier exchanges.are_before
+
+    is : (x : Auth) → Contains later x → IsActive after holder x
+    is = is_active after holder later exchanges.are_after
+
+    ends : (x : Auth) → Contains ended x → Contains earlier x × (keep x ≡ true)
+    ends x gone = (in_filter keep earlier x).0 (subst (λ (ys : List Auth). Contains ys x) exchanges.kept_before gone)
+
+    begins : (x : Auth) → Contains later x → keep x ≡ true → Contains begun x
+    begins x there kept = subst (λ (ys : List Auth). Contains ys x) (sym exchanges.kept_after) ((in_filter keep later x).1 (there, kept))
+
+    stays : (xs ys : List Auth) → not_kept keep xs ≡ not_kept keep ys → (x : Auth) → Contains xs x → keep x ≡ false → Contains ys x
+    stays xs ys same x there other =
+        let beside = λ (y : Auth). not (keep y) in
+        ((in_filter beside ys x).0 (subst (λ (zs : List Auth). Contains zs x) same ((in_filter beside xs x).1 (there, ap not other)))).0
+
+    goes : (x : Auth) → IsActive after holder x → (IsActive before holder x × ¬ Contains ended x) ⊎ Contains begun x
+    goes x active =
+        let there = has_active after holder later exchanges.are_after x active in
+        elim (cases_Bool (keep x)) [
+          | inl kept ↦ inr (begins x there kept)
+          | inr other ↦ inl (was x (stays later earlier exchanges.others x there other), λ gone. false≢true (sym other ∙ (ends x gone).1))
+        ]
+
+    comes : (x : Auth) → (IsActive before holder x × ¬ Contains ended x) ⊎ Contains begun x → IsActive after holder x
+    comes x (inl left) =
+        let there = has_active before holder earlier exchanges.are_before x left.0 in
+        elim (cases_Bool (keep x)) [
+          | inl kept ↦ absurd (left.1 (subst (λ (ys : List Auth). Contains ys x) (sym exchanges.kept_before) ((in_filter keep earlier x).1 (there, kept))))
+          | inr other ↦ is x (stays earlier later (sym exchanges.others) x there other)
+        ]
+    comes x (inr new) = is x ((in_filter keep later x).0 (subst (λ (ys : List Auth). Contains ys x) exchanges.kept_after new)).0
+
+-- the changes exchange the authorizations of a part of the holder's rows for those that they would leave of it
 pub would_exchange : NoSharedVrp → HypotheticalIsLegal → HypotheticalKeepsOthers → (charter : Charter) (history after : History) (day : ℕ) (caller holder : List ℕ) (changes : List Proposed)
-    (all : AllRows) → IsLegal charter history → HasRows all history → (rows : Option Rows) (later : Rows) → RowsIfAny history holder rows
-    → HypotheticalHistory charter day caller holder history changes after → RowsOf after holder later
-    → WouldExchange charter history day caller holder changes (auths_if_any rows) later.auths
-would_exchange shared legally others_keep charter history after day caller holder changes all legal has rows later of would of_later =
+    (all : AllRows) → IsLegal charter history → HasRows all history → (ended begun : List Auth)
+    → HypotheticalHistory charter day caller holder history changes after → ExchangesAuths history after holder ended begun
+    → WouldExchange charter history day caller holder changes ended begun
+would_exchange shared legally others_keep charter history after day caller holder changes all legal has ended begun would exchanges =
     let differ = others_keep charter day caller holder history changes after legal would in
-    let turns = all_turn charter history after holder all legal (legally charter day caller holder history changes after legal would) has differ
-    (auths_if_any rows) later.auths (active_rows charter history holder rows legal of) of_later.auths in (
+    let legal_after = legally charter day caller holder history changes after legal would in
+    let turns = part_turns charter history after holder all legal legal_after has differ ended begun exchanges in (
       after,
       would,
       record {
-        vrps = in_force_then shared charter history all legal has after holder (auths_if_any rows) later.auths turns day;
+        vrps = in_force_then shared charter history all legal has after holder ended begun turns day;
         exceptions = ap union (sym differ.files);
       },
     )

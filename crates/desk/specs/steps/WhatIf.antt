@@ -1,7 +1,9 @@
--- Steps of a what-if: which authorizations its changes would exchange.
-use Rattle.std.specs.Prelude.{ℕ, List}
+-- Steps of a what-if: what its changes are judged on, and which authorizations they would exchange.
+use Rattle.std.specs.Prelude.{ℕ, List, Option}
 use Rattle.registry.specs.History.{History}
 use Rattle.registry.specs.HypotheticalHistory.{HypotheticalHistory}
+use Rattle.registry.specs.PartOfRows.{looked_for, IsPartIfAny}
+use Rattle.registry.specs.Rows.{Rows, RowsIfAny, rows_if_any}
 use Rattle.registry.specs.declared.authorization.Auth.{Auth}
 use Rattle.charters.specs.declared.charter.Charter.{Charter}
 use Rattle.registry.specs.declared.command.Proposed.{Proposed}
@@ -9,8 +11,15 @@ use Rattle.registry.specs.Verdict.{IsLegal}
 use Rattle.kept.specs.Days.{ExchangesVrps, IsDayOfRows}
 use Rattle.kept.specs.KeptDay.{KeptDay}
 use Rattle.sqlite.specs.Store.{Ghosts}
+use Rattle.store.specs.declared.part.Part.{Part}
 use Rattle.desk.specs.Desk.{charter_of, HoldsRowsOf}
 use Rattle.desk.specs.declared.desk.Desk.{Desk}
+
+-- the part has what the changes are judged on of the holder's rows
+abbrev pub IsEnoughFor : History → List ℕ → List Proposed → Part → Type 0
+IsEnoughFor history holder changes part =
+    (whole : Option Rows) × RowsIfAny history holder whole
+    × IsPartIfAny changes part.left_out (looked_for changes) whole (rows_if_any part.rows)
 
 -- the exchange gives the VRPs of the history that the changes of the caller at the holder would leave
 abbrev pub WouldExchange :

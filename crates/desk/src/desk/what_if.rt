@@ -2,14 +2,13 @@
 ghost use Rattle.std.specs.Prelude.{◌≡◌, false, option_copied, IfErr, IfOk, List, MatchResult};
 ghost use Rattle.addr.specs.declared.route.Route.{Route};
 ghost use Rattle.kept.specs.Days.{ExchangesVrps};
-ghost use Rattle.kept.specs.Giving.{auths_if_any};
 ghost use Rattle.kept.specs.States.{states_after, states_now};
 ghost use Rattle.registry.specs.History.{History};
-ghost use Rattle.registry.specs.Rows.{rows_if_any};
+ghost use Rattle.registry.specs.Rows.{auths_if_any};
 ghost use Rattle.store.specs.StoreRows.{IsRead};
 ghost use Rattle.desk.specs.Answer.{is_accepted, AnswersWhatIf, AreStatesOn};
 ghost use Rattle.desk.specs.Desk.{charter_of, OfRows};
-ghost use Rattle.desk.specs.steps.WhatIf.{WouldExchange};
+ghost use Rattle.desk.specs.steps.WhatIf.{IsEnoughFor, WouldExchange};
 
 use super::Desk;
 use super::daily::{kept_if, kept_on};
@@ -17,13 +16,13 @@ use crate::Reply;
 use addr::{Day, Name, Route};
 use kept::judge_twice;
 use payload::Validity;
-use registry::{Auth, HolderRows, Proposed, View};
+use registry::{Auth, HolderRows, Proposed};
 use sqlite::Alter;
-use store::StoreFault;
+use store::{Part, StoreFault};
 
 /// The authorizations of the rows; none if there are no rows.
 fn auths_of(rows: Option<&HolderRows>) -> &[Auth]
-    ensures { result.now ≡ auths_if_any (rows_if_any (option_copied rows.entry)) }
+    ensures { result.now ≡ auths_if_any (option_copied rows.entry) }
 {
     match rows {
         Some(rows) => &rows.auths,
@@ -59,11 +58,12 @@ impl<S: Alter> Desk<S> {
         Ok(Reply::Report(states))
     }
 
-    /// The holder's rows, and those that the changes would leave, or the reply that refuses them.
-    /// If there is no change, neither is loaded.
+    /// The part of the holder's rows that the changes are judged on, and what they would leave of
+    /// it, or the reply that refuses them. If there is no change, nothing is loaded.
     ///
-    /// The rest stays as it is: other holders keep their rows, and none of them gives a VRP that
-    /// the holder gives, so to take the holder's out takes nothing of theirs.
+    /// The rest stays as it is: no change is of an authorization that the part leaves out, and other
+    /// holders keep their rows. No two authorizations give the same VRP, so to take out those of
+    /// the part takes nothing of the others'.
     fn suppose(
         &mut self,
         holder: &Name,
@@ -75,8 +75,7 @@ impl<S: Alter> Desk<S> {
         ensures same { self.new.kept ≡ self.old.kept }
         ensures found { OfRows S.Store self.old self.new (λ history. MatchResult result
             (λ supposed. WouldExchange (charter_of self.old) history day caller.now holder.now
-            changes.now (auths_if_any (rows_if_any supposed.0))
-            (auths_if_any (rows_if_any supposed.1)))
+            changes.now (auths_if_any supposed.0) (auths_if_any supposed.1))
             (λ reply. (routes : List Route) → AnswersWhatIf (charter_of self.old) history day
             caller.now holder.now changes.now routes reply)) }
         ensures never_done { IfErr result (λ reply. is_accepted reply ≡ false) }
@@ -87,13 +86,20 @@ impl<S: Alter> Desk<S> {
         if changes.is_empty() {
             return Ok((None, None));
         }
-        let view = View {
-            holder: self.load(holder)?,
-            taken: false,
-        };
-        let charter = self.store.charter();
-        let after = policy::suppose(self.alloc, charter, &view, day, caller, changes)?;
-        Ok((view.holder, Some(after)))
+        let Part { rows, left_out } = self.load_for_changes(holder, changes)?;
+        let after = policy::suppose_on(rows.as_ref(), left_out, day, caller, changes)?;
+        Ok((rows, Some(after)))
+    }
+
+    /// The part of the holder's rows that the changes are judged on.
+    fn load_for_changes(&mut self, holder: &Name, changes: &[Proposed]) -> Result<Part, StoreFault>
+        ensures read { IsRead S.Store self.old.store self.new.store }
+        ensures same { self.new.kept ≡ self.old.kept }
+        ensures part { IfOk result (λ part. OfRows S.Store self.old self.new (λ history.
+            IsEnoughFor history holder.now changes.now part)) }
+    {
+        store::laws::part_of_a_history();
+        self.store.load_for_changes(self.alloc, holder, changes)
     }
 
     /// The states of the routes now, and with the begun authorizations in place of the ended ones.
