@@ -7,6 +7,7 @@ pub mod Deleting
 pub mod Updating
 pub mod Texts
 pub mod ClaimTexts
+pub mod ExceptionTexts
 pub mod PartLemmas
 pub mod Columns
 pub mod Testing

@@ -5,3 +5,7 @@ pub mod Asking
 pub mod Ascending
 pub mod Obeyed
 pub mod KeyedRows
+pub mod NamedFiles
+pub mod HeldRows
+mod FilesIn
+mod ShownFiles

@@ -2,5 +2,6 @@ pub mod Fault
 pub mod Databases
 pub mod Statements
 pub mod Queries
+pub mod Files
 pub mod Laws
 pub mod steps

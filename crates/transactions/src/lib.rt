@@ -3,12 +3,14 @@
 #![tactic(auto)]
 
 mod fault;
+mod files;
 pub mod laws;
 mod query;
 mod statement;
 mod values;
 
 pub use fault::StoreFault;
+pub use files::group_files;
 pub use query::{ask, ask_inside};
 pub use statement::execute;
 pub use values::read_all;
