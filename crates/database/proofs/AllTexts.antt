@@ -23,6 +23,7 @@ use Rattle.tables.specs.declared.pool.TheConstants.{SELECT_ALL_PREFIXES}
 use Rattle.tables.proofs.ClaimTexts.{all_claims_is, all_entries_is}
 use Rattle.tables.proofs.Selecting.{from_table, no_limit, picks, permuted}
 use Rattle.tables.proofs.Columns.{shown_at, shown_columns}
+use Rattle.tables.proofs.ExceptionTexts.{all_exceptions_is}
 use Rattle.tables.proofs.Texts.{Means, upwards}
 use Rattle.database.specs.steps.Numbered.{columns_and_rowid, SelectsAll}
 use Rattle.transactions.specs.steps.Statements.{AnswersSelect}
@@ -95,12 +96,8 @@ all_auth_is = record { is = λ s. refl; plain = λ s. (refl, refl); unlisted = �
 pub selects_auth : SelectsAll 8 12 (1 ∷ 2 ∷ 3 ∷ 4 ∷ 5 ∷ 6 ∷ 7 ∷ 8 ∷ []) SELECT_ALL_AUTHS.now
 selects_auth = selects_all 12 (1 ∷ 2 ∷ 3 ∷ 4 ∷ 5 ∷ 6 ∷ 7 ∷ 8 ∷ []) _ SELECT_ALL_AUTHS.now all_auth_is
 
-all_slurm_is : Means SELECT_ALL_EXCEPTIONS.now (all_of_table 15 (0 ∷ 1 ∷ 2 ∷ 3 ∷ 4 ∷ 5 ∷ 6 ∷ 7 ∷ []) (codes "file" ∷ codes "kind" ∷ codes "position" ∷ codes "family" ∷ codes "lo" ∷ codes "len" ∷ codes "max" ∷ codes "asn" ∷ codes "rowid" ∷ []))
-unfolding understood everything
-all_slurm_is = record { is = λ s. refl; plain = λ s. (refl, refl); unlisted = λ s. refl }
-
 pub selects_slurm : SelectsAll 8 15 (0 ∷ 1 ∷ 2 ∷ 3 ∷ 4 ∷ 5 ∷ 6 ∷ 7 ∷ []) SELECT_ALL_EXCEPTIONS.now
-selects_slurm = selects_all 15 (0 ∷ 1 ∷ 2 ∷ 3 ∷ 4 ∷ 5 ∷ 6 ∷ 7 ∷ []) _ SELECT_ALL_EXCEPTIONS.now all_slurm_is
+selects_slurm = selects_all 15 (0 ∷ 1 ∷ 2 ∷ 3 ∷ 4 ∷ 5 ∷ 6 ∷ 7 ∷ []) _ SELECT_ALL_EXCEPTIONS.now all_exceptions_is
 
 pub selects_claim : SelectsAll 5 17 claim_places SELECT_ALL_CLAIMS.now
 selects_claim = selects_all 17 claim_places _ SELECT_ALL_CLAIMS.now all_claims_is

@@ -4,9 +4,6 @@ mod AllTexts
 mod Grouped
 pub mod SomeAuths
 mod SomeRows
-mod FewOfEach
-mod SomeExceptions
-mod SomeFiles
 mod Unread
 mod Opened
 mod OldRead

@@ -17,7 +17,8 @@ use Rattle.moving.specs.OldTables.{HasOneEntry, auth_row}
 use Rattle.moving.specs.Moved.{claim_columns, entry_columns, AreAuthRows, AreMovable, IsMoved}
 use Rattle.moving.proofs.Moved.{claim_turned, entry_turned, joined_ones, stays}
 use Rattle.database.specs.OldTablesRead.{rows_of_auth, HasSomeOldAuths, OldTablesRead}
-use Rattle.database.specs.TablesRead.{rows_of_entries, row_of_claim, HasSomeAuths, HasSomeCharter, ShowsHolder, ShowsOfHolder, ShowsException, AreFewOfEach, TablesRead}
+use Rattle.database.specs.TablesRead.{rows_of_entries, row_of_claim, HasSomeAuths, HasSomeCharter, ShowsHolder, ShowsOfHolder, ShowsException, TablesRead}
+use Rattle.transactions.specs.Files.{AreFewOfEach}
 
 rows_are_auth_rows : (auths : List (OfHolder Auth)) → AreAuthRows (flat_map rows_of_auth auths)
 rows_are_auth_rows auths =

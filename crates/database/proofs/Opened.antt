@@ -12,26 +12,23 @@ use Rattle.sqlite_value.specs.declared.value.Value.TheVariants.{Text}
 use Rattle.sqlite_value.specs.Order.{Row, column, value_cmp}
 use Rattle.sqlite_trees.specs.Tree.{rowid, IsAscending}
 use Rattle.sqlite_trees.specs.View.{is_int}
-use Rattle.sqlite_trees.proofs.ListLemmas.{all_weaker, all_both, all-map, all-permutation, all_from_map, ascending-filter, ascending-map, ascending_from_map, ascending_weaker, filter-map}
+use Rattle.sqlite_trees.proofs.ListLemmas.{all_weaker, all_both, all-map, all-permutation, all_from_map, ascending-filter, filter-map}
 use Rattle.sqlite_schema.specs.declared.schema.Column.{Column}
 use Rattle.sqlite_schema.specs.declared.schema.Kind.TheVariants.{Integer, Text as OfText}
 use Rattle.sqlite_schema.specs.declared.schema.Table.{Table}
 use Rattle.sqlite_schema.specs.Rules.{equal}
 use Rattle.sqlite_rules.specs.Lists.{Has}
-use Rattle.sqlite_rules.proofs.ListLemmas.{all_has, all_from, contains_had, has_filtered}
+use Rattle.sqlite_rules.proofs.ListLemmas.{all_has, contains_had, has_filtered}
 use Rattle.sqlite_rules.proofs.ProbeLemmas.{mapped_has}
 use Rattle.sqlite_catalog.specs.Listing.{IsSound}
 use Rattle.addr.specs.declared.span.Span.{Span}
 use Rattle.charters.specs.CharterSets.{CharterSets, IsCharter}
 use Rattle.registry.specs.declared.authorization.Auth.{Auth}
 use Rattle.registry.specs.declared.grant.Granted.{Granted}
-use Rattle.registry.specs.Values.{GrantFits, FilesFit}
-use Rattle.slurm.specs.declared.set.NamedSlurm.{NamedSlurm}
-use Rattle.tables.specs.declared.exception.ExceptionRow.{ExceptionRow}
-use Rattle.tables.specs.Cells.{schema_row, operator_row, prefix_cells, number_cell, kind_number, exception_row, span_cells, grant_cells, holder_row, holding_row, granted_row}
-use Rattle.tables.specs.Decode.{first_columns, exception_columns}
+use Rattle.registry.specs.Values.{GrantFits}
+use Rattle.tables.specs.Cells.{schema_row, operator_row, prefix_cells, span_cells, grant_cells, holder_row, holding_row, granted_row}
+use Rattle.tables.specs.Decode.{first_columns}
 use Rattle.tables.specs.Tables.{desk_tables, holder_reference, required_column, meta, operator, pool, holder, holding, granted, slurm, claim, entry, contents, columns, IsTree, AreTrees}
-use Rattle.tables.specs.TablesHold.{HoldsFiles}
 use Rattle.tables.proofs.Inserting.{each_table}
 use Rattle.tables.proofs.PartLemmas.{names, name_of-true, name_of_itself}
 use Rattle.tables.proofs.ReadLemmas.{all_columns, first_of_all}
@@ -39,13 +36,11 @@ use Rattle.tables.specs.declared.groups.OfHolder.{OfHolder}
 use Rattle.database.specs.TablesRead.{ShowsSome, ShowsHolder, ShowsOfHolder, HoldSomeRows, TablesRead, HasSomeAuths, row_of_claim}
 use Rattle.database.specs.steps.Numbered.{shown_in}
 use Rattle.database.specs.steps.Opened.{ShowsNumber, ShowsCharter, ShowExceptions, ShowHolders, ShowAuths}
-use Rattle.transactions.proofs.Obeyed.{slurm_key, agree_in_key, all_whole, all_referred, once_by_key, once, equal_texts}
+use Rattle.transactions.proofs.Obeyed.{all_whole, all_referred, once, equal_texts}
 use Rattle.transactions.proofs.KeyedRows.{at_claim}
 use Rattle.database.proofs.SomeAuths.{auths_read}
 use Rattle.database.proofs.SomeRows.{IsPartRow, have_entries, holds_parts, rows_in}
-use Rattle.database.proofs.SomeExceptions.{AreElsewhere}
-use Rattle.transactions.proofs.Ascending.{ascending_where}
-use Rattle.database.proofs.SomeFiles.{some_files}
+use Rattle.transactions.proofs.HeldRows.{files_few}
 use Rattle.tables.proofs.Columns.{column_after}
 
 module _ (db : Database) (tables : db.schema.tables ≡ desk_tables) (sound : IsSound db.schema db.trees) where
@@ -64,43 +59,6 @@ module _ (db : Database) (tables : db.schema.tables ≡ desk_tables) (sound : Is
 
   abbrev Makes : Row → Type 0
   Makes c = (h : List ℕ) × (n : ℕ × ℕ) × (c ≡ holder_row h n.0 n.1)
-
-  -- ---- exceptions
-
-  module _ (shown : ShowExceptions db) where
-    abbrev tree : List Row
-    tree = db.trees slurm.tree
-
-    abbrev Shows : Row → ExceptionRow → Type 0
-    Shows c r = exception_columns (drop 1 c) ≡ exception_row r
-
-    at_slurm : Has desk_tables slurm
-    at_slurm = inr (inr (inr (inr (inr (inr (inr (inl refl)))))))
-
-    -- rows of two rowids show exceptions at different places
-    elsewhere : (a b : Row) → Has tree a → Has tree b → is_eq (value_cmp (rowid a) (rowid b)) ≡ false → (r s : ExceptionRow) → Shows a r → Shows b s → AreElsewhere r s
-    elsewhere a b has_a has_b apart r s one other file kind position =
-        let int = λ (c : Row) (has : Has tree c). all_has (λ c. is_int (rowid c) ≡ true) tree c shown.rows.whole.1 has in
-        let cell = λ (c : Row) (x : ExceptionRow) (is : Shows c x) (at : ℕ) (same : column (exception_columns (drop 1 c)) at ≡ column (drop 1 c) at).
-        column_after c at ∙ sym same ∙ ap (λ l. column l at) is in
-        let differ = once_by_key db.schema db.trees tables sound slurm at_slurm 0 slurm_key refl refl a b has_a has_b (int a has_a) (int b has_b) apart in
-        both_ways _ differ
-        (agree_in_key (Text s.file) (number_cell (kind_number s.exception)) (number_cell s.position) a b
-        (cell a r one 0 refl ∙ ap Text file, refl) (cell b s other 0 refl, refl)
-        (cell a r one 1 refl ∙ ap number_cell kind, refl) (cell b s other 1 refl, refl)
-        (cell a r one 2 refl ∙ ap number_cell position, refl) (cell b s other 2 refl, refl))
-
-    abbrev AreOf : Row → Row → Type 0
-    AreOf c d = (r s : ExceptionRow) → c ≡ exception_row r → d ≡ exception_row s → AreElsewhere r s
-
-    all_elsewhere : (rows : List ExceptionRow) → map exception_row rows ≡ map exception_columns (contents tree) → IsAscending AreElsewhere rows
-    all_elsewhere rows is =
-        let apart = ascending_where (Has tree) _ (λ a b. AreOf (exception_columns (drop 1 a)) (exception_columns (drop 1 b))) (λ a b has_a has_b. elsewhere a b has_a has_b) tree (all_from (Has tree) tree (λ r has. has)) shown.rows.whole.0 in
-        let in_columns = ascending-map AreOf exception_columns (contents tree) (ascending-map (λ c d. AreOf (exception_columns c) (exception_columns d)) (drop 1) tree apart) in
-        ascending_weaker _ AreElsewhere (λ r s of. of r s refl refl) rows (ascending_from_map AreOf exception_row rows (subst (IsAscending AreOf) (sym is) in_columns))
-
-    files_held : (files : List NamedSlurm) × HoldsFiles files (contents tree) × FilesFit files
-    files_held = some_files (contents tree) shown.rows.each shown.number all_elsewhere
 
   -- ---- holders
 
@@ -277,14 +235,14 @@ module _ (db : Database) (tables : db.schema.tables ≡ desk_tables) (sound : Is
         grants = all_weaker _ _ (λ c both. both.1) (contents (db.trees granted.tree)) given_read;
         authorizations = have_auths authorized;
         exceptions = excepted.rows.each;
-        exceptions_number = excepted.number;
+        exceptions_number = files_few excepted.files.0 (contents (db.trees slurm.tree)) excepted.files.1 excepted.files.2;
       }
 
       pub some_rows : HoldSomeRows charter db.trees
       some_rows =
           let auths = have_auths authorized in
           let parts = holds_parts holders made one_counter (contents (db.trees holding.tree)) (contents (db.trees granted.tree)) (contents (db.trees claim.tree)) (contents (db.trees entry.tree)) held given auths.auths (registered authorized) auths.claims_shown auths.entries_shown in
-          let files = files_held excepted in
+          let files = excepted.files in
           let of_holder = rows_in holders made one_counter (contents (db.trees holding.tree)) (contents (db.trees granted.tree)) (contents (db.trees claim.tree)) (contents (db.trees entry.tree)) held given auths.auths (registered authorized) auths.claims_shown auths.entries_shown in (
             record {
               of_holder = of_holder;

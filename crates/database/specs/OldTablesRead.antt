@@ -11,7 +11,8 @@ use Rattle.tables.specs.Cells.{holding_row, granted_row}
 use Rattle.tables.specs.Decode.{exception_columns}
 use Rattle.tables.specs.Tables.{meta, holder, holding, granted, auth, slurm, contents}
 use Rattle.moving.specs.OldTables.{auth_rows, old_schema_row, AreOldTrees, HasOneEntry}
-use Rattle.database.specs.TablesRead.{HasSomeCharter, ShowsHolder, ShowsOfHolder, ShowsException, AreFewOfEach}
+use Rattle.database.specs.TablesRead.{HasSomeCharter, ShowsHolder, ShowsOfHolder, ShowsException}
+use Rattle.transactions.specs.Files.{AreFewOfEach}
 
 -- the rows of an authorization in the table `auth`: one, where it has one entry
 abbrev pub rows_of_auth : OfHolder Auth → List Row

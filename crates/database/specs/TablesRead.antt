@@ -1,5 +1,5 @@
 -- What it is for the tables of a database to read.
-use Rattle.std.specs.Prelude.{◌≡◌, ◌≤◌, ℕ, false, List, [], length, map, flat_map, filter, nat_eq, Contains, IsPermutation, IsTrue, ⊤}
+use Rattle.std.specs.Prelude.{◌≡◌, ℕ, false, List, [], map, flat_map, nat_eq, Contains, IsPermutation, IsTrue, ⊤}
 use Rattle.std.specs.Cmp.Lexicographic.{pointwise}
 use Rattle.std.specs.List.{AllByRecursion}
 use Rattle.sqlite_value.specs.Order.{Row}
@@ -12,13 +12,13 @@ use Rattle.charters.specs.Repeats.{has_repeat}
 use Rattle.registry.specs.declared.authorization.Auth.{Auth}
 use Rattle.registry.specs.RowsOfAll.{AllRows}
 use Rattle.registry.specs.Values.{IsCount, AuthFits, GrantFits, FilesFit}
-use Rattle.slurm.specs.declared.exceptions.TheConstants.{MOST_ENTRIES}
 use Rattle.tables.specs.declared.groups.OfHolder.{OfHolder}
 use Rattle.tables.specs.Authorizations.{claim_of, entry_rows_of}
 use Rattle.tables.specs.Cells.{schema_row, operator_row, prefix_cells, holder_row, holding_row, granted_row, claim_row, entry_row, exception_row}
 use Rattle.tables.specs.Decode.{ExceptionRowFits, exception_columns}
 use Rattle.tables.specs.Tables.{meta, operator, pool, holder, holding, granted, auth, slurm, claim, entry, contents}
-use Rattle.tables.specs.TablesHold.{TablesHold, is_of_file}
+use Rattle.tables.specs.TablesHold.{TablesHold}
+use Rattle.transactions.specs.Files.{AreFewOfEach}
 
 -- the row shows some value of the type
 abbrev pub ShowsSome : {X : Type 0} → (X → Row) → (X → Type 0) → Row → Type 0
@@ -37,10 +37,6 @@ ShowsOfHolder {X} row fits c = (h : List ℕ) × (x : X) × fits x × (c ≡ row
 -- the row shows an exception of some SLURM file and its position
 abbrev pub ShowsException : Row → Type 0
 ShowsException = ShowsSome exception_row ExceptionRowFits
-
--- no SLURM file has more of the rows than a file may have exceptions
-abbrev pub AreFewOfEach : List Row → Type 0
-AreFewOfEach rows = (name : List ℕ) → length (filter (is_of_file name) rows) ≤ MOST_ENTRIES
 
 -- the tables have operators and prefixes that make a charter
 pub record HasSomeCharter (trees : Trees) : Type 0 where

@@ -1,10 +1,9 @@
 //! Reading all rows of a database that has the tables of a desk.
-ghost use Rattle.std.specs.Prelude.{◌≡◌, ◌≢◌, ◌≤◌, ◌↔◌, true, false, not, drop, filter, ◌||◌, nat_eq, ℕ, List, [], ◌∷◌, length, Any, Err, OnOk, OnErr, IfOk, IsPermutation, IsSorted, IsTrue};
+ghost use Rattle.std.specs.Prelude.{◌≡◌, ◌≢◌, ◌↔◌, true, false, ◌||◌, nat_eq, ℕ, List, [], ◌∷◌, length, Any, Err, OnOk, OnErr, IfOk, IsPermutation, IsSorted, IsTrue};
 ghost use Rattle.std.specs.declared.cmp.Ordering.{Ordering};
 ghost use Rattle.std.specs.Cmp.{IsTotalOrder};
 ghost use Rattle.std.specs.Cmp.Lexicographic.{pointwise};
-ghost use Rattle.std.specs.List.{AllByRecursion, list_all, zip};
-ghost use Rattle.std.specs.Str.{bytes_eq};
+ghost use Rattle.std.specs.List.{AllByRecursion};
 ghost use Rattle.sqlite.specs.Given.{IsPlain};
 ghost use Rattle.sqlite.specs.Held.{state};
 ghost use Rattle.sqlite.specs.Listing.{understood, reads_listing};
@@ -13,7 +12,6 @@ ghost use Rattle.addr.specs.Address.{prefix_eq};
 ghost use Rattle.charters.specs.Charter.{operators_of, pool_of};
 ghost use Rattle.charters.specs.CharterSets.{AreInNumber};
 ghost use Rattle.charters.specs.Repeats.{has_repeat};
-ghost use Rattle.slurm.specs.declared.exceptions.TheConstants.{MOST_ENTRIES};
 ghost use Rattle.tables.specs.Decode.{first_columns};
 ghost use Rattle.tables.specs.Groups.{AllApart, claim_entry, holder_entry};
 ghost use Rattle.tables.specs.Tables.{operator, pool, holder, holding, granted, auth, slurm, claim, entry, IsTree, OverDesk};
@@ -29,7 +27,6 @@ use crate::rise::rise;
 use addr::{Name, Prefix, Span};
 use moving::shows_old_schema;
 use registry::{Charter, Granted, RoaPrefixes};
-use slurm::MOST_ENTRIES;
 use sqlite::{Alter, Connection, Row, Transaction};
 use std::alloc::Global;
 use std::cmp::Ordering;
@@ -39,7 +36,7 @@ use tables::{
     SELECT_ALL_HOLDERS, SELECT_ALL_OPERATORS, SELECT_ALL_PREFIXES, SELECT_ALL_SPANS, SELECT_SCHEMA,
     first_entries, shows_schema,
 };
-use transactions::{StoreFault, ask_inside, read_all};
+use transactions::{StoreFault, ask_inside, group_files, read_all};
 
 /// A value that each row of one table shows.
 trait InTable: FromRow {
@@ -375,27 +372,6 @@ fn read_auths<S: Alter>(tx: &mut Transaction<'_, S>, alloc: Global) -> Result<()
     check_auths(alloc, &claims, &entries)
 }
 
-/// Whether no exception is of the same file as the one `MOST_ENTRIES` places before it.
-fn are_apart(exceptions: &[ExceptionRow]) -> bool
-    ensures { result ≡ list_all (λ p. not (bytes_eq p.0.file p.1.file))
-        (zip exceptions.now (drop MOST_ENTRIES exceptions.now)) }
-{
-    let later = exceptions.iter().skip(MOST_ENTRIES);
-    exceptions
-        .iter()
-        .zip(later)
-        .all(|(row, later)| row.file != later.file)
-}
-
-/// Whether no SLURM file has more of the exceptions than a file may have. It takes no memory.
-fn are_few(mut exceptions: Vec<ExceptionRow>) -> bool
-    ensures { IsTrue result ↔ ((name : List ℕ)
-        → length (filter (λ r. bytes_eq r.file name) exceptions.items) ≤ MOST_ENTRIES) }
-{
-    exceptions.sort_unstable_by_key(|row| row.file);
-    are_apart(&exceptions)
-}
-
 /// Checks that each row of the table `slurm` reads. If a SLURM file has more exceptions than it may
 /// have, the fault is `Schema`.
 fn read_exceptions<S: Alter>(tx: &mut Transaction<'_, S>, alloc: Global) -> Result<(), StoreFault>
@@ -406,10 +382,8 @@ fn read_exceptions<S: Alter>(tx: &mut Transaction<'_, S>, alloc: Global) -> Resu
     ensures schema { HasCleanDisk (state_in S.Store tx.new) → result ≡ Err StoreFault.Schema
         → ¬ TablesRead (state_in S.Store tx.old).now.trees }
 {
-    let exceptions: Vec<ExceptionRow> = read_table(tx, alloc)?;
-    if !are_few(exceptions) {
-        return Err(StoreFault::Schema);
-    }
+    let exceptions = read_table(tx, alloc)?;
+    let _files = group_files(alloc, exceptions)?;
     Ok(())
 }
 

@@ -7,6 +7,7 @@ use desk::Desk;
 use desk_files::stop;
 use sqlite::Alter;
 use sqlite_disk::{Fuse, Memory};
+use sqlite_pager::Options;
 use std::alloc::Global;
 use std::process::Abort;
 use std::test::Fail;
@@ -23,6 +24,13 @@ const DONE: &str = r#"{"done":null}"#;
 const BEFORE: &str = r#"{"payloads":[{"asn":64496,"prefix":"192.0.2.0/24","max":24}]}"#;
 
 const AFTER: &str = r#"{"payloads":[{"asn":64496,"prefix":"192.0.2.0/24","max":25}]}"#;
+
+/// A cache that has room for all pages of the desk.
+fn wide_options() -> Options {
+    let mut options = Options::new(1);
+    options.cache_pages = 64;
+    options
+}
 
 /// How a run ended.
 #[derive(Clone, Copy, PartialEq, Eq)]
@@ -126,8 +134,13 @@ fn end_with_log<D: FailingFile>(end: End, log: &mut D) -> End {
 }
 
 /// Keeps a day, and sends the command to a desk whose log fails after so many calls.
-fn run<D: FailingFile + Drop>(rt: &impl Abort, alloc: Global, calls: u64) -> Result<End, Fail> {
-    let Some(mut desk) = begin::<D>(alloc, true, calls, small_options())? else {
+fn run<D: FailingFile + Drop>(
+    rt: &impl Abort,
+    alloc: Global,
+    options: Options,
+    calls: u64,
+) -> Result<End, Fail> {
+    let Some(mut desk) = begin::<D>(alloc, true, calls, options)? else {
         return Ok(End::Early);
     };
     let end = end_on_kept_day(rt, alloc, &mut desk)?;
@@ -139,11 +152,12 @@ fn run<D: FailingFile + Drop>(rt: &impl Abort, alloc: Global, calls: u64) -> Res
 fn assert_kept_day_is_answered<D: FailingFile + Drop>(
     rt: &impl Abort,
     alloc: Global,
+    options: Options,
     expected: End,
 ) -> Result<(), Fail> {
     let mut is_met = false;
     for calls in 0..MANY {
-        let end = run::<D>(rt, alloc, calls)?;
+        let end = run::<D>(rt, alloc, options, calls)?;
         if end == End::Done {
             assert!(rt; is_met);
             return Ok(());
@@ -155,15 +169,15 @@ fn assert_kept_day_is_answered<D: FailingFile + Drop>(
 
 #[test]
 fn kept_day_is_answered_after_a_stop(rt: HostRuntime) -> Result<(), Fail> {
-    assert_kept_day_is_answered::<Fuse<Memory>>(&rt, rt.alloc(), End::Cached)
+    assert_kept_day_is_answered::<Fuse<Memory>>(&rt, rt.alloc(), wide_options(), End::Cached)
 }
 
 #[test]
 fn kept_day_is_answered_after_a_refused_call(rt: HostRuntime) -> Result<(), Fail> {
-    assert_kept_day_is_answered::<Refusing<Memory>>(&rt, rt.alloc(), End::Delayed)
+    assert_kept_day_is_answered::<Refusing<Memory>>(&rt, rt.alloc(), small_options(), End::Delayed)
 }
 
 #[test]
 fn kept_day_is_answered_after_a_refused_sync(rt: HostRuntime) -> Result<(), Fail> {
-    assert_kept_day_is_answered::<Refusing<Memory>>(&rt, rt.alloc(), End::Shut)
+    assert_kept_day_is_answered::<Refusing<Memory>>(&rt, rt.alloc(), small_options(), End::Shut)
 }

@@ -9,9 +9,7 @@ mod Overlapping
 mod Claimed
 mod InForce
 pub mod Giving
-pub mod NamedFiles
-pub mod NamesFound
-mod EntriesFound
+mod ExceptionsFound
 pub mod HeldAlike
 mod RunsApart
 mod RunsBelow

@@ -1,14 +1,13 @@
 -- Tables of either schema that hold a charter and rows that fit read.
-use Rattle.std.proofs.Common.{◌≡◌, ℕ, Bool, true, false, ◌||◌, List, [], ◌∷◌, Option, Some, refl, inl, inr, sym, subst, arith, IsTrue, map, filter, ◌++◌, IsPermutation}
+use Rattle.std.proofs.Common.{◌≡◌, ℕ, Bool, true, false, ◌||◌, List, [], ◌∷◌, Option, Some, refl, inl, inr, sym, subst, IsTrue, map, IsPermutation}
 use Rattle.std.specs.Prelude.{⊤}
 use Rattle.std.specs.List.{AllByRecursion}
 use Rattle.std.proofs.lemmas.List.Elements.{recursion_from_All}
-use Rattle.sqlite_value.specs.Order.{Row, column}
+use Rattle.sqlite_value.specs.Order.{Row}
 use Rattle.sqlite_trees.specs.Tree.{Trees}
-use Rattle.sqlite_trees.proofs.ListLemmas.{all-append, all-map, all-permutation}
 use Rattle.sqlite_rules.specs.Lists.{Has}
-use Rattle.sqlite_rules.proofs.ListLemmas.{all_has, all_from, contains_had, has_kept}
-use Rattle.sqlite_rules.proofs.ProbeLemmas.{has_mapped, mapped_has}
+use Rattle.sqlite_rules.proofs.ListLemmas.{all_has, all_from, contains_had}
+use Rattle.sqlite_rules.proofs.ProbeLemmas.{has_mapped}
 use Rattle.addr.specs.Name.{is_name}
 use Rattle.charters.specs.CharterSets.{CharterSets, IsCharter}
 use Rattle.charters.specs.declared.charter.Charter.{Charter}
@@ -16,66 +15,26 @@ use Rattle.registry.specs.declared.command.Command.{Command}
 use Rattle.registry.specs.declared.command.Command.TheVariants.{Register}
 use Rattle.registry.specs.History.{History, registers, is_registered}
 use Rattle.registry.specs.Rows.{Rows, RowsIfAny}
-use Rattle.registry.specs.Values.{RowsFit, AuthFits, GrantFits, CommandFits, HistoryFits, ExceptionsFit, FilesFit, FilterFits, VrpFits}
+use Rattle.registry.specs.Values.{RowsFit, AuthFits, GrantFits, CommandFits, HistoryFits, FilesFit}
 use Rattle.histories.specs.Ranges.{FilesInForceFit, LegalRowsFit}
 use Rattle.registry.specs.RowsOfAll.{AllRows, HasRows}
 use Rattle.registry.specs.Verdict.{IsLegal}
 use Rattle.registry.proofs.Names.{same_name-true}
-use Rattle.tables.specs.Cells.{schema_row, operator_row, prefix_cells, holder_row, holding_row, granted_row, exception_row}
-use Rattle.tables.specs.Laws.{ExceptionsAreCounted}
+use Rattle.tables.specs.Cells.{schema_row, operator_row, prefix_cells, holder_row, holding_row, granted_row}
 use Rattle.tables.specs.Tables.{meta, operator, pool, contents}
-use Rattle.tables.specs.TablesHold.{Part, TablesHold, HoldsPart, holder_part, holding_part, granted_part, ArePlaced, HoldsExceptions, HoldsFiles, is_of_file, is_text}
-use Rattle.tables.specs.declared.exception.Exception.{Exception}
-use Rattle.tables.specs.declared.exception.Exception.TheVariants.{Filter as FilterOf, Assertion}
-use Rattle.tables.specs.declared.exception.ExceptionRow.{ExceptionRow}
-use Rattle.tables.specs.Decode.{IsPosition, ExceptionFits, ExceptionRowFits, exception_columns}
-use Rattle.tables.proofs.PartLemmas.{name_of_itself}
+use Rattle.tables.specs.TablesHold.{Part, TablesHold, HoldsPart, holder_part, holding_part, granted_part}
 use Rattle.tables.proofs.SomeRow.{has_permuted, of_some}
 use Rattle.moving.specs.OldTables.{OldTablesHold}
 use Rattle.store.specs.Laws.{HistoriesRead, OldHistoriesRead}
 use Rattle.store.proofs.Gathering.{some_auths, some_old_auths}
 use Rattle.database.specs.OldTablesRead.{OldTablesRead}
-use Rattle.database.specs.TablesRead.{AreFewOfEach, HasSomeCharter, ShowsHolder, ShowsOfHolder, ShowsException, TablesRead}
-use Rattle.slurm.specs.Exceptions.{Exceptions}
-use Rattle.slurm.specs.SlurmSets.{exceptions_of}
-use Rattle.slurm.specs.declared.set.NamedSlurm.{NamedSlurm}
-use Rattle.loads.proofs.NamedFiles.{said_fits}
-use Rattle.loads.proofs.NamesFound.{a_text, file_names, names_fit, of_row}
+use Rattle.database.specs.TablesRead.{HasSomeCharter, ShowsHolder, ShowsOfHolder, TablesRead}
+use Rattle.transactions.proofs.HeldRows.{files_few, files_read}
 
 -- each row of a part shows what the rows of its holder are
 of_part : (part : Part) (rows : List ℕ → Option Rows) (table : List Row) (So : Row → Type 0) → HoldsPart part rows table
     → ((h : List ℕ) (r : Rows) (c : Row) → rows h ≡ Some r → Has (part.rows h r) c → So c) → AllByRecursion So table
 of_part part rows table So holds shows = all_from So table (λ c has. let it = of_some part rows table holds c has in shows it.0 it.1 c it.2 it.3)
-
--- rows of exceptions that fit, at their positions in a file that has a name, fit
-placed_fit : (name : List ℕ) (exceptions : List Exception) (rows : List ExceptionRow) → IsTrue (is_name name) → ArePlaced name exceptions rows → AllByRecursion ExceptionFits exceptions → AllByRecursion ExceptionRowFits rows
-placed_fit name exceptions rows is placed fit = go rows placed.named placed.positions (subst (AllByRecursion ExceptionFits) (sym placed.brought) fit)
-  where
-    go : (rows : List ExceptionRow) → AllByRecursion (λ (r : ExceptionRow). r.file ≡ name) rows → AllByRecursion (λ (r : ExceptionRow). IsPosition r.position) rows
-        → AllByRecursion ExceptionFits (map (λ (r : ExceptionRow). r.exception) rows) → AllByRecursion ExceptionRowFits rows
-    go [] files positions fit = tt
-    go (r ∷ rows) files positions fit = (record { file = subst (λ n. IsTrue (is_name n)) (sym files.0) is; position = positions.0; exception = fit.0 }, go rows files.1 positions.1 fit.1)
-
-exceptions_read : (name : List ℕ) (exceptions : Exceptions) (table : List Row) → IsTrue (is_name name) → HoldsExceptions name exceptions table → ExceptionsFit exceptions → AllByRecursion ShowsException (map exception_columns table)
-exceptions_read name exceptions table is holds fit =
-    let filters = placed_fit name _ holds.filters is holds.filters_placed (all-map ExceptionFits FilterOf exceptions.filters (recursion_from_All FilterFits exceptions.filters fit.filters)) in
-    let assertions = placed_fit name _ holds.assertions is holds.assertions_placed (all-map ExceptionFits Assertion exceptions.assertions (recursion_from_All VrpFits exceptions.assertions fit.assertions)) in
-    all-permutation ShowsException _ _ holds.rows
-    (all-map ShowsException exception_row (holds.filters ++ holds.assertions)
-    (all_from _ (holds.filters ++ holds.assertions) (λ r has. (r, all_has ExceptionRowFits _ r (all-append ExceptionRowFits holds.filters holds.assertions filters assertions) has, refl))))
-
--- each row of the table shows an exception of the file of its name
-files_read : (files : List NamedSlurm) (table : List Row) → HoldsFiles files table → FilesFit files → AllByRecursion ShowsException (map exception_columns table)
-files_read files table holds fit =
-    all-map ShowsException exception_columns table (all_from _ table (λ c has.
-    let (name, is) = a_text (column c 0) (all_has (λ d. is_text (column d 0) ≡ true) table c holds.named has) in
-    let mine = has_kept (is_of_file name) table c has (name_of_itself name (column c 0) is) in
-    let named = all_has (λ n. IsTrue (is_name n)) (file_names files) name (recursion_from_All (λ n. IsTrue (is_name n)) (file_names files) (names_fit files fit)) (of_row files table holds c name has is) in
-    all_has ShowsException _ (exception_columns c) (exceptions_read name (exceptions_of files name) _ named (holds.each name) (said_fits files name fit))
-    (mapped_has exception_columns (filter (is_of_file name) table) c mine)))
-
-files_few : ExceptionsAreCounted → (files : List NamedSlurm) (table : List Row) → HoldsFiles files table → FilesFit files → AreFewOfEach table
-files_few counted files table holds fit name = omega (arith, (said_fits files name fit).number, counted name (exceptions_of files name) _ (holds.each name))
 
 -- ---- what the tables of both schemas have alike
 
@@ -124,7 +83,7 @@ module _ (rows : AllRows) (fit : RowsFitNamed rows) where
 
 -- ---- the tables
 
-module _ (counted : ExceptionsAreCounted) (charter : CharterSets) (rows : AllRows) (trees : Trees) (is : IsCharter charter)
+module _ (charter : CharterSets) (rows : AllRows) (trees : Trees) (is : IsCharter charter)
     (named : AllByRecursion (λ name. IsTrue (is_name name)) charter.operators) (fit : RowsFitNamed rows) (files_fit : FilesFit rows.files) where
   held_read : TablesHold charter rows trees → TablesRead trees
   held_read holds = record {
@@ -135,7 +94,7 @@ module _ (counted : ExceptionsAreCounted) (charter : CharterSets) (rows : AllRow
     grants = grants_read rows fit _ holds.grants;
     authorizations = some_auths rows.of_holder trees holds.claims holds.entries holds.unused (auths_fit rows fit);
     exceptions = files_read rows.files _ holds.files files_fit;
-    exceptions_number = files_few counted rows.files _ holds.files files_fit;
+    exceptions_number = files_few rows.files _ holds.files files_fit;
   }
 
   old_held_read : OldTablesHold charter rows trees → OldTablesRead trees
@@ -147,7 +106,7 @@ module _ (counted : ExceptionsAreCounted) (charter : CharterSets) (rows : AllRow
     grants = grants_read rows fit _ holds.grants;
     authorizations = some_old_auths rows.of_holder trees holds.auths holds.have_one_entry (auths_fit rows fit);
     exceptions = files_read rows.files _ holds.files files_fit;
-    exceptions_number = files_few counted rows.files _ holds.files files_fit;
+    exceptions_number = files_few rows.files _ holds.files files_fit;
     whole = holds.whole;
   }
 
@@ -165,7 +124,7 @@ registered_named (e ∷ before) h is fit = go (registers e.command h) refl is (�
     go true here is later = named_by e.command h here fit.0.command
     go false there is later = later is
 
-module _ (rows_fit : LegalRowsFit) (in_force_fit : FilesInForceFit) (counted : ExceptionsAreCounted) where
+module _ (rows_fit : LegalRowsFit) (in_force_fit : FilesInForceFit) where
   rows_named : (charter : Charter) (history : History) (rows : AllRows) → IsLegal charter history → HistoryFits history → HasRows rows history → RowsFitNamed rows
   rows_named charter history rows legal fits have h r there =
       let of = subst (RowsIfAny history h) there (have.holders h) in
@@ -176,8 +135,8 @@ module _ (rows_fit : LegalRowsFit) (in_force_fit : FilesInForceFit) (counted : E
 
   pub opens_again : HistoriesRead
   opens_again charter history rows trees legal fits have is named =
-      held_read counted charter rows trees is named (rows_named charter history rows legal fits have) (in_force history rows fits have)
+      held_read charter rows trees is named (rows_named charter history rows legal fits have) (in_force history rows fits have)
 
   pub old_opens_again : OldHistoriesRead
   old_opens_again charter history rows trees legal fits have is named =
-      old_held_read counted charter rows trees is named (rows_named charter history rows legal fits have) (in_force history rows fits have)
+      old_held_read charter rows trees is named (rows_named charter history rows legal fits have) (in_force history rows fits have)

@@ -18,8 +18,8 @@ use Rattle.addr.specs.Name.{is_name}
 use Rattle.slurm.specs.Exceptions.{Exceptions}
 use Rattle.slurm.specs.SlurmSets.{exceptions_of}
 use Rattle.slurm.specs.declared.set.NamedSlurm.{NamedSlurm}
-use Rattle.loads.proofs.NamedFiles.{said}
-use Rattle.loads.proofs.NamesFound.{some_row}
+use Rattle.transactions.proofs.HeldRows.{some_row}
+use Rattle.transactions.proofs.NamedFiles.{said}
 use Rattle.slurm.specs.declared.exceptions.TheConstants.{MOST_ENTRIES}
 use Rattle.slurm.specs.declared.filter.Filter.TheVariants.{Under, By, Both}
 use Rattle.registry.specs.declared.authorization.Auth.{Auth}
@@ -43,7 +43,8 @@ use Rattle.tables.specs.declared.exception.ExceptionRow.{ExceptionRow}
 use Rattle.tables.proofs.CellsOnce.{one_grant}
 use Rattle.tables.proofs.Once.{claim_row_once, entry_row_once}
 use Rattle.tables.proofs.HeldExceptions.{held_number}
-use Rattle.database.specs.TablesRead.{AreFewOfEach, HasSomeAuths, ShowsException, ShowsHolder, ShowsOfHolder, row_of_claim, rows_of_entries}
+use Rattle.database.specs.TablesRead.{HasSomeAuths, ShowsException, ShowsHolder, ShowsOfHolder, row_of_claim, rows_of_entries}
+use Rattle.transactions.specs.Files.{AreFewOfEach}
 use Rattle.store.specs.Laws.{RowsInRangeGive, RowsThatReadFit}
 use Rattle.loads.proofs.Giving.{gives_each}
 use Rattle.loads.proofs.Loading.{claim_fits, entries_of_fit}

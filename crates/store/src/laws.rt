@@ -64,7 +64,6 @@ pub fn tables_of_a_history_read()
 {
     histories::laws::legal_rows_fit();
     histories::laws::files_in_force_fit();
-    tables::laws::exceptions_are_counted();
 }
 
 /// If tables of schema 1 hold a charter and the rows of a legal history whose values are those of
@@ -74,7 +73,6 @@ pub fn old_tables_of_a_history_read()
 {
     histories::laws::legal_rows_fit();
     histories::laws::files_in_force_fit();
-    tables::laws::exceptions_are_counted();
 }
 
 /// The rows of tables that read are in range, so that after an opening no load answers `Schema`:

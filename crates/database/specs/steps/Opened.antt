@@ -7,8 +7,9 @@ use Rattle.sqlite_trees.specs.Tree.{Trees}
 use Rattle.addr.specs.Name.{is_name}
 use Rattle.charters.specs.CharterSets.{CharterSets}
 use Rattle.registry.specs.RoaPrefixes.{AreEntries}
-use Rattle.registry.specs.Values.{GrantFits}
+use Rattle.registry.specs.Values.{FilesFit, GrantFits}
 use Rattle.registry.specs.declared.authorization.Auth.{Auth}
+use Rattle.slurm.specs.declared.set.NamedSlurm.{NamedSlurm}
 use Rattle.tables.specs.declared.claim.Claim.{Claim}
 use Rattle.tables.specs.declared.entry.EntryRow.{EntryRow}
 use Rattle.tables.specs.declared.groups.OfHolder.{OfHolder}
@@ -16,8 +17,9 @@ use Rattle.tables.specs.Authorizations.{claim_of, entry_rows_of}
 use Rattle.tables.specs.Cells.{schema_row, operator_row, prefix_cells, span_cells, grant_cells, claim_cells, entry_cells, named_cells}
 use Rattle.tables.specs.Decode.{ClaimFits, EntryRowFits, NamedFits}
 use Rattle.tables.specs.Tables.{meta, operator, pool, holder, holding, granted, auth, slurm, claim, entry, contents, IsTree}
+use Rattle.tables.specs.TablesHold.{HoldsFiles}
 use Rattle.moving.specs.OldTables.{old_schema_row}
-use Rattle.database.specs.TablesRead.{ShowsSome, ShowsHolder, ShowsException, AreFewOfEach}
+use Rattle.database.specs.TablesRead.{ShowsSome, ShowsHolder, ShowsException}
 use Rattle.database.specs.steps.Numbered.{shown_in, AreRead}
 
 -- a table that has rowids shows these rows in some columns
@@ -84,7 +86,7 @@ pub record ShowAuths (db : Database) : Type 0 where
   pub entries_read : AreRead (named_cells entry_cells) (NamedFits EntryRowFits) (shown_in entry.tree entry_places db) entries
   pub made : MakeAuths claims entries
 
--- each row of the table of exceptions shows one, and no SLURM file has more than a file may have
+-- each row of the table of exceptions shows one, and the table holds SLURM files in range
 pub record ShowExceptions (db : Database) : Type 0 where
   pub rows : ShowsEach slurm.tree (0 ∷ 1 ∷ 2 ∷ 3 ∷ 4 ∷ 5 ∷ 6 ∷ 7 ∷ []) ShowsException db
-  pub number : AreFewOfEach (contents (db.trees slurm.tree))
+  pub files : (files : List NamedSlurm) × HoldsFiles files (contents (db.trees slurm.tree)) × FilesFit files

@@ -11,8 +11,6 @@ use Rattle.sqlite_value.specs.Order.{Row, column, value_cmp}
 use Rattle.charters.specs.CharterSets.{CharterSets}
 use Rattle.registry.specs.Rows.{Rows}
 use Rattle.registry.specs.RowsOfAll.{AllRows}
-use Rattle.slurm.specs.Exceptions.{Exceptions}
-use Rattle.slurm.specs.SlurmSets.{exceptions_of}
 use Rattle.tables.specs.Decode.{first_columns}
 use Rattle.tables.specs.Tables.{desk_beside, OverDesk}
 use Rattle.tables.specs.TablesHold.{TablesHold, items_if_any}
@@ -56,18 +54,3 @@ Selects cells width items cmp sql = (h : List ℕ) → SelectsWith cells width i
 abbrev pub counters_if_any : Option Rows → Option Counters
 counters_if_any None = None
 counters_if_any (Some r) = Some (record { granted = r.granted; created = r.created })
-
--- ---- queries of the exceptions of one SLURM file
-
--- The text selects the entries of one kind of the file of a name: the first columns of its answer are the rows of the
--- entries, in the file's order. No two entries have one row. It reads the tables alone.
-pub record SelectsEntries
-    {X : Type 0} (cells : X → Row) (width : ℕ) (items : Exceptions → List X) (sql : List ℕ)
-    : Type 0 where
-  pub plain : OverDesk (λ s. IsPlain (understood s sql))
-  pub unlisted : OverDesk (λ s. reads_listing s sql ≡ false)
-  pub found :
-      (name : List ℕ) (db : Database) (rows : List Row) → AreSelected sql name db rows
-      → (charter : CharterSets) (all : AllRows) → TablesHold charter all db.trees
-      → map (first_columns width) rows ≡ map cells (items (exceptions_of all.files name))
-  pub once : (x y : X) → cells x ≡ cells y → x ≡ y

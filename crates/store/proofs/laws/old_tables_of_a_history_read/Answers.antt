@@ -2,4 +2,4 @@ use Rattle.store.proofs.HeldRead.{old_opens_again}
 use Rattle.store.proofs.laws.old_tables_of_a_history_read.Goals as goal
 
 pub returns : goal.returns
-returns c = old_opens_again c.legal_rows_fit.ensures c.files_in_force_fit.ensures c.exceptions_are_counted.ensures
+returns c = old_opens_again c.legal_rows_fit.ensures c.files_in_force_fit.ensures
