@@ -1,3 +1,4 @@
 pub mod Device
+pub mod Printed
 pub mod Streams
 pub mod steps

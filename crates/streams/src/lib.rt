@@ -3,8 +3,10 @@
 #![tactic(auto)]
 
 mod device;
+mod printed;
 mod stream;
 mod trail;
 
 pub use device::Device;
+pub use printed::Printed;
 pub use stream::{Drain, Failed, Source, write_all};

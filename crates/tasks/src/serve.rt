@@ -15,12 +15,13 @@ mod timed;
 use addr::Day;
 pub use connections::{AnswerConnections, Connections, Incoming, Network, answer_in_time};
 use desk::Desk;
+pub use fault_log::Log;
 use fault_log::log_fault;
-pub use fault_log::{Log, Printed};
 pub use peer::{Peer, Socket};
 use requests::Routes;
 use sqlite::Alter;
 use std::alloc::Global;
+pub use streams::Printed;
 pub use timed::Timed;
 use web::Failed;
 

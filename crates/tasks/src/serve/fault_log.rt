@@ -1,6 +1,7 @@
 //! The lines for connections that failed.
-ghost use Rattle.std.specs.Prelude.{◌≡◌, ℕ, Bool, List, Option, None, false};
+ghost use Rattle.std.specs.Prelude.{◌≡◌, ℕ, Bool, List, Option, None};
 ghost use Rattle.std.specs.Result.{result_err};
+ghost use Rattle.streams.specs.Printed.{printed_has_lost, printed_writer};
 ghost use Rattle.tasks.specs.Connections.{Logs};
 ghost use Rattle.tasks.specs.Serving.{fault_line, line_for};
 ghost use Rattle.web.specs.WebFault.{web_fault_number};
@@ -8,6 +9,7 @@ ghost use Rattle.web.specs.WebFault.{web_fault_number};
 use addr::digits;
 use arrayvec::ArrayString;
 use std::io::Write;
+use streams::Printed;
 use web::{Extent, WebFault};
 
 /// A log of lines. A line that cannot be written is lost, and the next is tried.
@@ -23,37 +25,13 @@ pub trait Log {
             (contents self.new) line.now };
 }
 
-/// A writer as a log.
-#[derive(Drop)]
-pub struct Printed<'a, W> {
-    writer: &'a mut W,
-    // Kept for proofs.
-    has_lost: bool,
-}
-
-impl<'a, W: Write> Printed<'a, W> {
-    /// A log that has lost nothing.
-    pub fn new(writer: &'a mut W) -> Printed<'a, W>
-        ensures writer { (result.writer.ghost_name ≡ writer.entry.ghost_name)
-            × (result.writer.now ≡ writer.old) }
-        ensures lossless { result.has_lost ≡ false }
-    {
-        Printed {
-            writer,
-            has_lost: false,
-        }
-    }
-}
-
 impl<W: Write> Log for Printed<'_, W> {
-    ghost contents = { λ log. W.contents log.writer.now };
+    ghost contents = { λ log. W.contents (printed_writer log) };
 
-    ghost has_lost = { λ log. log.has_lost };
+    ghost has_lost = { λ log. printed_has_lost log };
 
     fn add(&mut self, line: &str) {
-        if self.writer.write_all(line.as_bytes()).is_err() {
-            self.has_lost = true;
-        }
+        self.print(line.as_bytes());
     }
 }
 
