@@ -11,6 +11,8 @@ mod kept_days;
 #[cfg(test)]
 mod lives;
 #[cfg(test)]
+mod openings;
+#[cfg(test)]
 mod refusals;
 #[cfg(test)]
 mod refused_memory;

@@ -7,7 +7,7 @@ use crate::example_requests::{
 use crate::http_creates::ask_until_create;
 use crate::refusing::Refusing;
 use desk::Desk;
-use desk_files::{open_files, stop};
+use desk_files::{MakeFault, make_desk, open_files, stop};
 use policy::Charter;
 use sqlite::{Alter, Connection, FileStore};
 use sqlite_disk::{Crash, Disk, Files, Fuse, Memory};
@@ -78,8 +78,12 @@ impl FailingFile for Refusing<Memory> {
     }
 }
 
-/// Empty files, of which the log or the database fails after so many calls.
-fn failing_files<D: FailingFile>(alloc: Global, is_log: bool, calls: u64) -> Files<D> {
+/// These files, of which the log or the database fails after so many calls.
+pub(crate) fn failing_files<D: FailingFile>(
+    files: Files<Memory>,
+    is_log: bool,
+    calls: u64,
+) -> Files<D> {
     let never = u64::MAX;
     let (log, db) = if is_log {
         (calls, never)
@@ -87,16 +91,51 @@ fn failing_files<D: FailingFile>(alloc: Global, is_log: bool, calls: u64) -> Fil
         (never, calls)
     };
     Files {
-        log: D::failing(Memory::new(alloc), log),
-        db: D::failing(Memory::new(alloc), db),
+        log: D::failing(files.log, log),
+        db: D::failing(files.db, db),
     }
 }
 
-/// A file of these bytes.
+/// Files of no bytes.
+pub(crate) fn empty_files(alloc: Global) -> Files<Memory> {
+    Files {
+        log: Memory::new(alloc),
+        db: Memory::new(alloc),
+    }
+}
+
+/// A file of these bytes, all of them synced.
 fn file_of(alloc: Global, bytes: &[u8]) -> Result<Memory, Fail> {
     let mut file = Memory::new(alloc);
     file.write_at(0, bytes)?;
+    file.sync()?;
     Ok(file)
+}
+
+/// Files of these bytes, all of them synced.
+pub(crate) fn files_of(alloc: Global, log: &[u8], db: &[u8]) -> Result<Files<Memory>, Fail> {
+    Ok(Files {
+        log: file_of(alloc, log)?,
+        db: file_of(alloc, db)?,
+    })
+}
+
+/// What a disk writes at once or not at all.
+const SECTOR: usize = 512;
+
+/// The file after a power cut that kept every other sector of what was not synced.
+fn every_other_sector(alloc: Global, written: &[u8], synced: &[u8]) -> Result<Vec<u8>, AllocError> {
+    let mut mixed = Vec::new(alloc);
+    for at in 0..written.len().max(synced.len()) {
+        let old = synced.get(at);
+        let kept = if at / SECTOR % 2 == 0 {
+            written.get(at).or(old)
+        } else {
+            old
+        };
+        mixed.push(kept.copied().unwrap_or(0))?;
+    }
+    Ok(mixed)
 }
 
 /// A desk of this charter; `None` if the disk failed before there was one.
@@ -122,7 +161,7 @@ pub(crate) fn begin<D: FailingFile + Drop>(
     options: Options,
 ) -> Result<Option<Desk<FileStore<D>>>, Fail> {
     let charter = example_charter(alloc)?;
-    let files = failing_files(alloc, is_log, calls);
+    let files = failing_files(empty_files(alloc), is_log, calls);
     Ok(begin_with(alloc, files, options, &charter))
 }
 
@@ -135,6 +174,41 @@ pub(crate) fn sound_desk<D: FailingFile + Drop>(
         Some(desk) => Ok(desk),
         None => Err("no desk".into()),
     }
+}
+
+/// What making a desk leaves.
+fn left_of_making<D: Disk + Drop>(made: Result<Files<D>, MakeFault<D>>) -> Files<D> {
+    match made {
+        Ok(files) => files,
+        Err(MakeFault::Database(files)) => files,
+        Err(MakeFault::Close(fault)) => fault.store.close(),
+    }
+}
+
+/// Makes a desk of this charter in these files, and returns what that leaves.
+fn make_with<D: Disk + Drop>(
+    alloc: Global,
+    files: Files<D>,
+    options: Options,
+    charter: &Charter,
+) -> Files<D> {
+    if !files.may_be_used() {
+        return files;
+    }
+    match Connection::open_files(alloc, files, options) {
+        Ok(conn) => left_of_making(make_desk(alloc, conn, charter)),
+        Err((_, left)) => left.into_files(),
+    }
+}
+
+/// Makes a desk in these files, and returns what that leaves.
+pub(crate) fn make_in<D: Disk + Drop>(
+    alloc: Global,
+    files: Files<D>,
+    options: Options,
+) -> Result<Files<D>, Fail> {
+    let charter = example_charter(alloc)?;
+    Ok(make_with(alloc, files, options, &charter))
 }
 
 /// The desk of these files.
@@ -163,16 +237,16 @@ fn count_in(
     count_found(rt, alloc, &mut desk)
 }
 
-/// The files of a desk that answered the first of the requests, so many.
-fn files_after(
+/// A desk that answered the first of the requests, so many.
+pub(crate) fn desk_after(
     rt: &impl Abort,
     alloc: Global,
     options: Options,
     count: usize,
-) -> Result<Files<Refusing<Memory>>, Fail> {
+) -> Result<Desk<FileStore<Refusing<Memory>>>, Fail> {
     let mut desk = sound_desk(alloc, options)?;
     assert_answered(rt, alloc, &mut desk, count)?;
-    Ok(stop(desk))
+    Ok(desk)
 }
 
 /// How many calls of a file come before the first one of this request; none before that of the
@@ -187,13 +261,19 @@ fn calls_before(
     if request == 0 {
         return Ok(0);
     }
-    let files = files_after(rt, alloc, options, request)?;
+    let files = stop(desk_after(rt, alloc, options, request)?);
     let left = if is_log {
         files.log.calls_left()
     } else {
         files.db.calls_left()
     };
     Ok(u64::MAX.saturating_sub(left.ok_or("a refused call")?))
+}
+
+fn copy_of(alloc: Global, bytes: &[u8]) -> Result<Vec<u8>, AllocError> {
+    let mut copy = Vec::new(alloc);
+    copy.extend_from_slice(bytes)?;
+    Ok(copy)
 }
 
 /// Files that were opened, and how many of the requests their desk had.
@@ -206,14 +286,11 @@ struct Opened {
 
 impl Opened {
     fn new(alloc: Global, log: &[u8], db: &[u8], found: usize) -> Result<Opened, AllocError> {
-        let mut opened = Opened {
-            log: Vec::new(alloc),
-            db: Vec::new(alloc),
+        Ok(Opened {
+            log: copy_of(alloc, log)?,
+            db: copy_of(alloc, db)?,
             found,
-        };
-        opened.log.extend_from_slice(log)?;
-        opened.db.extend_from_slice(db)?;
-        Ok(opened)
+        })
     }
 
     fn has(&self, log: &[u8], db: &[u8]) -> bool {
@@ -228,6 +305,8 @@ pub(crate) enum Course {
     Lines,
     /// Those before the create as lines, and the create over HTTP.
     HttpCreate,
+    /// Nothing: the desk is being made, and what that left is made a desk where it is none.
+    Making,
 }
 
 impl Course {
@@ -236,6 +315,7 @@ impl Course {
         match self {
             Course::Lines => REQUEST_COUNT,
             Course::HttpCreate => COUNT_BEFORE_CREATE.saturating_add(1),
+            Course::Making => 0,
         }
     }
 
@@ -248,6 +328,7 @@ impl Course {
         match self {
             Course::Lines => ask_first(rt, alloc, desk, REQUEST_COUNT),
             Course::HttpCreate => ask_until_create(rt, alloc, desk),
+            Course::Making => ask_first(rt, alloc, desk, 0),
         }
     }
 }
@@ -255,9 +336,9 @@ impl Course {
 /// Runs of desks on disks that fail, and what they met.
 #[derive(Drop)]
 pub(crate) struct Sweep {
-    alloc: Global,
-    options: Options,
-    course: Course,
+    pub(crate) alloc: Global,
+    pub(crate) options: Options,
+    pub(crate) course: Course,
     /// How many runs ended before there was a desk.
     pub(crate) without_desk: usize,
     /// The requests that were answered only when they were sent again.
@@ -284,6 +365,15 @@ impl Sweep {
         }
     }
 
+    /// Files of these bytes. Those that making a desk left have one afterwards.
+    fn files_to_open(&self, log: &[u8], db: &[u8]) -> Result<Files<Memory>, Fail> {
+        let files = files_of(self.alloc, log, db)?;
+        match self.course {
+            Course::Making => make_in(self.alloc, files, self.options),
+            Course::Lines | Course::HttpCreate => Ok(files),
+        }
+    }
+
     /// How many of the requests the desk of these files has.
     fn found_in(&mut self, rt: &impl Abort, log: &[u8], db: &[u8]) -> Result<usize, Fail> {
         for opened in &self.opened {
@@ -291,10 +381,7 @@ impl Sweep {
                 return Ok(opened.found);
             }
         }
-        let files = Files {
-            log: file_of(self.alloc, log)?,
-            db: file_of(self.alloc, db)?,
-        };
+        let files = self.files_to_open(log, db)?;
         let found = count_in(rt, self.alloc, files, self.options)?;
         self.opened.push(Opened::new(self.alloc, log, db, found)?)?;
         Ok(found)
@@ -331,6 +418,34 @@ impl Sweep {
         self.assert_found(rt, files.log.bytes(), files.db.bytes(), answered)
     }
 
+    /// Opens the files as a power cut leaves them that kept every other sector of what was not
+    /// synced, of these bytes.
+    fn open_mixed<D: FailingFile>(
+        &mut self,
+        rt: &impl Abort,
+        log: &[u8],
+        db: &[u8],
+        synced: &Files<D>,
+        answered: usize,
+    ) -> Result<(), Fail> {
+        let log = every_other_sector(self.alloc, log, synced.log.bytes())?;
+        let db = every_other_sector(self.alloc, db, synced.db.bytes())?;
+        self.assert_found(rt, &log, &db, answered)
+    }
+
+    /// Opens the files as a killed process leaves them, and as power cuts do.
+    fn open_all<D: FailingFile + Drop>(
+        &mut self,
+        rt: &impl Abort,
+        files: &mut Files<D>,
+        answered: usize,
+    ) -> Result<(), Fail> {
+        let log = copy_of(self.alloc, files.log.bytes())?;
+        let db = copy_of(self.alloc, files.db.bytes())?;
+        self.open_both(rt, files, answered)?;
+        self.open_mixed(rt, &log, &db, files, answered)
+    }
+
     /// Sends requests to a desk until it is unavailable; returns how many were answered.
     fn ask<S: Alter>(&mut self, rt: &impl Abort, desk: &mut Desk<S>) -> Result<usize, Fail> {
         let answers = self.course.ask(rt, self.alloc, desk)?;
@@ -341,7 +456,7 @@ impl Sweep {
     }
 
     /// Opens the files of a run; returns whether one of them failed.
-    fn open_after_run<D: FailingFile + Drop>(
+    pub(crate) fn open_after_run<D: FailingFile + Drop>(
         &mut self,
         rt: &impl Abort,
         files: &mut Files<D>,
@@ -349,7 +464,7 @@ impl Sweep {
     ) -> Result<bool, Fail> {
         let has_failed = files.log.has_failed() || files.db.has_failed();
         assert!(rt; has_failed || answered == self.course.count());
-        self.open_both(rt, files, answered)?;
+        self.open_all(rt, files, answered)?;
         Ok(has_failed)
     }
 
