@@ -1,15 +1,15 @@
 #!/usr/bin/env bash
 # Runs the checks beside it and that of the console, which the gate does not run, and says of each whether it passed.
 #
-#     all.sh [CHECK...]      (by their names, as guide or console; all, where left out)
+#     all.sh [CHECK...]      (by their names, as guide or console; all, if left out)
 #
 # It leaves out edits.sh unless it is named, which takes half a processor minute an edit and the proofs of the edited
 # crates, and cost.sh, which checks nothing.
 #
 # Needs what each check needs, by its head. PROGRAM may name another program than that of the repository.
 #
-# Of each check it prints `passed`, `failed` or `not run` with what is missing; and then how many of each there are. Ends
-# with 1 where a check failed, else with 77 where one was not run, or not all of it, else with 0.
+# Of each check it prints `passed`, `failed` or `not run` with what is missing; and then how many of each there are.
+# Exit status: 1 if a check failed, else 77 if one was not run, or not all of it, else 0.
 set -u
 . "$(dirname "${BASH_SOURCE[0]}")/../tools/common.sh"
 make_work

@@ -2,15 +2,17 @@
 # What the gate costs, crate by crate.
 #
 #     cost.sh             prints a table: of each crate its lines, its must-fail edits, and the processor seconds that
-#                         the last `rt ci` of it took on this machine, if this script ran it
-#     cost.sh CRATE...    first runs `rt ci` of each of these, lowest first, with one job
+#                         this script last measured on this machine
+#     cost.sh CRATE...    first measures each of these, lowest first
 #
-# Needs rt where crates are named. The seconds are those of the crate alone where what it stands on is kept on this machine; else the names of the crates
-# that were proved in the same run follow them. Where the crate itself was kept, nothing is measured, and the older
-# figure stays.
+# It measures what the gate does with a crate alone: its proof and that of its tests, each from nothing and with one
+# job, and its edits. It does so in a copy of the crates, with what is built of those that the crate uses. What is not
+# built of them is proved first, and not measured.
 #
-# Ends with 0 where all crates were run and passed, with 1 where something failed, and with 77, after what is missing,
-# where they could not be run.
+# Needs rt if crates are named.
+#
+# Exit status: 0 if all crates were measured and passed; 1 if something failed; 77, after what is missing, if they could
+# not be run.
 set -u
 . "$(dirname "${BASH_SOURCE[0]}")/../tools/common.sh"
 [ $# = 0 ] || need rt
@@ -29,26 +31,41 @@ count_edits() {
     find "$top/crates/$1/must-fail" -name '*.edit' 2>/dev/null | wc -l
 }
 
-# Runs the gate of one crate, and keeps the seconds, and the names of the crates below that were proved with it.
+has_tests() {
+    grep -rq '#\[test' "$top/crates/$1/src"
+}
+
+# check CRATE WORD...: has rt check the crate from nothing.
+check() {
+    rm -rf "$work/crates/$1/out"
+    (cd "$work/crates/$1" && rt check --jobs 1 "${@:2}")
+}
+
+# gate CRATE: what is measured.
+gate() {
+    check "$1" || return
+    ! has_tests "$1" || check "$1" --test || return
+    [ "$(count_edits "$1")" = 0 ] || (cd "$work" && rt must-fail "$1")
+}
+
+# measure CRATE: keeps its seconds if it passes. A check of no function builds what the crate uses.
 measure() {
-    local crate=$1 log times others status
-    log=$(mktemp) && times=$(mktemp) || exit 1
-    (cd "$top" && TIMEFORMAT='%U %S' && time RT_JOBS=1 rt ci "$crate" >"$log" 2>&1 </dev/null) 2>"$times"
-    status=$?
-    tail -n 1 "$log" | sed "s/^/$crate: /"
-    [ $status = 0 ] || grep -E 'NOT |BAD EDIT|FAILED' "$log"
-    others=$(sed -n 's/^rt: \([a-z0-9_]*\):* .*proved$/\1/p' "$log" | grep -vx "$crate" | sort -u | tr '\n' ' ')
-    if grep -Eq "^rt: $crate(: its tests)? proved|^rt: $crate: trying" "$log"; then
-        awk -v others="$others" '{ printf "%.0f %s\n", $1 + $2, others }' "$times" >"$record/$crate"
+    local TIMEFORMAT='%U %S'
+    echo "$1"
+    if ! check "$1" --only '' >"$work/said" 2>&1 </dev/null ||
+        ! { time gate "$1" >"$work/said" 2>&1 </dev/null; } 2>"$work/times"; then
+        cat "$work/said"
+        return 1
     fi
-    rm -f "$log" "$times"
-    return $status
+    awk '{ printf "%.0f\n", $1 + $2 }' "$work/times" >"$record/$1"
 }
 
 for crate in "$@"; do
     crates | grep -qxF "$crate" || fail "no crate $crate"
 done
 if [ $# -gt 0 ]; then
+    make_work
+    copy_crates "$work" && copy_built "$work" && cp "$top/HANDLES" "$work" || exit 1
     for crate in $(crates); do
         case " $* " in *" $crate "*) measure "$crate" || failed=1 ;; esac
     done
@@ -56,8 +73,7 @@ fi
 echo '| crate | lines | edits | processor seconds |'
 echo '|---|---|---|---|'
 for crate in $(crates); do
-    read -r seconds others 2>/dev/null <"$record/$crate" || seconds='?' others=
     edits=$(count_edits "$crate")
-    echo "| \`$crate\` | $(count_lines "$crate") | ${edits/#0/} | $seconds${others:+ with ${others% }} |"
+    echo "| \`$crate\` | $(count_lines "$crate") | ${edits/#0/} | $(cat "$record/$crate" 2>/dev/null || echo '?') |"
 done
 end

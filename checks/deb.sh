@@ -6,8 +6,7 @@
 #
 # Needs the built program, which PROGRAM may name, and dpkg, dpkg-deb, lintian, readelf, strip, man, nginx and openssl.
 #
-# Ends with 0 where all ran and held, with 1 where something failed, and with 77, after what is missing, where it could
-# not be run.
+# Exit status: 0 if all ran and held; 1 if something failed; 77, after what is missing, if it could not be run.
 set -u
 . "$(dirname "${BASH_SOURCE[0]}")/../tools/common.sh"
 need dpkg dpkg-deb lintian readelf strip man nginx openssl

@@ -1,22 +1,22 @@
 #!/usr/bin/env bash
 # Whether the prover refuses the wrong bodies in checks/edits, which the gate does not try.
 #
-#     edits.sh [CRATE...]      (every crate that has some, where left out)
+#     edits.sh [CRATE...]      (every crate that has some, if left out)
 #
 # They are put into must-fail/ of a copy of the crates, in the place of those that the gate tries, and rt must-fail
-# tries them there, as many at a time as RT_JOBS says. It begins with what earlier checks of the same crates kept on
-# this machine, and proves what they lack.
+# tries them there, as many at a time as RT_JOBS says. The copy has what is built here of the crates below, and rt proves
+# what is not.
 #
 # Needs rt.
 #
-# Ends with 0 where each edit was refused, with 1 where one was not, could not be applied or was not tried, or something
-# else failed, and with 77, after what is missing, where it could not be run.
+# Exit status: 0 if each edit was refused; 1 if one was not, could not be applied or was not tried, or something else
+# failed; 77, after what is missing, if it could not be run.
 set -u
 . "$(dirname "${BASH_SOURCE[0]}")/../tools/common.sh"
 need rt
 make_work
 
-copy_crates "$work" || exit 1
+copy_crates "$work" && copy_built "$work" || exit 1
 cp "$top/HANDLES" "$work" || exit 1
 rm -rf "$work"/crates/*/must-fail
 cd "$top/checks/edits" || exit 1

@@ -1,17 +1,16 @@
 #!/usr/bin/env bash
-# Whether a second machine that mirrors the disk of the desk has what was answered, where the first is killed.
+# Whether a second machine that mirrors the disk of the desk has what was answered when the first is killed.
 #
-#     failover.sh [LIVES [SEED [SECONDS]]]    (100 lives, a seed that is drawn, and 0.5 s at most, where left out)
+#     failover.sh [LIVES [SEED [SECONDS]]]    (100 lives, a seed that is drawn, and 0.5 s at most, if left out)
 #
-# No two machines and no module of the kernel are needed: record.c records the writes and the syncs of the desk, and
-# failover.py plays them onto a second pair of files, up to the last sync, as a mirror has them that answers a sync when
-# both machines have synced. The desk is killed at random moments under load, and goes on with the second pair. What the
-# mirror itself does is not tested; drbdadm reads the resource file in the blocks of OPERATIONS.md.
+# No two machines and no module of the kernel are needed. record.c records the writes and the syncs of the desk.
+# failover.py plays them onto a second pair of files, up to the last sync. That is what a mirror has that answers a sync
+# when both machines have synced. The desk is killed at random moments under load, and goes on with the second pair.
+# What the mirror itself does is not tested; drbdadm reads the resource file in the blocks of OPERATIONS.md.
 #
 # Needs the built program, which PROGRAM may name, gcc and python3 from 3.10 on, and for the resource file drbdadm.
 #
-# Ends with 0 where all ran and held, with 1 where something failed, and with 77, after what is missing, where not all of
-# it could be run.
+# Exit status: 0 if all ran and held; 1 if something failed; 77, after what is missing, if not all of it could be run.
 set -u
 . "$(dirname "${BASH_SOURCE[0]}")/../tools/common.sh"
 need_gcc

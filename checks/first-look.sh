@@ -1,13 +1,13 @@
 #!/usr/bin/env bash
-# Whether ./roadesk replies before the proof as the proved program does: to the examples, and where there is a fault.
+# Whether ./roadesk replies before the proof as the proved program does: to the examples, and if there is a fault.
 #
 #     first-look.sh
 #
 # Needs the built program, which PROGRAM may name, rt and iconv. A run before the proof takes three minutes; so many as
 # JOBS says, or two, are made at a time.
 #
-# Ends with 0 where all ran and held, with 1 where a reply differs, a run leaves a file behind or something else failed,
-# and with 77, after what is missing, where it could not be run.
+# Exit status: 0 if all ran and held; 1 if a reply differs, a run leaves a file behind or something else failed; 77,
+# after what is missing, if it could not be run.
 set -u
 . "$(dirname "${BASH_SOURCE[0]}")/../tools/common.sh"
 need rt iconv
@@ -50,7 +50,7 @@ run() {
     sed -i 1d "$work/$1/look.err"
 }
 
-# judge CASE: the verdict; false where the replies differ.
+# judge CASE: the verdict; false if the replies differ.
 judge() {
     local at=$work/$1 part
     if ! grep -q '^roadesk: .* before the proof' "$at/look.first"; then

@@ -8,8 +8,7 @@
 #
 # Needs the built program, which PROGRAM may name, and for the contents openssl and xxd.
 #
-# Ends with 0 where all ran and held, with 1 where something failed, and with 77, after what is missing, where not all of
-# it could be run.
+# Exit status: 0 if all ran and held; 1 if something failed; 77, after what is missing, if not all of it could be run.
 set -u
 . "$(dirname "${BASH_SOURCE[0]}")/../tools/common.sh"
 find_program
@@ -99,7 +98,7 @@ check_messages() {
     return "$differs"
 }
 
-# report TEXT COMMAND...: the text where the command held.
+# report TEXT COMMAND...: the text if the command held.
 report() {
     if "${@:2}"; then
         echo "$1"

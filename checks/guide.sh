@@ -3,20 +3,20 @@
 #
 #     guide.sh [DOCUMENT...]      (both of docs/, if none is given)
 #
-# The blocks marked sh run in one shell, in their order, those of the second document after those of the first, in a
-# temporary folder with a copy of the files that git tracks. So what they make does not stay, and they cannot reach what
-# the reader made at the top of the repository, such as desk.db and front/. The copy is taken from a repository in use,
-# which has to be the same before and after.
+# The blocks marked sh run in one shell, in their order, those of the second document after those of the first. They run
+# in a temporary folder with a copy of the files that git tracks. So what they make does not stay, and they cannot reach
+# what the reader made at the top of the repository, such as desk.db and front/. The copy is taken from a repository in
+# use, which has to be the same before and after.
 #
-# What a block prints, on standard error too, has to be the block after a line that ends with `prints` or `print`. Where
-# there is none, it has to end with status 0.
+# What a block prints, on standard error too, has to be the block after a line that ends with `prints` or `print`. If
+# there is no such block, it has to end with status 0.
 #
 # Needs the built program, which PROGRAM may name and which is run as ./roadesk, and git. A block marked `sh needs
-# COMMAND..` needs these commands and is else not run; `netfilter` stands for the right to make a network namespace with
-# rules of nftables, which root has, and the command nft.
+# COMMAND..` is not run without these commands. `netfilter` means the command nft and the right to make a network
+# namespace with rules of nftables, which root has.
 #
-# Ends with 0 if all blocks ran and did as the documents say, with 1 if one did otherwise or something else failed, and
-# with 77, after what is missing, if not all of them could be run.
+# Exit status: 0 if all blocks ran and did as the documents say; 1 if one did otherwise or something else failed; 77,
+# after what is missing, if not all of them could be run.
 set -u
 . "$(dirname "${BASH_SOURCE[0]}")/../tools/common.sh"
 need git

@@ -238,7 +238,7 @@ def revoke(rows, chance):
 
 
 def transfer(rows, chance):
-    # Back to the holder where the taker has many.
+    # Back to the holder if the taker has many.
     taken = [place for place in range(256) if rows.keepers[place] == rows.taker]
     place = chance.choice(taken) if len(taken) > 5 else chance.randrange(256)
     giver = rows.keepers[place]

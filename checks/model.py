@@ -18,7 +18,7 @@ import re
 import sys
 
 # ---- Values (FORMATS, values) ------------------------------------------------------------------------------------
-# A reader gives the value, or None where the text is none. A prefix is (family, first address, length): prefixes sort
+# A reader gives the value, or None if the text is none. A prefix is (family, first address, length): prefixes sort
 # by family, address and length. A day is its text: days sort as their texts do.
 
 WIDTH = {4: 32, 6: 128}

@@ -3,14 +3,14 @@
 #
 #     model.sh [RUNS [SEED [STEP]]]    (by default 1000 runs from seed 1, in steps of 1)
 #
-# A run whose seed is a multiple of five is a random session over HTTP on a new file, and each other one a random script;
-# the seeds are SEED, SEED + STEP and so on, so `model.sh 1000 5 5` makes 1,000 sessions. Stops at the first difference,
-# and prints its seed, the request and both answers; at the latest after an hour.
+# A run whose seed is a multiple of five is a random session over HTTP on a new file, and each other one a random
+# script. The seeds are SEED, SEED + STEP and so on, so `model.sh 1000 5 5` makes 1,000 sessions. Stops at the first
+# difference, and prints its seed, the request and both answers; at the latest after an hour.
 #
 # Needs the built program, which PROGRAM may name, and python3 from 3.10 on.
 #
-# Ends with 0 where all runs were made and the answers are the same, with 1 where they differ or something else failed,
-# and with 77, after what is missing, where not all runs could be made, as in an hour.
+# Exit status: 0 if all runs were made and the answers are the same; 1 if they differ or something else failed; 77,
+# after what is missing, if not all runs could be made, as in an hour.
 set -u
 . "$(dirname "${BASH_SOURCE[0]}")/../tools/common.sh"
 need_python

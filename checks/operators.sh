@@ -2,7 +2,7 @@
 # Whether what operators use beside the program does as the guide says: routes.sh on tables that BIRD wrote,
 # normalize.py on SLURM files of others, and krill-delta.py on exports.
 #
-#     operators.sh [ROUTES]      (1,000,000 where left out)
+#     operators.sh [ROUTES]      (1,000,000 if left out)
 #
 # Two neighbours announce to a BIRD on loopback: paths that end with an AS, with an AS_SET, and empty ones of the
 # router's own AS. Both of its tables, `show route all` and a dump in MRT, have to give the same routes, which the
@@ -13,8 +13,8 @@
 #
 # Needs the built program, which PROGRAM may name, python3 from 3.10 on, bird, birdc, bgpdump and jq.
 #
-# Ends with 0 where all ran and held, with 1 where something else is found or something failed, and with 77, after what
-# is missing, where it could not be run.
+# Exit status: 0 if all ran and held; 1 if something else is found or something failed; 77, after what is missing, if it
+# could not be run.
 set -u
 . "$(dirname "${BASH_SOURCE[0]}")/../tools/common.sh"
 PATH=$PATH:/usr/sbin

@@ -1,8 +1,8 @@
 #!/usr/bin/env bash
-# Whether the Debian package makes a service under systemd: it is installed where systemd is the first process, in
-# namespaces and over an overlay of this machine's own root, whose layer above is memory.
+# Whether the Debian package makes a service under systemd. It is installed where systemd is the first process, in
+# namespaces and over an overlay of this machine's own root. The upper layer of the overlay is memory.
 #
-#     package.sh [CASE...]      (all cases, in their order, where left out)
+#     package.sh [CASE...]      (all cases, in their order, if left out)
 #
 # Each case is a function below. `installs` and `front` are run before any other, and `versions` and `removes` need
 # `desks`. The blocks of GUIDE.md and OPERATIONS.md that install the package, its front and a further desk are run as
@@ -15,8 +15,8 @@
 # file system that an overlay can have below it, and no roadesk that is installed; Debian's systemd, nginx and nftables
 # and the commands below; and for the package before git, with the commit before.
 #
-# Ends with 0 where all ran and held, with 1 where something is otherwise or something failed, and with 77, after what is
-# missing, where not all of it could be run.
+# Exit status: 0 if all ran and held; 1 if something is otherwise or something failed; 77, after what is missing, if not
+# all of it could be run.
 # shellcheck disable=SC2016 # most of these are of a shell inside
 set -u
 . "$(dirname "${BASH_SOURCE[0]}")/../tools/common.sh"

@@ -1,11 +1,11 @@
 #!/usr/bin/env bash
 # Whether the program, tests and a trie bear a refused allocation.
 #
-#     refused.sh [STEP]      (1 where left out)
+#     refused.sh [STEP]      (1 if left out)
 #
 # The program answers seven lines: four set-up lines, the VRPs of a day, a create, and the VRPs again. refuse.c, which
-# is preloaded, refuses each of its allocations in turn, in a run of its own: one line at most is Unavailable, it has
-# done nothing, and the VRPs are right after it; or the program ends with its fault at the start. Then all allocations
+# is preloaded, refuses each of its allocations in turn, in a run of its own. At most one line is Unavailable, it has
+# done nothing, and the VRPs are right after it. Or the program ends with its fault at the start. Then all allocations
 # from each one on are refused: from a line on all are Unavailable. refused.py does the same for `init`, and for `serve`
 # with one connection over a file; of more than 2,000 allocations of a run it refuses each STEPth.
 #
@@ -17,8 +17,8 @@
 # Needs the built program, which PROGRAM may name, gcc and python3 from 3.10 on; for the tests those that `rt test` has
 # built, and for the trie rt. Files go to a temporary folder, or stay in BENCH_WORK.
 #
-# Ends with 0 where all ran and held, with 1 where a reply or a set is not as it has to be or something else failed, and
-# with 77, after what is missing, where not all of it could be run.
+# Exit status: 0 if all ran and held; 1 if a reply or a set is not as it has to be or something else failed; 77, after
+# what is missing, if not all of it could be run.
 set -u
 . "$(dirname "${BASH_SOURCE[0]}")/../tools/common.sh"
 need_gcc
@@ -40,7 +40,7 @@ END
 first='{"asn":64496,"prefix":"192.0.2.0/24","max":24}'
 second='{"asn":64497,"prefix":"192.0.2.0/25","max":25}'
 
-# replies NUMBER: what is answered where the line of this number is Unavailable, or none for 0.
+# replies NUMBER: what is answered if the line of this number is Unavailable, or none for 0.
 replies() {
     local null='{"done":null}' number=$1
     case $number in
@@ -55,7 +55,7 @@ replies() {
     esac | sed 's/^X$/{"unavailable":true}/'
 }
 
-# answer NUMBER: runs the lines where this allocation is refused; `status` is that of the program.
+# answer NUMBER: runs the lines with this allocation refused; `status` is that of the program.
 answer() {
     rm -f "$work/refused"
     REFUSE=$1 REFUSED=$work/refused LD_PRELOAD=$work/refuse.so "$program" script --charter "$charter" \

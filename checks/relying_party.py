@@ -19,7 +19,7 @@ sys.path.insert(0, str(pathlib.Path(__file__).resolve().parent.parent / "example
 import sign
 from common import charter_of, connected, free_port, serve_words, slurm_file
 
-# The first and the last AS number of each count of octets, in DER too, where a first bit takes an octet of its own.
+# The first and the last AS number of each count of octets, in DER too, if a first bit takes an octet of its own.
 NUMBERS = [0, 1, 127, 128, 255, 256, 32767, 32768, 65535, 65536, 2**23 - 1, 2**23, 2**24 - 1, 2**24, 2**31 - 1, 2**31,
            2**32 - 1]
 # What each holder has at last.

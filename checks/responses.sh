@@ -7,8 +7,8 @@
 #
 # Needs the built program, which PROGRAM may name, and python3 from 3.10 on.
 #
-# Ends with 0 where all ran and held, with 1 where a response is another or breaks off or something else failed, and with
-# 77, after what is missing, where it could not be run.
+# Exit status: 0 if all ran and held; 1 if a response is another or breaks off or something else failed; 77, after what
+# is missing, if it could not be run.
 set -u
 . "$(dirname "${BASH_SOURCE[0]}")/../tools/common.sh"
 need_python

@@ -1,5 +1,5 @@
 #!/usr/bin/env bash
-# Whether BIRD, FRR and OpenBGPD find a hijacked route invalid that another of them announces by BGP: the first two get
+# Whether BIRD, FRR and OpenBGPD find a hijacked route invalid that another of them announces by BGP. The first two get
 # the VRPs of a desk from StayRTR by RTR, the third reads them as a roa-set.
 #
 #     routers.sh
@@ -13,8 +13,8 @@
 # Needs the built program, which PROGRAM may name, the rights of root, stayrtr, rtrdump, bird, birdc, vtysh, FRR's bgpd
 # with its module rpki, OpenBGPD's bgpd and bgpctl, curl, jq and ip.
 #
-# Ends with 0 where all ran and held, with 1 where something else is found or something failed, and with 77, after what
-# is missing, where it could not be run.
+# Exit status: 0 if all ran and held; 1 if something else is found or something failed; 77, after what is missing, if it
+# could not be run.
 set -u
 . "$(dirname "${BASH_SOURCE[0]}")/../tools/common.sh"
 PATH=$PATH:/usr/sbin:/sbin

@@ -1,7 +1,7 @@
 #!/usr/bin/env python3
 """Whether the wrong bodies of must-fail edits that name a row of a test make that row fail.
 
-    rows.py [CRATE/EDIT...]      (every edit in crates/*/must-fail that names a row, where left out)
+    rows.py [CRATE/EDIT...]      (every edit in crates/*/must-fail that names a row, if left out)
 
 Such an edit has a line `# fails: CRATE, TEST, row "ROW"`. Each is planted alone in a copy of the crates, in which `rt
 try --test` runs the test of that crate: it has to fail with a message that has the row's text in it. That the test

@@ -6,8 +6,8 @@
 # Needs rt and sqlite3. Files go to a temporary folder, or stay in BENCH_WORK; the next run there is quicker, since the
 # programs are proved.
 #
-# Ends with 0 where all ran and held, with 1 where something else is found or something failed, and with 77, after what is
-# missing, where it could not be run.
+# Exit status: 0 if all ran and held; 1 if something else is found or something failed; 77, after what is missing, if it
+# could not be run.
 set -u
 . "$(dirname "${BASH_SOURCE[0]}")/../tools/common.sh"
 need rt sqlite3
@@ -58,7 +58,7 @@ expect_opened 'without the index' "$whole" "$tables" 'DROP INDEX holding_of;'
 expect 'the schema afterwards' "$(sqlite3 "$work/written.db" .schema | sort)" \
     "$(grep -v INDEX "$schema" | sort)"
 expect_opened 'with a write-ahead log' "$whole" "PRAGMA journal_mode = WAL; $tables"
-# The index is made last, so the tables have the same places without it, and where sqlite3 writes them anew: it then
+# The index is made last, so the tables have the same places without it, and if sqlite3 writes them anew: it then
 # makes all tables before the indexes.
 expect_opened 'made without the index' "$whole" "$(grep -v INDEX "$schema")"
 expect_opened 'after a vacuum' "$whole" "$tables" "VACUUM; VACUUM INTO '$work/into.db';"

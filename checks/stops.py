@@ -353,7 +353,7 @@ SWEEPS = [
 # ---- sqlite3 edits the files --------------------------------------------------------------------------------------
 
 LO = f"x'{blob(BLOCK).hex()}'"
-# How serve ends where this is edited by these statements; the file stays as it is then.
+# How serve ends if this is edited by these statements; the file stays as it is then.
 REFUSED_EDITS = {
     OTHER_SCHEMA: {
         "the number of the schema": "UPDATE meta SET value = 3",

@@ -1,8 +1,8 @@
 #!/usr/bin/env bash
-# Whether the program keeps what it answered where it is killed and where its disk is full or fails, and says what
-# OPERATIONS.md says if others use or change its files.
+# Whether the program keeps what it answered when it is killed, and when its disk is full or fails. And whether it says
+# what OPERATIONS.md says if others use or change its files.
 #
-#     stops.sh [LIVES [SEED]]      (200 lives, and a seed that is drawn, where left out)
+#     stops.sh [LIVES [SEED]]      (200 lives, and a seed that is drawn, if left out)
 #
 # The cases are in the tables of stops.py. Each begins with a copy of one database, and SQLite reads its tables
 # afterwards. Last, lives.py kills the desk at random moments under load.
@@ -10,8 +10,8 @@
 # Needs the built program, which PROGRAM may name, python3 from 3.10 on, sqlite3, curl, prlimit and setpriv, and strace
 # with the right to trace.
 #
-# Ends with 0 where all ran and held, with 1 where something else is found or something failed, and with 77, after what
-# is missing, where it could not be run.
+# Exit status: 0 if all ran and held; 1 if something else is found or something failed; 77, after what is missing, if it
+# could not be run.
 set -u
 . "$(dirname "${BASH_SOURCE[0]}")/../tools/common.sh"
 need_python

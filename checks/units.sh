@@ -4,14 +4,14 @@
 #     units.sh
 #
 # systemd is not started. The commands of the units are run as it would run them, each case in a network namespace of
-# its own, so that the ports are those of the units and nothing else hears of them. In the place of the desk a server
+# its own. So the ports are those of the units, and nothing else can reach them. In the place of the desk a server
 # answers as one would, and `systemctl` is a script that writes down its words.
 #
 # Needs the right to make a network namespace with rules of nftables, which root has, and nft, ip, ss, unshare, nsenter,
 # setpriv, python3, curl, sqlite3, systemd-analyze and systemctl; and no program.
 #
-# Ends with 0 where all ran and held, with 1 where a command does otherwise or something else failed, and with 77, after
-# what is missing, where it could not be run.
+# Exit status: 0 if all ran and held; 1 if a command does otherwise or something else failed; 77, after what is missing,
+# if it could not be run.
 set -u
 . "$(dirname "${BASH_SOURCE[0]}")/../tools/common.sh"
 need nft ip ss nsenter setpriv python3 curl sqlite3 unshare systemd-analyze systemctl
@@ -97,7 +97,7 @@ who() {
 export -f serve who
 export stand_in
 
-# with_desk STATUSES COMMAND: the command beside such a desk, or none where there are no statuses, in a namespace of
+# with_desk STATUSES COMMAND: the command beside such a desk, or none if there are no statuses, in a namespace of
 # its own.
 with_desk() {
     # shellcheck disable=SC2016 # the words are of the shell inside
@@ -111,7 +111,7 @@ with_desk() {
         kill $(jobs -p) 2>/dev/null' - "$1" "$2" 2>&1
 }
 
-# The probe restarts the desk where its condition ends with 0.
+# The probe restarts the desk if its condition ends with 0.
 probe=$(commands roadesk-probe.service ExecCondition)
 with_desk 503 "$probe" >probe-503 &
 with_desk '503 503 403' "$probe" >probe-twice &
@@ -179,7 +179,7 @@ expect 'firewall: a second desk, at an address of IPv6' "$(with_desk '' "
     who http://[::1]:8082")" "$two_let_in
 status 0"
 
-# nftables.service removes all tables each time it starts or reloads. The rules come back where the unit is active.
+# nftables.service removes all tables each time it starts or reloads. The rules come back if the unit is active.
 for key in ExecStartPost ExecReload; do
     again=$(commands nftables.service.d/roadesk.conf "$key")
     expect "nftables: the rules after its $key" "$(with_desk '' "
@@ -198,7 +198,7 @@ sh -c "$(commands roadesk.service ExecStartPre)"
 expect 'desk: its words' "$(export "$(cat run/day)" && sh -c "$(commands roadesk.service ExecStart)")" \
     "serve --db desk.db --listen $LISTEN --count 1000000 --day $(date -u +%F)"
 
-# The new day: stop, copy, start, and start where there is no copy. A desk that was stopped stays so.
+# The new day: stop, copy, start, and start if there is no copy. A desk that was stopped stays so.
 commands roadesk-day.service ExecStart >day.sh
 sqlite3 desk.db 'CREATE TABLE kept (row); INSERT INTO kept VALUES (55)'
 sh day.sh

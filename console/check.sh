@@ -1,15 +1,14 @@
 #!/usr/bin/env bash
 # Clicks through the console as an operator and as a holder's manager, in Chromium, on the built program behind the
-# nginx of examples/nginx.conf, and checks what the desk then lists. check.py has the tasks. First the tests of the modules
-# that need no browser run, in tests/.
+# nginx of examples/nginx.conf. Then it checks what the desk lists. check.py has the tasks. First the tests of the
+# modules that need no browser run, in tests/.
 #
 #     check.sh [FOLDER]
 #
 # FOLDER, as docs/pictures, gets the pictures. Needs the built program, which PROGRAM may name, and Debian's packages
 # chromium, chromium-driver, python3-selenium, nodejs, nginx, openssl and curl.
 #
-# Ends with 0 where all ran and held, with 1 where something failed, and with 77, after what is missing, where it could not
-# be run.
+# Exit status: 0 if all ran and held; 1 if something failed; 77, after what is missing, if it could not be run.
 set -u
 . "$(dirname "${BASH_SOURCE[0]}")/../tools/common.sh"
 need chromium chromedriver node nginx openssl curl /usr/bin/python3

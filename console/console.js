@@ -772,7 +772,7 @@ const lookBySending = (request, rule, made, done) => async () => {
   return denied && denied === rule ? { isMade: true, words: made } : { fault };
 };
 
-const AGAIN_HINT = "If it was made, sending it again changes nothing, and tells that it was, unless somebody else changed "
+const AGAIN_HINT = "If it was made, sending it again changes nothing, and shows that it was, unless somebody else changed "
   + "the same since then.";
 
 /** What is said of the end of a task that no list shows. */

@@ -23,7 +23,7 @@ export const SENTENCES = {
     overlap: "Two SLURM files name the same addresses.",
   },
   malformed: {
-    1: "The desk could not read the request: it is no JSON.",
+    1: "The desk could not read the request: it is not JSON.",
     2: "The request has a part missing or too much. A CSV file needs its header and the same fields in each row.",
     3: "This is not the name of a holder: 1 to 32 of a to z, 0 to 9 and -, not beginning with -.",
     4: "This is not the name of a user, which has the form of a holder's.",
@@ -36,7 +36,7 @@ export const SENTENCES = {
     11: "This file is not a SLURM file that the desk takes.",
     12: "The desk takes 1 to 10,000 rows or routes at once, and at most 1000 changes.",
     13: "The request is longer than 1,048,576 bytes.",
-    14: "A prefix stands twice.",
+    14: "A prefix is given twice.",
     15: "A SLURM file has no name of its own.",
   },
   slurm: {

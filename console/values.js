@@ -99,7 +99,7 @@ export function faultOfEntries(entries) {
     return `An authorization has at most ${MOST_ENTRIES} prefixes, and these are ${entries.length}.`;
   }
   const twice = entries.find(({ prefix }, at) => entries.findIndex((other) => other.prefix === prefix) < at);
-  if (twice) return `${twice.prefix} stands twice.`;
+  if (twice) return `${twice.prefix} is given twice.`;
   const none = entries.find(({ prefix }) => !readPrefix(`${prefix}`));
   return none ? `${none.prefix || "An empty line"} is not a prefix, or has bits set past its length.` : "";
 }

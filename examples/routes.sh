@@ -4,11 +4,11 @@
 #     birdc show route all | routes.sh bird AS >routes.csv     # BIRD 2
 #     bgpdump -m DUMP | routes.sh mrt AS >routes.csv           # a dump in MRT (RFC 6396)
 #
-# The origin is that of RFC 6811 section 2: the last AS of the path; NONE where the path ends with an AS_SET; AS, the
-# number of the router's own AS, where the path is empty or ends with a confederation. Routes that are not of BGP are
+# The origin is that of RFC 6811 section 2: the last AS of the path; NONE if the path ends with an AS_SET; AS, the
+# number of the router's own AS, if the path is empty or ends with a confederation. Routes that are not of BGP are
 # left out. A route that several neighbours announce with one origin is there once, in the order of `sort`.
 #
-# Ends with 2 where the words are others.
+# Ends with 2 if the words are others.
 set -eu
 case "$*" in
     "bird "[0-9]* | "mrt "[0-9]*) ;;

@@ -4,7 +4,7 @@
 #
 #     install.sh PROGRAM FOLDER
 #
-# Settings that are there already are kept. It makes no user, and enables and starts nothing. Ends with 1 where a file
+# Settings that are there already are kept. It makes no user, and enables and starts nothing. Ends with 1 if a file
 # could not be written, with 2 for other words.
 set -eu
 here=$(cd "$(dirname "${BASH_SOURCE[0]}")" && pwd)

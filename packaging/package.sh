@@ -4,7 +4,7 @@
 #     package.sh PROGRAM FOLDER
 #
 # It is FOLDER/roadesk_VERSION_ARCH.deb, the same octets each time for the same files and SOURCE_DATE_EPOCH, which is by
-# default the time of the last commit. Ends with 1 where something failed, with 2 for other words.
+# default the time of the last commit. Ends with 1 if something failed, with 2 for other words.
 set -euo pipefail
 here=$(cd "$(dirname "${BASH_SOURCE[0]}")" && pwd)
 top=$(dirname "$here")

@@ -1,9 +1,9 @@
 # shellcheck shell=bash
 # Sourced by the scripts of the checks, of the console and of the benchmarks: how they begin and end.
 #
-# A script ends with 0 where all that it was to run ran and held, with 1 where something failed, and with 77 where
-# nothing failed, but something could not be run here. What that is, and where Debian has it, is then on standard error,
-# in a line that begins with the name of the script and `: not run: `.
+# A script ends with 0 if all that it was to run ran and held, with 1 if something failed, and else with 77, if something
+# could not be run here. What that is, and where Debian has it, is then on standard error, in a line that begins with
+# the name of the script and `: not run: `.
 
 top=$(cd "$(dirname "${BASH_SOURCE[0]}")/.." && pwd)
 # Where the scripts in Python that are started by one in bash find common.py.
@@ -36,7 +36,7 @@ end() {
     exit 0
 }
 
-# place_of COMMAND: where Debian has it; the package has its name unless it is told here.
+# place_of COMMAND: where Debian has it; the package has its name unless it is named here.
 place_of() {
     local package=$1
     case $1 in
@@ -78,12 +78,12 @@ have() {
     return "$all"
 }
 
-# need COMMAND...: ends the script where one of these commands is missing.
+# need COMMAND...: ends the script if one of these commands is missing.
 need() {
     have '' "$@" || end
 }
 
-# need_python: ends the script where there is no python3 from 3.10 on, with its module for SQLite.
+# need_python: ends the script if there is no python3 from 3.10 on, with its module for SQLite.
 need_python() {
     need python3
     python3 -c 'import sys; sys.exit(sys.version_info < (3, 10))' || skip 'no python3 from 3.10 on (Debian: python3)'
@@ -101,14 +101,14 @@ run_python() {
     esac
 }
 
-# need_gcc: ends the script where no shared library can be made of C.
+# need_gcc: ends the script if no shared library can be made of C.
 need_gcc() {
     need gcc
     gcc -shared -fPIC -o /dev/null -xc - <<<'#include <dlfcn.h>' 2>/dev/null ||
         skip 'gcc makes no shared library (Debian: libc6-dev)'
 }
 
-# need_libsqlite3: ends the script where no program in C can use SQLite.
+# need_libsqlite3: ends the script if no program in C can use SQLite.
 need_libsqlite3() {
     need gcc
     printf '#include <sqlite3.h>\nint main(void) { return !sqlite3_libversion(); }\n' |
@@ -122,8 +122,21 @@ copy_crates() {
         (cd "$top" && find crates -name out -prune -o -type f -print0 | tar -cf - --null -T -) | tar -xf - -C "$1"
 }
 
+# copy_built FOLDER: gives a copy of the crates what rt built of them, as hard links if it can, so that it is not proved
+# again there.
+copy_built() {
+    local built
+    for built in "$top"/crates/*/out/rlib; do
+        [ -d "$built" ] || continue
+        built=${built#"$top/"}
+        mkdir -p "$1/${built%/rlib}" || return
+        cp -al "$top/$built" "$1/$built" 2>/dev/null ||
+            { rm -rf "${1:?}/$built" && cp -a "$top/$built" "$1/$built"; } || return
+    done
+}
+
 # Sets `program` to the path of the proved program. PROGRAM names it, else it is that of the repository: built again
-# where a source is newer, and none where it was never built.
+# if a source is newer, and none if it was never built.
 find_program() {
     program=${PROGRAM:-$top/crates/cli/out/cli}
     [ -x "$program" ] || skip "no program $program: run ./roadesk build first, or name another in PROGRAM"
@@ -148,7 +161,7 @@ make_work() {
     trap 'end_jobs; rm -rf "$work"' EXIT
 }
 
-# The same, but where BENCH_WORK names a folder it is that, which stays, so that the next run is quicker.
+# The same, but if BENCH_WORK names a folder it is that, which stays, so that the next run is quicker.
 make_or_keep_work() {
     if [ -z "${BENCH_WORK:-}" ]; then
         make_work
@@ -159,7 +172,7 @@ make_or_keep_work() {
     fi
 }
 
-# expect NAME FOUND EXPECTED: whether the two are the same; `failed` is 1 where they are not.
+# expect NAME FOUND EXPECTED: whether the two are the same; `failed` is 1 if they are not.
 expect() {
     if [ "$2" = "$3" ]; then
         echo "$1: ok"
@@ -186,7 +199,7 @@ listens() {
     grep -q "$(printf ':%04X 00000000:0000 0A' "$1")" /proc/net/tcp
 }
 
-# wait_for PORT PROCESS: waits until somebody listens there; false where the process that is to ended before.
+# wait_for PORT PROCESS: waits until somebody listens there; false if the process that is to ended before.
 wait_for() {
     until listens "$1"; do
         kill -0 "$2" 2>/dev/null || return 1

@@ -13,7 +13,7 @@ name=bench_$(basename "$1" .rattle)
 work=$2
 uses=$(sed -n 's/^use \([a-z0-9_]*\)::.*/\1/p' "$1" | grep -vx std | sort -u)
 
-# The crates of the repository that a crate uses, and it itself, lowest first; none where it is the toolchain's.
+# The crates of the repository that a crate uses, and it itself, lowest first; none if it is the toolchain's.
 crates_below() {
     local library
     [ -d "$top/crates/$1" ] || return

@@ -1,14 +1,14 @@
 #!/usr/bin/env bash
 # Measures `roadesk check` against plain.rs, the same job in plain Rust, on generated files.
 #
-#     check.sh [VRPS [ROUTES [shuffled]]]      (500000 and 1000000 where left out)
+#     check.sh [VRPS [ROUTES [shuffled]]]      (500000 and 1000000 if left out)
 #
 # Needs the built program, which PROGRAM may name, rustc, python3 and GNU time at /usr/bin/time. Files go to a temporary
 # folder, or stay in BENCH_WORK. Each runs three times: cpu is the least user and system seconds, memory the greatest
 # peak.
 #
-# Ends with 0 where both ran, with 1 where their outputs differ or something failed, and with 77, after what is missing,
-# where they could not be run.
+# Exit status: 0 if both ran; 1 if their outputs differ or something failed; 77, after what is missing, if they could
+# not be run.
 set -u
 . "$(dirname "${BASH_SOURCE[0]}")/../../tools/common.sh"
 need rustc python3 /usr/bin/time

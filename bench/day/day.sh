@@ -1,22 +1,22 @@
 #!/usr/bin/env bash
 # Measures a new day: how long the desk takes to stop, its copy, and the next start, and what clients get meanwhile.
 #
-#     day.sh [RUNS [SIZE]...]      (3, and '200 500' and '2000 500', where left out)
+#     day.sh [RUNS [SIZE]...]      (3, and '200 500' and '2000 500', if left out)
 #
-# A SIZE is the holders and the authorizations of each. Each run starts the program on a copy of one database file,
-# asks it for the VRPs and makes 100 authorizations, so that the day is kept and there is a log. Then it does what
+# A SIZE is the holders and the authorizations of each. Each run starts the program on a copy of one database file, asks
+# it for the VRPs and makes 100 authorizations. So the day is kept and there is a log. Then it does what
 # roadesk-day.service does: it stops the desk, copies its database by the command sqlite3, and starts it on the next
 # day. Two fronts are before it, as examples/nginx.conf has them but without TLS: the first as it is, the second with
-# examples/wait.conf, whose delay is made DELAY (2s, and 15s from 1,000,000 on, where left out). From the stop to the
-# first answer one client asks the first front ten times a second, and another one, whose one request is sent just
-# after the stop, waits at the second.
+# examples/wait.conf, whose delay is made DELAY (2s, and 15s from 1,000,000 on, if left out). From the stop to the first
+# answer one client asks the first front ten times a second, and another one, whose one request is sent just after the
+# stop, waits at the second.
 #
 # Needs the built program, which PROGRAM may name, nginx, sqlite3, openssl and curl. Files go to a temporary folder, or
 # stay in BENCH_WORK; they should be on the disk that is of interest. Of each time the least and the most are printed.
 #
-# Ends with 0 where all ran, with 1 where a client gets something else than 502 and then 403, the denial, where the one
-# that waits does not get 403, where the copy lacks an authorization or something failed, and with 77, after what is
-# missing, where it could not be run.
+# Exit status: 0 if all ran; 1 if the first client gets something else than 502 and then 403 (the denial), the waiting
+# one does not get 403, the copy lacks an authorization, or something failed; 77, after what is missing, if it could not
+# be run.
 set -u
 . "$(dirname "${BASH_SOURCE[0]}")/../../tools/common.sh"
 need nginx sqlite3 openssl curl

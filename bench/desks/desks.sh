@@ -1,7 +1,7 @@
 #!/usr/bin/env bash
 # Measures creates over one desk, two and four: behind one front, and sent to the desks themselves.
 #
-#     desks.sh [--only-c] [RUNS [COUNT]]      (3 and 400 where left out)
+#     desks.sh [--only-c] [RUNS [COUNT]]      (3 and 400 if left out)
 #
 # Each desk is a process with a file and a charter of its own; the pools have no address in common. The front is that of
 # examples/three-desks with the desks of the run, without TLS and without the limit on requests, which one address would
@@ -13,8 +13,8 @@
 # its header. Files go to a temporary folder, or stay in BENCH_WORK; they should be on the disk that is of interest. Of
 # the runs the one with the most creates a second counts.
 #
-# Ends with 0 where all ran, with 1 where a response or a row is another or something failed, and with 77, after what is
-# missing, where it could not be run.
+# Exit status: 0 if all ran; 1 if a response or a row is another or something failed; 77, after what is missing, if it
+# could not be run.
 set -u
 . "$(dirname "${BASH_SOURCE[0]}")/../../tools/common.sh"
 need gcc nginx sqlite3 openssl

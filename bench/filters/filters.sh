@@ -2,15 +2,15 @@
 # Measures what prefix filters cost: the first VRPs of a day of 10,000 authorizations, with 4096 filters that match
 # none of them, in one SLURM file and in 16, and with none.
 #
-#     filters.sh [RUNS]      (5 where left out)
+#     filters.sh [RUNS]      (5 if left out)
 #
 # The time of one answer is that of a script which asks 101 times less that of one which asks once, by 100, each the
 # least of the runs.
 #
 # Needs the built program, which PROGRAM may name, and python3. Files go to a temporary folder, or stay in BENCH_WORK.
 #
-# Ends with 0 where all ran, with 1 where a filter changed what is answered or something failed, and with 77, after what
-# is missing, where it could not be run.
+# Exit status: 0 if all ran; 1 if a filter changed what is answered or something failed; 77, after what is missing, if
+# it could not be run.
 set -u
 . "$(dirname "${BASH_SOURCE[0]}")/../../tools/common.sh"
 need python3

@@ -1,15 +1,15 @@
 #!/usr/bin/env bash
 # Measures what hostile bodies and lines cost, each beside an accepted one of the same size.
 #
-#     hostile.sh [RUNS]      (5 where left out)
+#     hostile.sh [RUNS]      (5 if left out)
 #
 # The least time of the runs counts.
 #
 # Needs the built program, which PROGRAM may name, and python3 from 3.10 on. Files go to a temporary folder, or stay in
 # BENCH_WORK.
 #
-# Ends with 0 where all ran and held, with 1 where a reply is another than is expected, or takes more than 3 times as
-# long as the accepted one, or something failed, and with 77, after what is missing, where it could not be run.
+# Exit status: 0 if all ran and held; 1 if a reply is another than is expected, or takes more than 3 times as long as
+# the accepted one, or something failed; 77, after what is missing, if it could not be run.
 set -u
 . "$(dirname "${BASH_SOURCE[0]}")/../../tools/common.sh"
 need_python

@@ -1,15 +1,15 @@
 #!/usr/bin/env bash
-# Measures imports: 1,000 authorizations by one request over a database file against as many creates, each a
-# request of its own; and the rules of 10,000 rows at a holder with 900 active authorizations against
+# Measures imports: 1,000 authorizations by one request over a database file, compared with as many creates, each a
+# request of its own. Also the rules of 10,000 rows at a holder with 900 active authorizations, compared with
 # import_plain.rs, the same rules in plain Rust.
 #
-#     import.sh [RUNS]      (5 where left out)
+#     import.sh [RUNS]      (5 if left out)
 #
 # Needs rt and rustc. Files go to a temporary folder, or stay in BENCH_WORK; the next run there is quicker, since
 # the programs are proved. The runs are in turn, and the least time counts.
 #
-# Ends with 0 where all ran, with 1 where the authorizations differ or something failed, and with 77, after what is
-# missing, where it could not be run.
+# Exit status: 0 if all ran; 1 if the authorizations differ or something failed; 77, after what is missing, if it could
+# not be run.
 set -u
 . "$(dirname "${BASH_SOURCE[0]}")/../../tools/common.sh"
 need rt rustc

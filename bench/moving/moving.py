@@ -1,7 +1,7 @@
 #!/usr/bin/env python3
 """Measures how long a database of schema 1 takes to be moved when it is opened, beside sqlite3 doing the same statements.
 
-    moving.py [AUTHORIZATIONS [RUNS]]      (100000 and 3 where left out)
+    moving.py [AUTHORIZATIONS [RUNS]]      (100000 and 3 if left out)
 
 The authorizations lie at 200 holders. Each run opens a copy with the program and asks for a list that is denied, so that
 its time is that from the start to the first answer; then it does so once more, with the database that was moved. The

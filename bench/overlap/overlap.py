@@ -1,7 +1,7 @@
 #!/usr/bin/env python3
 """Measures the rule `overlap`: a line of 1 MiB with 16 SLURM files of 2,800 filters each, of which no two overlap.
 
-    overlap.py [RUNS]      (3 where left out)
+    overlap.py [RUNS]      (3 if left out)
 
 The line is sent by a stranger, whom the rule before it denies; and by an operator, with one more filter that lies in the
 last one of another file, so that this rule denies it after it went over all prefixes. The time of a line is that of a

@@ -1,7 +1,7 @@
 #!/usr/bin/env bash
 # Measures `roadesk serve` against serve.c, which answers the same requests in C over libsqlite3.
 #
-#     serve.sh [--only-c] [RUNS [SIZE]...]      (5, and all sizes, where left out; --only-c runs the C server alone)
+#     serve.sh [--only-c] [RUNS [SIZE]...]      (5, and all sizes, if left out; --only-c runs the C server alone)
 #
 # A SIZE is as '200 500', the holders, at most 32768, and the authorizations of each, at most 1000; the greatest,
 # '25000 40', takes 0.5 GB of files. The two servers run in turn, each first in every other run, and of the medians of
@@ -10,8 +10,8 @@
 # Needs the built program, which PROGRAM may name, gcc, libsqlite3 with its header and sqlite3; with strace the calls
 # that sync are counted too. Files go to a temporary folder, or stay in BENCH_WORK.
 #
-# Ends with 0 where all ran, with 1 where the two answer otherwise than each other or leave other rows, or something
-# failed, and with 77, after what is missing, where it could not be run.
+# Exit status: 0 if all ran; 1 if the two answer otherwise than each other or leave other rows, or something failed; 77,
+# after what is missing, if it could not be run.
 # shellcheck disable=SC2086 # a size is two words, and the C server has no first word
 set -u
 . "$(dirname "${BASH_SOURCE[0]}")/../../tools/common.sh"
@@ -88,7 +88,7 @@ ask() {
     echo "$line $(sum_of_rows)"
 }
 
-# ask_at_start OPERATION HOLDERS AUTHORIZATIONS COUNT COMMAND...: the same, where the client starts the server.
+# ask_at_start OPERATION HOLDERS AUTHORIZATIONS COUNT COMMAND...: the same, but the client starts the server.
 ask_at_start() {
     local port words line
     place 1 || return 1
@@ -159,7 +159,7 @@ measure_memory() {
 syncs() {
     ask "$2" 100 100 100 strace -f -qq -o "$work/syncs" -e trace=fsync,fdatasync \
         "${programs[$1]}" ${first_words[$1]} >/dev/null || fail "$1 failed below strace"
-    # Its status is 1 where there is none.
+    # Its status is 1 if there is none.
     grep -c 'sync(' "$work/syncs" || [ $? = 1 ]
 }
 

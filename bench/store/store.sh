@@ -1,14 +1,14 @@
 #!/usr/bin/env bash
 # Measures the store against store.c, the same statements in C over libsqlite3, in memory and over files.
 #
-#     store.sh [RUNS]      (5 where left out)
+#     store.sh [RUNS]      (5 if left out)
 #
 # Needs rt, gcc and libsqlite3 with its header. Files go to a temporary folder, or stay in BENCH_WORK;
 # the next run there is quicker, since the program is proved. The two programs run in turn, and of the
 # medians of an operation's times the least counts.
 #
-# Ends with 0 where both ran, with 1 where they answer otherwise than each other or something failed, and with 77, after
-# what is missing, where they could not be run.
+# Exit status: 0 if both ran; 1 if they answer otherwise than each other or something failed; 77, after what is missing,
+# if they could not be run.
 # shellcheck disable=SC2086 # a size is two words
 set -u
 . "$(dirname "${BASH_SOURCE[0]}")/../../tools/common.sh"

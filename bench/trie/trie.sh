@@ -1,14 +1,14 @@
 #!/usr/bin/env bash
 # Measures the two representations of a set of VRPs, ListIndex and Trie, beside one another on generated files.
 #
-#     trie.sh [ROUTES [VRPS...]]      (1000000, and 10000 and 500000 where left out)
+#     trie.sh [ROUTES [VRPS...]]      (1000000, and 10000 and 500000 if left out)
 #
 # Needs rt, python3 and GNU time at /usr/bin/time. Files go to a temporary folder, or stay in BENCH_WORK; the
 # next run there is quicker, since the program is proved. Each runs three times in turn: of the milliseconds of building,
 # visiting and judging the least count, and of the memory the greatest peak, which has the VRPs and the routes in it.
 #
-# Ends with 0 where both ran, with 1 where they answer otherwise than each other or something failed, and with 77, after
-# what is missing, where they could not be run.
+# Exit status: 0 if both ran; 1 if they answer otherwise than each other or something failed; 77, after what is missing,
+# if they could not be run.
 set -u
 . "$(dirname "${BASH_SOURCE[0]}")/../../tools/common.sh"
 need rt python3 /usr/bin/time

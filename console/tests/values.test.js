@@ -72,6 +72,6 @@ test("entries are pasted, put in the order of prefixes, and sent by the members 
   assert.deepEqual(amendmentOf(entries, "2026-12-31"), { maxes: [25, 26, 24, 48], until: "2026-12-31" });
   assert.deepEqual(amendmentOf(entries.slice(0, 1), "2026-12-31"), { max: 25, until: "2026-12-31" });
   assert.equal(faultOfEntries(entries), "");
-  assert.match(faultOfEntries([...entries, entries[0]]), /192\.0\.2\.0\/24 stands twice/);
+  assert.match(faultOfEntries([...entries, entries[0]]), /192\.0\.2\.0\/24 is given twice/);
   assert.match(faultOfEntries(Array.from({ length: 65 }, (_, at) => ({ prefix: `10.0.${at}.0/24`, max: 24 }))), /65/);
 });

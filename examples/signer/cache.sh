@@ -10,7 +10,7 @@
 #     fort --mode=standalone --work-offline --tal=TREE/now/ta.tal --local-repository=CACHE --output.roa=FOLDER/fort.csv
 #
 # Their clocks have to show the day of the last run of sign.py, or the day after. Neither's status tells whether all was
-# valid: compare the VRPs. rpki-client 8 may crash, and writes none, where a tree was not signed anew for days.
+# valid: compare the VRPs. rpki-client 8 may crash, and writes none, if a tree was not signed anew for days.
 set -eu
 rm -rf "$2"
 mkdir -p "$2/rpki.example.net" "$2/ta/ta"

@@ -4,7 +4,7 @@
 #     disjoint.sh CHARTER.csv...
 #
 # A desk in memory whose pool is all addresses delegates each prefix, and denies the first that has an address twice.
-# Prints the prefixes that it denied and ends with 1 where there are some. ROADESK names another program.
+# Prints the prefixes that it denied and ends with 1 if there are some. ROADESK names another program.
 set -eu
 work=$(mktemp -d)
 trap 'rm -r "$work"' EXIT

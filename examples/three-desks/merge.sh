@@ -3,7 +3,7 @@
 #
 #     merge.sh http://ADDRESS:PORT...
 #
-# Nothing is printed where one does not answer: routes would become NotFound or Invalid without its VRPs.
+# Nothing is printed if one does not answer: routes would become NotFound or Invalid without its VRPs.
 set -eu
 header=asn,prefix,maxlength
 work=$(mktemp -d)
