@@ -10,13 +10,12 @@ use Rattle.sqlite_schema.specs.declared.command.Command.TheVariants.{Insert, Upd
 use Rattle.sqlite_schema.specs.declared.schema.Schema.{Schema}
 use Rattle.sqlite_sql.specs.declared.ops.CompareOp.TheVariants.{Eq, Le, Ge}
 use Rattle.sqlite_sql.specs.declared.ops.BinaryOp.TheVariants.{Compare}
-use Rattle.sqlite_sql.specs.Query.{Query}
 use Rattle.sqlite_sql.specs.Term.{Term, lit, col, op2}
 use Rattle.sqlite.specs.Listing.{understood, reads_listing}
 use Rattle.sqlite.proofs.Callers.{IsPlain, command_of}
 use Rattle.sqlite_tied.specs.Compute.{everything}
 use Rattle.tables.specs.Tables.{desk_tables, desk_beside, OverDesk}
-use Rattle.tables.specs.declared.exception.TheConstants.{DELETE_EXCEPTIONS, INSERT_EXCEPTION, SELECT_ASSERTIONS, SELECT_FILES, SELECT_FILTERS}
+use Rattle.tables.specs.declared.exception.TheConstants.{DELETE_EXCEPTIONS, INSERT_EXCEPTION}
 use Rattle.tables.specs.declared.granted.TheConstants.{DELETE_GRANT, INSERT_GRANT, SELECT_HOLDER_GRANTS}
 use Rattle.tables.specs.declared.holder.TheConstants.{INSERT_HOLDER, SELECT_COUNTERS, UPDATE_CREATED, UPDATE_GRANTED}
 use Rattle.tables.specs.declared.holding.TheConstants.{DELETE_HOLDING, INSERT_HOLDING, SELECT_HOLDER_SPANS, SELECT_OVERLAP, SELECT_RUN_BELOW}
@@ -45,10 +44,6 @@ equals place parameter = op2 (Compare Eq Binary) (col 1 place) (col 0 parameter)
 -- the rows are sorted upwards by a column
 abbrev pub upwards : ℕ → Term × Key
 upwards place = (col 1 place, record { collation = Binary; descending = false })
-
--- SELECT DISTINCT a column FROM one table ORDER BY it
-abbrev pub distinct_column : ℕ → ℕ → Query
-distinct_column tree place = record (from_table tree [] (col 1 place ∷ []) (upwards place ∷ []) no_limit) { distinct = true; collations = Binary ∷ [] }
 
 -- a row of parameters, the hidden rowid left to SQLite
 abbrev pub put_terms : ℕ → List Term
@@ -136,20 +131,3 @@ take_exceptions_is = record { is = λ s. refl; plain = λ s. (refl, refl); unlis
 pub put_exception_is : Means INSERT_EXCEPTION.now (Insert 7 (Values (put_terms 8) 9))
 unfolding understood everything
 put_exception_is = record { is = λ s. refl; plain = λ s. (refl, refl); unlisted = λ s. refl }
-
--- the exceptions of one kind of the SLURM file ?1
-abbrev pub kind_tests : ℕ → List Term
-kind_tests kind = equals 1 0 ∷ op2 (Compare Eq Binary) (col 1 2) (lit (Int (pos kind))) ∷ []
-
-pub filters_is : Means SELECT_FILTERS.now (Select (record { lets = []; body = from_table 15 (kind_tests 1) (col 1 4 ∷ col 1 5 ∷ col 1 6 ∷ col 1 7 ∷ col 1 8 ∷ col 1 3 ∷ []) (upwards 3 ∷ []) no_limit }) (codes "family" ∷ codes "lo" ∷ codes "len" ∷ codes "max" ∷ codes "asn" ∷ codes "position" ∷ []))
-unfolding understood everything
-filters_is = record { is = λ s. refl; plain = λ s. (refl, refl); unlisted = λ s. refl }
-
-pub assertions_is : Means SELECT_ASSERTIONS.now (Select (record { lets = []; body = from_table 15 (kind_tests 2) (col 1 8 ∷ col 1 4 ∷ col 1 5 ∷ col 1 6 ∷ col 1 7 ∷ col 1 3 ∷ []) (upwards 3 ∷ []) no_limit }) (codes "asn" ∷ codes "family" ∷ codes "lo" ∷ codes "len" ∷ codes "max" ∷ codes "position" ∷ []))
-unfolding understood everything
-assertions_is = record { is = λ s. refl; plain = λ s. (refl, refl); unlisted = λ s. refl }
-
--- the names of the files, each once
-pub files_is : Means SELECT_FILES.now (Select (record { lets = []; body = distinct_column 15 1 }) (codes "file" ∷ []))
-unfolding understood everything
-files_is = record { is = λ s. refl; plain = λ s. (refl, refl); unlisted = λ s. refl }

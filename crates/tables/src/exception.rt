@@ -29,19 +29,6 @@ pub const INSERT_EXCEPTION: &str = "\
 /// Deletes all exceptions.
 pub const DELETE_EXCEPTIONS: &str = "DELETE FROM slurm";
 
-/// The names of the SLURM files.
-pub const SELECT_FILES: &str = "SELECT DISTINCT file FROM slurm ORDER BY file";
-
-/// The prefix filters of a SLURM file, in its order.
-pub const SELECT_FILTERS: &str = "\
-    SELECT family, lo, len, max, asn, position FROM slurm WHERE file = ?1 AND kind = 1 \
-    ORDER BY position";
-
-/// The prefix assertions of a SLURM file, in its order.
-pub const SELECT_ASSERTIONS: &str = "\
-    SELECT asn, family, lo, len, max, position FROM slurm WHERE file = ?1 AND kind = 2 \
-    ORDER BY position";
-
 /// All exceptions, and their rowids.
 pub const SELECT_ALL_EXCEPTIONS: &str = "\
     SELECT file, kind, position, family, lo, len, max, asn, rowid FROM slurm ORDER BY rowid";
@@ -75,24 +62,6 @@ impl FromRow for ExceptionRow {
             position: decode_position(cell(row, 2))?,
             exception: decode_exception(row)?,
         })
-    }
-}
-
-impl FromRow for Filter {
-    ghost cells = { filter_cells };
-
-    ghost width = { 5 };
-
-    ghost fits = { FilterFits };
-
-    fn in_row(row: &Row) -> Option<Filter> {
-        decode_filter(
-            cell(row, 0),
-            cell(row, 1),
-            cell(row, 2),
-            cell(row, 3),
-            cell(row, 4),
-        )
     }
 }
 

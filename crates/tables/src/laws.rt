@@ -1,17 +1,12 @@
 //! Theorems, stated as contracts of functions with empty bodies.
 ghost use Rattle.std.specs.Prelude.{◌≡◌};
 ghost use Rattle.tables.specs.declared.meta.TheConstants.{SCHEMA};
-ghost use Rattle.tables.specs.Laws.{DeskTablesAreNamed, ExceptionsAreCounted};
+ghost use Rattle.tables.specs.Laws.{DeskTablesAreNamed};
 
 /// The tables of a desk have their own names, so `has_names` accepts them.
 #[tactic(auto, using(crate::proofs::DeskTables::names_there))]
 pub fn desk_tables_are_named()
     ensures { DeskTablesAreNamed }
-{}
-
-/// The rows of a SLURM file are as many as its exceptions.
-pub fn exceptions_are_counted()
-    ensures { ExceptionsAreCounted }
 {}
 
 /// States the number of the schema, so that the proof fails if the constant changes.

@@ -36,8 +36,7 @@ pub use entry::{
 };
 pub use exception::{
     CREATE_SLURM, DELETE_EXCEPTIONS, Exception, ExceptionRow, INSERT_EXCEPTION,
-    SELECT_ALL_EXCEPTIONS, SELECT_ASSERTIONS, SELECT_FILES, SELECT_FILTERS, exception_first,
-    exception_values,
+    SELECT_ALL_EXCEPTIONS, exception_first, exception_values,
 };
 pub use granted::{
     CREATE_GRANTED, DELETE_GRANT, INSERT_GRANT, SELECT_ALL_GRANTS, SELECT_HOLDER_GRANTS,
