@@ -5,10 +5,11 @@ use Rattle.std.proofs.lemmas.Bool.Decides.{nat_tests}
 use Rattle.std.proofs.lemmas.Nat.{pow_pos, pow-add, div-add-mod', div_below, mod-pow-add}
 use Rattle.std.proofs.Math.Nat.{mul-le-mul_right, suc-mul}
 use Rattle.addr.specs.Family.{width, family_eq}
-use Rattle.addr.specs.Address.{is_between, last_of, contains, overlaps, Contains, Overlaps}
+use Rattle.addr.specs.Address.{Address, is_between, last_of, contains, overlaps, Contains, Overlaps}
 use Rattle.addr.specs.declared.family.Family.{Family}
 use Rattle.addr.specs.declared.family.Family.TheVariants.{V4, V6}
 use Rattle.addr.specs.declared.prefix.Prefix.{Prefix}
+use Rattle.addr.proofs.Equality.{family_tells}
 
 pub width_small : (f : Family) → width f ≤ 128
 width_small V4 = lit≤ tt
@@ -24,47 +25,27 @@ first_below p = omega (arith, p.in_family, pow_pos (width p.family - p.length))
 
 -- an interval within another has only addresses of it
 pub between_within : (f g h : Family) (low high from to n : ℕ) → family_eq f g && (nat_le low from && nat_le to high) ≡ true → is_between g from to (record { family = h; number = n }) ≡ true → is_between f low high (record { family = h; number = n }) ≡ true
-between_within V4 V4 V4 low high from to n inside there = grind (arith, nat_tests)
-between_within V4 V4 V6 low high from to n inside there = grind (arith, nat_tests)
-between_within V4 V6 h low high from to n inside there = grind (arith, nat_tests)
-between_within V6 V4 h low high from to n inside there = grind (arith, nat_tests)
-between_within V6 V6 V4 low high from to n inside there = grind (arith, nat_tests)
-between_within V6 V6 V6 low high from to n inside there = grind (arith, nat_tests)
+between_within f g h low high from to n inside there = grind (arith, nat_tests, family_tells)
 
 -- an address of an interval lies in it
 pub between_at : (f : Family) (low high n : ℕ) → low ≤ n → n ≤ high → is_between f low high (record { family = f; number = n }) ≡ true
-between_at V4 low high n above below = grind (arith, nat_tests)
-between_at V6 low high n above below = grind (arith, nat_tests)
+between_at f low high n above below = grind (arith, nat_tests, family_tells)
 
 -- an interval whose two ends lie in another lies within it
 pub within_by_ends : (f g : Family) (low high from to : ℕ) → is_between f low high (record { family = g; number = from }) ≡ true → is_between f low high (record { family = g; number = to }) ≡ true → family_eq f g && (nat_le low from && nat_le to high) ≡ true
-within_by_ends V4 V4 low high from to one other = grind (arith, nat_tests)
-within_by_ends V4 V6 low high from to one other = grind (arith, nat_tests)
-within_by_ends V6 V4 low high from to one other = grind (arith, nat_tests)
-within_by_ends V6 V6 low high from to one other = grind (arith, nat_tests)
+within_by_ends f g low high from to one other = grind (arith, nat_tests, family_tells)
 
 -- two intervals that share an address overlap
 pub overlap_by_shared : (f g h : Family) (low high from to n : ℕ) → is_between f low high (record { family = h; number = n }) ≡ true → is_between g from to (record { family = h; number = n }) ≡ true → family_eq f g && (nat_le low to && nat_le from high) ≡ true
-overlap_by_shared V4 V4 h low high from to n one other = grind (arith, nat_tests)
-overlap_by_shared V6 V6 h low high from to n one other = grind (arith, nat_tests)
-overlap_by_shared V4 V6 V4 low high from to n one other = grind (arith, nat_tests)
-overlap_by_shared V4 V6 V6 low high from to n one other = grind (arith, nat_tests)
-overlap_by_shared V6 V4 V4 low high from to n one other = grind (arith, nat_tests)
-overlap_by_shared V6 V4 V6 low high from to n one other = grind (arith, nat_tests)
+overlap_by_shared f g h low high from to n one other = grind (arith, nat_tests, family_tells)
 
 -- the greater of two starts lies in both of two intervals that overlap
 pub shared_by_overlap : (f g : Family) (low high from to n : ℕ) → low ≤ n → from ≤ n → n ≤ high → n ≤ to → family_eq f g && (nat_le low to && nat_le from high) ≡ true → (is_between f low high (record { family = f; number = n }) ≡ true) × (is_between g from to (record { family = f; number = n }) ≡ true)
-shared_by_overlap V4 V4 low high from to n a b c d meet = (between_at V4 low high n a c, between_at V4 from to n b d)
-shared_by_overlap V6 V6 low high from to n a b c d meet = (between_at V6 low high n a c, between_at V6 from to n b d)
-shared_by_overlap V4 V6 low high from to n a b c d meet = grind (arith, nat_tests)
-shared_by_overlap V6 V4 low high from to n a b c d meet = grind (arith, nat_tests)
+shared_by_overlap f g low high from to n a b c d meet = (grind (arith, nat_tests, family_tells), grind (arith, nat_tests, family_tells))
 
 -- what the test of an overlap says of the ends
 pub overlap_ends : (f g : Family) (low high from to : ℕ) → family_eq f g && (nat_le low to && nat_le from high) ≡ true → (low ≤ to) × (from ≤ high)
-overlap_ends V4 V4 low high from to meet = (grind (arith, nat_tests), grind (arith, nat_tests))
-overlap_ends V6 V6 low high from to meet = (grind (arith, nat_tests), grind (arith, nat_tests))
-overlap_ends V4 V6 low high from to meet = (grind (arith, nat_tests), grind (arith, nat_tests))
-overlap_ends V6 V4 low high from to meet = (grind (arith, nat_tests), grind (arith, nat_tests))
+overlap_ends f g low high from to meet = (grind (arith, nat_tests), grind (arith, nat_tests))
 
 -- a prefix has an address
 pub first-last : (p : Prefix) → p.first ≤ last_of p
@@ -79,24 +60,24 @@ contains_each p q = (
 )
 
 -- the first address of one of two overlapping intervals lies in the other
-pub shared_start : (p q : Prefix) → overlaps p q ≡ true → Overlaps p q
-shared_start p q meet =
-    elim (cases_lt p.first q.first) [
-      | inl before ↦ at q.first (omega arith) (omega arith) ends.1 (first-last q)
-      | inr after ↦ at p.first (omega arith) (omega arith) (first-last p) ends.0
+pub shared : (f g : Family) (low high from to : ℕ) → low ≤ high → from ≤ to → family_eq f g && (nat_le low to && nat_le from high) ≡ true → (a : Address) × (is_between f low high a ≡ true) × (is_between g from to a ≡ true)
+shared f g low high from to some other meet =
+    elim (cases_lt low from) [
+      | inl before ↦ at from (omega arith) (omega arith) ends.1 other
+      | inr after ↦ at low (omega arith) (omega arith) some ends.0
     ]
   where
-    ends : (p.first ≤ last_of q) × (q.first ≤ last_of p)
-    ends = overlap_ends p.family q.family p.first (last_of p) q.first (last_of q) meet
+    ends : (low ≤ to) × (from ≤ high)
+    ends = overlap_ends f g low high from to meet
 
-    at : (n : ℕ) → p.first ≤ n → q.first ≤ n → n ≤ last_of p → n ≤ last_of q → Overlaps p q
+    at : (n : ℕ) → low ≤ n → from ≤ n → n ≤ high → n ≤ to → (a : Address) × (is_between f low high a ≡ true) × (is_between g from to a ≡ true)
     at n a b c d =
-        let both = shared_by_overlap p.family q.family p.first (last_of p) q.first (last_of q) n a b c d meet in
-        (record { family = p.family; number = n }, both.0, both.1)
+        let both = shared_by_overlap f g low high from to n a b c d meet in
+        (record { family = f; number = n }, both.0, both.1)
 
 pub overlaps_some : (p q : Prefix) → IsTrue (overlaps p q) ↔ Overlaps p q
 overlaps_some p q = (
-  shared_start p q,
+  shared p.family q.family p.first (last_of p) q.first (last_of q) (first-last p) (first-last q),
   λ shared. overlap_by_shared p.family q.family shared.0.family p.first (last_of p) q.first (last_of q) shared.0.number shared.1 shared.2,
 )
 

@@ -17,21 +17,15 @@ epoch_is_zero d h =
     ∙ ap (λ k. days_from_civil (pos 1970) 1 k) day
     ∙ known_days.0
 
--- days have 24 hours, before and after the epoch
-pub hours_after : (n : ℕ) → int_div ((pos n -ℤ pos 0) *ℤ pos 86_400_000_000_000) (pos 3_600_000_000_000) ≡ pos (24 * n)
-hours_after n = omega (arith, signed_arith)
-
-pub hours_before : (n : ℕ) → int_div ((negsuc n -ℤ pos 0) *ℤ pos 86_400_000_000_000) (pos 3_600_000_000_000) ≡ negsuc (24 * n + 23)
-hours_before n = omega (arith, signed_arith)
-
 -- the whole hours from the epoch to a day
 abbrev pub hours_to : ℤ → ℤ
 hours_to (pos n) = pos (24 * n)
 hours_to (negsuc n) = negsuc (24 * n + 23)
 
+-- days have 24 hours, before and after the epoch
 hours_to_is : (day : ℤ) → int_div ((day -ℤ pos 0) *ℤ pos 86_400_000_000_000) (pos 3_600_000_000_000) ≡ hours_to day
-hours_to_is (pos n) = hours_after n
-hours_to_is (negsuc n) = hours_before n
+hours_to_is (pos n) = omega (arith, signed_arith)
+hours_to_is (negsuc n) = omega (arith, signed_arith)
 
 pub hours_between :
     (day epoch nanos hours : ℤ) → epoch ≡ pos 0 → nanos ≡ (day -ℤ epoch) *ℤ pos 86_400_000_000_000

@@ -1,5 +1,5 @@
 -- Tests of equality that pass, and what they say.
-use Rattle.std.proofs.Common.{◌≡◌, true, refl, subst, ◌&&◌, ◌==◌}
+use Rattle.std.proofs.Common.{◌≡◌, ◌≢◌, ◌⊎◌, inl, inr, true, false, refl, subst, arith, ◌&&◌, ◌==◌}
 use Rattle.std.proofs.lemmas.Bool.{and_parts, and_from, eqb-true, eq-eqb}
 use Rattle.addr.specs.Address.{prefix_eq, same_prefix}
 use Rattle.addr.specs.Family.{family_eq}
@@ -9,15 +9,18 @@ use Rattle.addr.specs.Spans.{span_eq, same_span}
 use Rattle.addr.specs.declared.prefix.Prefix.{Prefix}
 use Rattle.addr.specs.declared.span.Span.{Span}
 
+-- what the test tells, for `grind`
+pub family_tells : (f g : Family) → ((family_eq f g ≡ true) × (f ≡ g)) ⊎ ((family_eq f g ≡ false) × (f ≢ g))
+family_tells V4 V4 = inl (refl, refl)
+family_tells V4 V6 = inr (refl, λ e. cc)
+family_tells V6 V4 = inr (refl, λ e. cc)
+family_tells V6 V6 = inl (refl, refl)
+
 pub same_family : (f g : Family) → family_eq f g ≡ true → f ≡ g
-same_family V4 V4 is = refl
-same_family V4 V6 is = absurd cc
-same_family V6 V4 is = absurd cc
-same_family V6 V6 is = refl
+same_family f g is = grind (arith, family_tells)
 
 pub family_itself : (f : Family) → family_eq f f ≡ true
-family_itself V4 = refl
-family_itself V6 = refl
+family_itself f = grind (arith, family_tells)
 
 pub equal_family : (f g : Family) → f ≡ g → family_eq f g ≡ true
 equal_family f g same = subst (λ (h : Family). family_eq f h ≡ true) same (family_itself f)

@@ -1,20 +1,18 @@
 -- The order of families, prefixes and VRPs is total, what ties in it is one, and the derived comparisons are it.
-use Rattle.std.proofs.Common.{◌≡◌, Bool, true, false, ◌&&◌, ◌==◌, refl, ap, sym, subst, ◌∙◌, Ordering}
-use Rattle.std.proofs.lemmas.Bool.{and_parts, and_from, eqb-true, eq-eqb}
+use Rattle.std.proofs.Common.{◌≡◌, true, not, ◌&&◌, ◌==◌, refl, ap, sym, subst, ◌∙◌, Ordering}
+use Rattle.std.proofs.lemmas.Bool.{and_parts, and_from, eqb-true, eq-eqb, not-false}
 use Rattle.std.proofs.lemmas.Cmp.{upto}
 use Rattle.std.specs.declared.cmp.Ordering.TheVariants.{Less, Equal, Greater}
-use Rattle.std.specs.Ordering.{nat_cmp, ordering_then, ordering_reverse, is_lt, is_le, is_gt}
+use Rattle.std.specs.Ordering.{ordering_then, is_lt, is_le, is_gt}
 use Rattle.std.specs.Cmp.{IsTotalOrder, nat_cmp_total, on_total, then_total}
 use Rattle.std.specs.FinMap.{IsAntisymmetric, nat_cmp-IsAntisymmetric}
 use Rattle.addr.specs.Address.{prefix_eq, same_prefix}
-use Rattle.addr.specs.Family.{family_eq}
 use Rattle.addr.specs.Order.{family_cmp, prefix_cmp, vrp_cmp, same_vrp, IsOrder, TestsEquality}
 use Rattle.addr.specs.declared.family.Family.{Family}
 use Rattle.addr.specs.declared.family.Family.TheVariants.{V4, V6}
 use Rattle.addr.specs.declared.prefix.Prefix.{Prefix}
 use Rattle.addr.specs.declared.vrp.Vrp.{Vrp}
 use Rattle.addr.specs.contracts.family.FamilyOrd.TheImpl as FamilyOrd
-use Rattle.addr.specs.contracts.family.FamilyPartialEq.TheImpl as FamilyPartialEq
 use Rattle.addr.specs.contracts.vrp.VrpOrd.TheImpl as VrpOrd
 use Rattle.addr.specs.contracts.vrp.VrpPartialEq.TheImpl as VrpPartialEq
 use Rattle.addr.proofs.Equality.{equal_prefix, prefix_itself}
@@ -22,19 +20,14 @@ use Rattle.addr.specs.steps.TotalOrders.{prefix_total}
 
 -- ---- at or before
 
-not_after : (o : Ordering) → is_le o ≡ true → is_gt o ≡ false
-not_after Less h = refl
-not_after Equal h = refl
-not_after Greater h = cc
-
-pub not_greater : (o : Ordering) → is_gt o ≡ false → is_le o ≡ true
-not_greater Less h = refl
-not_greater Equal h = refl
-not_greater Greater h = cc
+gt-le : (o : Ordering) → is_gt o ≡ not (is_le o)
+gt-le Less = refl
+gt-le Equal = refl
+gt-le Greater = refl
 
 -- what is at or before something is at or before all that this is at or before
 pub le-trans : {K : Type 0} {R : K → K → Ordering} (o : IsTotalOrder R) (x y z : K) → is_le (R x y) ≡ true → is_le (R y z) ≡ true → is_le (R x z) ≡ true
-le-trans {K} {R} o x y z one two = not_greater (R x z) (upto o x y z (not_after (R x y) one) (not_after (R y z) two))
+le-trans {K} {R} o x y z one two = not-false (is_le (R x z)) (sym (gt-le (R x z)) ∙ upto o x y z (gt-le (R x y) ∙ ap not one) (gt-le (R y z) ∙ ap not two))
 
 -- ---- the order is total
 
@@ -92,12 +85,6 @@ pub derived_vrp_order : derived_vrp_cmp ≡ vrp_cmp
 derived_vrp_order = refl
 
 -- ---- the derived `==` tests equality
-
-derived_family_eq : (f g : Family) → FamilyPartialEq.ghosts.eq f g ≡ family_eq f g
-derived_family_eq V4 V4 = refl
-derived_family_eq V4 V6 = refl
-derived_family_eq V6 V4 = refl
-derived_family_eq V6 V6 = refl
 
 pub prefix_equality : TestsEquality prefix_eq
 prefix_equality p q = (equal_prefix p q, λ same. subst (λ (r : Prefix). prefix_eq p r ≡ true) same (prefix_itself p))

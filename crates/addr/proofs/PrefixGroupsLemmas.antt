@@ -1,15 +1,11 @@
 -- The texts of IPv6 addresses: `Ipv6Addr` reads the loose groups where there is no dot, and nothing else.
-use Rattle.std.proofs.Common.{◌≡◌, ◌⊎◌, ℕ, zero, suc, ◌+◌, ◌-◌, ◌^◌, ◌<◌, ◌≤◌, Bool, true, false, ◌&&◌, ◌==◌, List, [], ◌∷◌, ◌++◌, length, replicate, drop, slice_index, option_map, Some, None, Result, Ok, Err, All, decimal, refl, sym, ap, ◌∙◌, subst, inl, inr, append_assoc, append-nil, arith, lit≤, lit<, length-append, lt-ltb, eq-eqb}
+use Rattle.std.proofs.Common.{◌≡◌, ◌⊎◌, ℕ, ◌+◌, ◌<◌, ◌≤◌, Bool, true, false, ◌&&◌, ◌==◌, List, [], ◌∷◌, ◌++◌, length, drop, slice_index, option_map, Some, None, Result, Ok, Err, All, decimal, refl, sym, ap, ◌∙◌, subst, inl, inr, append_assoc, append-nil, arith, lit≤, lt-ltb, eq-eqb}
 use Rattle.std.proofs.lemmas.Bool.{cases_Bool, or_parts, and_parts, ltb-true, eqb-true, false≢true}
 use Rattle.std.proofs.lemmas.Option.{cond_some, option_and_then_some, some_pair_parts, none-some, same_Some}
 use Rattle.std.proofs.lemmas.List.Elements.{All-nil, All-cons}
 use Rattle.std.proofs.lemmas.List.Splits.{slice_split_none, slice_split_at, join_with_byte-slice_split, length-slice_split}
 use Rattle.std.proofs.NetLemmas.Options.{map_some}
-use Rattle.std.proofs.Math.Nat.{pow-le-pow_right}
-use Rattle.std.proofs.lemmas.Int.Digits.{digits_value-lt, number_lt}
-use Rattle.std.proofs.lemmas.List.{length-replicate}
 use Rattle.std.specs.Char.{digit_value}
-use Rattle.std.specs.Int.Digits.{number_from_digits, AllBelowBase}
 use Rattle.std.specs.List.{list_any, slice_split, join_with_byte}
 use Rattle.std.specs.Result.{result_ok}
 use Rattle.std.specs.declared.net.ipv6_addr.Ipv6Addr.{Ipv6Addr}
@@ -121,20 +117,23 @@ colon_groups_are ipv4 (c ∷ rest) segments e =
     let some : 0 < length parts = omega (arith, length-slice_split (λ b. b == 58) (c ∷ rest)) in
     subst (λ text. IsGroups ipv4 text segments) (join_with_byte-slice_split 58 (c ∷ rest)) (parts_are ipv4 parts segments some e)
 
--- groups with no dotted tail have no dot
-tail_lacks : (text segments : List ℕ) → IsGroupsAfter false (58 ∷ []) text segments → Lacks 46 text
-tail_lacks text [] h = subst (Lacks 46) (sym h) refl
-tail_lacks text (s ∷ segments) (inl h) =
-    let (here, more, split, is_group, is_more) = h in
-    subst (Lacks 46) (sym split) (Lacks-append 46 here more (group_lacks 46 here s (lit≤ tt) is_group) (tail_lacks more segments is_more))
-tail_lacks text (s ∷ segments) (inr h) = absurd (false≢true h.2)
+-- what stands before the first of some groups
+abbrev lead : Bool → List ℕ
+lead true = 58 ∷ []
+lead false = []
 
-groups_lack : (text segments : List ℕ) → IsGroups false text segments → Lacks 46 text
-groups_lack text [] h = subst (Lacks 46) (sym h) refl
-groups_lack text (s ∷ segments) (inl h) =
+lead_lacks : (led : Bool) → Lacks 46 (lead led)
+lead_lacks true = refl
+lead_lacks false = refl
+
+-- groups with no dotted tail have no dot
+groups_lack : (led : Bool) (text segments : List ℕ) → IsGroupsAfter false (lead led) text segments → Lacks 46 text
+groups_lack led text [] h = subst (Lacks 46) (sym h) refl
+groups_lack led text (s ∷ segments) (inl h) =
     let (here, more, split, is_group, is_more) = h in
-    subst (Lacks 46) (sym split) (Lacks-append 46 here more (group_lacks 46 here s (lit≤ tt) is_group) (tail_lacks more segments is_more))
-groups_lack text (s ∷ segments) (inr h) = absurd (false≢true h.2)
+    let front = Lacks-append 46 (lead led) here (lead_lacks led) (group_lacks 46 here s (lit≤ tt) is_group) in
+    subst (Lacks 46) (sym split) (Lacks-append 46 (lead led ++ here) more front (groups_lack true more segments is_more))
+groups_lack led text (s ∷ segments) (inr h) = absurd (false≢true h.2)
 
 -- ---- the gap
 
@@ -157,66 +156,47 @@ colon_then : (next : List ℕ) → (slice_index next 0 == 58) ≡ false → cut_
 unfolding cut_at_gap
 colon_then next other = rw other
 
-colon_then_some : (here rest before after : List ℕ) → 0 < length here → Lacks 58 here → cut_at_gap (here ++ rest) ≡ Some (before, after) → cut_at_gap (58 ∷ (here ++ rest)) ≡ Some (58 ∷ before, after)
-colon_then_some [] rest before after some none e = absurd (omega arith)
-colon_then_some (c ∷ here) rest before after some none e =
+past_some : (led : Bool) (here rest before after : List ℕ) → 0 < length here → Lacks 58 here → cut_at_gap rest ≡ Some (before, after) → cut_at_gap ((lead led ++ here) ++ rest) ≡ Some ((lead led ++ here) ++ before, after)
+past_some false here rest before after some none e = gap_over_some here rest before after none e
+past_some true [] rest before after some none e = absurd (omega arith)
+past_some true (c ∷ here) rest before after some none e =
     let (first, others) = or_parts (c == 58) (list_any (λ b. b == 58) here) none in
-    rw (colon_then (c ∷ (here ++ rest)) first, e)
+    rw (colon_then (c ∷ (here ++ rest)) first, gap_over_some (c ∷ here) rest before after none e)
 
-colon_then_none : (here rest : List ℕ) → 0 < length here → Lacks 58 here → cut_at_gap (here ++ rest) ≡ None → cut_at_gap (58 ∷ (here ++ rest)) ≡ None
-colon_then_none [] rest some none e = absurd (omega arith)
-colon_then_none (c ∷ here) rest some none e =
+past_none : (led : Bool) (here rest : List ℕ) → 0 < length here → Lacks 58 here → cut_at_gap rest ≡ None → cut_at_gap ((lead led ++ here) ++ rest) ≡ None
+past_none false here rest some none e = gap_over_none here rest none e
+past_none true [] rest some none e = absurd (omega arith)
+past_none true (c ∷ here) rest some none e =
     let (first, others) = or_parts (c == 58) (list_any (λ b. b == 58) here) none in
-    rw (colon_then (c ∷ (here ++ rest)) first, e)
+    rw (colon_then (c ∷ (here ++ rest)) first, gap_over_none (c ∷ here) rest none e)
 
 gap_at : (after : List ℕ) → cut_at_gap (58 ∷ 58 ∷ after) ≡ Some ([], after)
 unfolding cut_at_gap
 gap_at after = refl
 
-gap_after_tail : (text segments after : List ℕ) → IsGroupsAfter false (58 ∷ []) text segments → cut_at_gap (text ++ 58 ∷ 58 ∷ after) ≡ Some (text, after)
-gap_after_tail text [] after h = subst (λ t. cut_at_gap (t ++ 58 ∷ 58 ∷ after) ≡ Some (t, after)) (sym h) (gap_at after)
-gap_after_tail text (s ∷ segments) after (inl h) =
+gap_after : (led : Bool) (text segments after : List ℕ) → IsGroupsAfter false (lead led) text segments → cut_at_gap (text ++ 58 ∷ 58 ∷ after) ≡ Some (text, after)
+gap_after led text [] after h = subst (λ t. cut_at_gap (t ++ 58 ∷ 58 ∷ after) ≡ Some (t, after)) (sym h) (gap_at after)
+gap_after led text (s ∷ segments) after (inl h) =
     let (here, more, split, is_group, is_more) = h in
-    let plain = group_lacks 58 here s (lit≤ tt) is_group in
-    let later = gap_over_some here (more ++ 58 ∷ 58 ∷ after) more after plain (gap_after_tail more segments after is_more) in
-    let step = colon_then_some here (more ++ 58 ∷ 58 ∷ after) (here ++ more) after is_group.0.0.0 plain later in
-    rw (split, append_assoc here more (58 ∷ 58 ∷ after)) step
-gap_after_tail text (s ∷ segments) after (inr h) = absurd (false≢true h.2)
-
-gap_after_groups : (text segments after : List ℕ) → IsGroups false text segments → cut_at_gap (text ++ 58 ∷ 58 ∷ after) ≡ Some (text, after)
-gap_after_groups text [] after h = subst (λ t. cut_at_gap (t ++ 58 ∷ 58 ∷ after) ≡ Some (t, after)) (sym h) (gap_at after)
-gap_after_groups text (s ∷ segments) after (inl h) =
-    let (here, more, split, is_group, is_more) = h in
-    let plain = group_lacks 58 here s (lit≤ tt) is_group in
-    let later = gap_over_some here (more ++ 58 ∷ 58 ∷ after) more after plain (gap_after_tail more segments after is_more) in
-    rw (split, append_assoc here more (58 ∷ 58 ∷ after)) later
-gap_after_groups text (s ∷ segments) after (inr h) = absurd (false≢true h.2)
+    let later = gap_after true more segments after is_more in
+    let step = past_some led here (more ++ 58 ∷ 58 ∷ after) more after is_group.0.0.0 (group_lacks 58 here s (lit≤ tt) is_group) later in
+    rw (split, append_assoc (lead led ++ here) more (58 ∷ 58 ∷ after)) step
+gap_after led text (s ∷ segments) after (inr h) = absurd (false≢true h.2)
 
 no_gap_in_nothing : cut_at_gap [] ≡ None
 unfolding cut_at_gap
 no_gap_in_nothing = refl
 
-no_gap_in_tail : (ipv4 : Bool) (text segments : List ℕ) → IsGroupsAfter ipv4 (58 ∷ []) text segments → Lacks 46 text → cut_at_gap text ≡ None
-no_gap_in_tail ipv4 text [] h none = rw h no_gap_in_nothing
-no_gap_in_tail ipv4 text (s ∷ segments) (inl h) none =
+no_gap_in : (ipv4 led : Bool) (text segments : List ℕ) → IsGroupsAfter ipv4 (lead led) text segments → Lacks 46 text → cut_at_gap text ≡ None
+no_gap_in ipv4 led text [] h none = rw h no_gap_in_nothing
+no_gap_in ipv4 led text (s ∷ segments) (inl h) none =
     let (here, more, split, is_group, is_more) = h in
-    let lacks = (Lacks_parts 46 (58 ∷ here) more (subst (Lacks 46) split none)).1 in
-    let plain = group_lacks 58 here s (lit≤ tt) is_group in
-    rw split (colon_then_none here more is_group.0.0.0 plain (gap_over_none here more plain (no_gap_in_tail ipv4 more segments is_more lacks)))
-no_gap_in_tail ipv4 text (s ∷ segments) (inr h) none =
+    let lacks = (Lacks_parts 46 (lead led ++ here) more (subst (Lacks 46) split none)).1 in
+    let later = no_gap_in ipv4 true more segments is_more lacks in
+    rw split (past_none led here more is_group.0.0.0 (group_lacks 58 here s (lit≤ tt) is_group) later)
+no_gap_in ipv4 led text (s ∷ segments) (inr h) none =
     let (last, octets, allowed, split, is_dotted, value) = h in
-    absurd (dotted_has_dot last octets is_dotted (Lacks_parts 46 (58 ∷ []) last (subst (Lacks 46) split none)).1)
-
-no_gap_in_groups : (ipv4 : Bool) (text segments : List ℕ) → IsGroups ipv4 text segments → Lacks 46 text → cut_at_gap text ≡ None
-no_gap_in_groups ipv4 text [] h none = rw h no_gap_in_nothing
-no_gap_in_groups ipv4 text (s ∷ segments) (inl h) none =
-    let (here, more, split, is_group, is_more) = h in
-    let lacks = (Lacks_parts 46 here more (subst (Lacks 46) split none)).1 in
-    let plain = group_lacks 58 here s (lit≤ tt) is_group in
-    rw split (gap_over_none here more plain (no_gap_in_tail ipv4 more segments is_more lacks))
-no_gap_in_groups ipv4 text (s ∷ segments) (inr h) none =
-    let (last, octets, allowed, split, is_dotted, value) = h in
-    absurd (dotted_has_dot last octets is_dotted (subst (Lacks 46) split none))
+    absurd (dotted_has_dot last octets is_dotted (Lacks_parts 46 (lead led) last (subst (Lacks 46) split none)).1)
 
 gap_starts : (c : ℕ) (rest : List ℕ) → (c == 58 && (slice_index rest 0 == 58)) ≡ true → c ∷ rest ≡ 58 ∷ 58 ∷ drop 1 rest
 gap_starts c [] e = absurd (false≢true (and_parts (c == 58) false e).1)
@@ -249,13 +229,13 @@ gap_is (c ∷ rest) before after e =
 pub loose_groups_from : (text segments : List ℕ) → IsColonHex text segments → Lacks 46 text → loose_groups text ≡ Some segments
 unfolding loose_groups
 loose_groups_from text segments (inl (groups, eight)) none =
-    rw (no_gap_in_groups true text segments groups none, colon_groups_from true text segments groups none, eq-eqb (length segments) 8 eight)
+    rw (no_gap_in true false text segments groups none, colon_groups_from true text segments groups none, eq-eqb (length segments) 8 eight)
 loose_groups_from text segments (inr h) none =
     let split = h.spelled ∙ append_assoc h.head_text (58 ∷ 58 ∷ []) h.tail_text in
     let (head_lacks, rest_lacks) = Lacks_parts 46 h.head_text (58 ∷ 58 ∷ h.tail_text) (subst (Lacks 46) split none) in
     rw (
       split,
-      gap_after_groups h.head_text h.head h.tail_text h.head_groups,
+      gap_after false h.head_text h.head h.tail_text h.head_groups,
       colon_groups_from false h.head_text h.head h.head_groups head_lacks,
       colon_groups_from true h.tail_text h.tail h.tail_groups rest_lacks,
       lt-ltb (length h.head + length h.tail) 8 h.room,
@@ -271,7 +251,7 @@ loose_groups_are text segments e =
           option_and_then_some _ (colon_groups text) _ whole λ groups read kept.
           let (test, same) = cond_some _ _ _ kept in (
             inl (subst (IsGroups true text) same (colon_groups_are true text groups read), ap length (sym same) ∙ eqb-true (length groups) 8 test),
-            groups_lack text groups (colon_groups_are false text groups read),
+            groups_lack false text groups (colon_groups_are false text groups read),
           )
       | inr cut ↦
           let gapped = rw cut.1 at e in
@@ -292,7 +272,7 @@ loose_groups_are text segments e =
               room = ltb-true (length front + length back) 8 test;
               value = sym same;
             }),
-            subst (Lacks 46) (sym split) (Lacks-append 46 cut.0.0 (58 ∷ 58 ∷ cut.0.1) (groups_lack cut.0.0 front head) (groups_lack cut.0.1 back tail)),
+            subst (Lacks 46) (sym split) (Lacks-append 46 cut.0.0 (58 ∷ 58 ∷ cut.0.1) (groups_lack false cut.0.0 front head) (groups_lack false cut.0.1 back tail)),
           )
     ]
 
@@ -315,55 +295,3 @@ module _ {E : Type 0} where
       let same = same_Some address read e in
       rw same (loose_groups_from text read.segments h lacks)
   read_some text (Err error) address h e lacks = absurd (none-some address (sym e))
-
--- ---- eight groups of 16 bits
-
-group_below : (text : List ℕ) (s : ℕ) → group text ≡ Some s → s < 0x10000
-group_below text s e =
-    let h = short_number_is 16 4 text s e in
-    let below = digits_value-lt 16 text h.digits in
-    let most : 16 ^ length text ≤ 16 ^ 4 = pow-le-pow_right (lit≤ tt) {i = length text} {j = 4} h.few in
-    let value = h.value in
-    omega arith
-
-all_groups_below : (parts : List (List ℕ)) (segments : List ℕ) → all_groups parts ≡ Some segments → AllBelowBase 0x10000 segments
-all_groups_below [] segments e = subst (AllBelowBase 0x10000) (same_Some _ _ e) tt
-all_groups_below (part ∷ parts) segments e =
-    option_and_then_some _ (group part) _ e λ s here kept.
-    option_and_then_some _ (all_groups parts) _ kept λ others more same.
-    subst (AllBelowBase 0x10000) (same_Some _ _ same) (group_below part s here, all_groups_below parts others more)
-
-colon_groups_below : (text segments : List ℕ) → colon_groups text ≡ Some segments → AllBelowBase 0x10000 segments
-unfolding colon_groups
-colon_groups_below [] segments e = subst (AllBelowBase 0x10000) (same_Some _ _ e) tt
-colon_groups_below (c ∷ rest) segments e = all_groups_below (slice_split (λ b. b == 58) (c ∷ rest)) segments e
-
-below_append : (xs ys : List ℕ) → AllBelowBase 0x10000 xs → AllBelowBase 0x10000 ys → AllBelowBase 0x10000 (xs ++ ys)
-below_append [] ys hx hy = hy
-below_append (x ∷ xs) ys hx hy = (hx.0, below_append xs ys hx.1 hy)
-
-below_zeros : (count : ℕ) → AllBelowBase 0x10000 (replicate count 0)
-below_zeros zero = tt
-below_zeros (suc count) = (lit< tt, below_zeros count)
-
-number_fits : (groups : List ℕ) → length groups ≡ 8 → AllBelowBase 0x10000 groups → number_from_digits 0x10000 groups < 2 ^ 128
-number_fits groups eight below = let all = number_lt 0x10000 groups below in rw eight at all
-
-pub loose_groups_fit : (text segments : List ℕ) → loose_groups text ≡ Some segments → number_from_digits 0x10000 segments < 2 ^ 128
-unfolding loose_groups
-loose_groups_fit text segments e =
-    elim (option_cases (cut_at_gap text)) [
-      | inl none ↦
-          option_and_then_some _ (colon_groups text) _ (rw none at e) λ groups read kept.
-          let (test, same) = cond_some _ _ _ kept in
-          rw (← same) (number_fits groups (eqb-true (length groups) 8 test) (colon_groups_below text groups read))
-      | inr cut ↦
-          option_and_then_some _ (colon_groups cut.0.0) _ (rw cut.1 at e) λ front read kept.
-          option_and_then_some _ (colon_groups cut.0.1) _ kept λ back read_back rest.
-          let (test, same) = cond_some _ _ _ rest in
-          let room = ltb-true (length front + length back) 8 test in
-          let zeros = replicate (8 - length front - length back) 0 in
-          let begins = below_append front zeros (colon_groups_below cut.0.0 front read) (below_zeros (8 - length front - length back)) in
-          let eight : length (front ++ zeros ++ back) ≡ 8 = omega (arith, length-append (front ++ zeros) back, length-append front zeros, length-replicate {A = ℕ} (8 - length front - length back) 0) in
-          rw (← same) (number_fits (front ++ zeros ++ back) eight (below_append (front ++ zeros) back begins (colon_groups_below cut.0.1 back read_back)))
-    ]

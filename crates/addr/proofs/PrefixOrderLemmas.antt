@@ -1,8 +1,9 @@
 -- Prefixes in their order: what sorts at or before what, and which prefixes lie between two.
-use Rattle.std.proofs.Common.{◌≡◌, ℕ, suc, ◌+◌, ◌-◌, ◌*◌, ◌/◌, ◌%◌, ◌^◌, ◌≤◌, ◌<◌, true, false, nat_le, refl, sym, arith, inl, inr, ◌⊎◌, ap, ◌∙◌, Ordering}
+use Rattle.std.proofs.Common.{◌≡◌, ℕ, suc, ◌+◌, ◌-◌, ◌*◌, ◌/◌, ◌%◌, ◌^◌, ◌≤◌, ◌<◌, true, nat_le, refl, sym, arith, inl, inr, ◌⊎◌, ap, ◌∙◌, Ordering}
 use Rattle.std.specs.Ordering.{nat_cmp, ordering_then, is_le}
 use Rattle.std.specs.declared.cmp.Ordering.TheVariants.{Less, Equal, Greater}
-use Rattle.std.proofs.lemmas.Bool.{and_parts, leb-true, le-leb, cases_lt, cases_order, lt-ltb, le-ltb, eq-eqb, ne_eqb}
+use Rattle.std.proofs.lemmas.Bool.{and_parts, leb-true, le-leb, cases_lt, lt-ltb, le-ltb, eq-eqb, ne_eqb}
+use Rattle.std.proofs.lemmas.Bool.Decides.{nat_tests}
 use Rattle.std.proofs.lemmas.Nat.{pow_pos, pow-add, div-add-mod', pow_below}
 use Rattle.std.proofs.Math.Nat.{mul-le-mul_right, suc-mul, add-mul-mod_self_right}
 use Rattle.addr.specs.Family.{width, family_eq}
@@ -69,24 +70,10 @@ order-one_family V4 V6 o e h = cc
 order-one_family V6 V4 o e h = cc
 
 order-numbers : (a b l m : ℕ) → is_le (ordering_then (nat_cmp a b) (nat_cmp l m)) ≡ true → (a < b) ⊎ ((a ≡ b) × (l ≤ m))
-order-numbers a b l m h =
-    elim (cases_order a b) [
-      | inl same ↦ elim (cases_lt m l) [
-        | inl less ↦ let no : is_le (ordering_then (nat_cmp a b) (nat_cmp l m)) ≡ false = rw (cmp-equal a b same, cmp-greater l m less) in cc
-        | inr most ↦ inr (same, most)
-      ]
-      | inr (inl less) ↦ inl less
-      | inr (inr more) ↦ let no : is_le (ordering_then (nat_cmp a b) (nat_cmp l m)) ≡ false = rw (cmp-greater a b more) in cc
-    ]
+order-numbers a b l m h = grind (arith, nat_tests)
 
 pub numbers-order : (a b l m : ℕ) → (a < b) ⊎ ((a ≡ b) × (l ≤ m)) → is_le (ordering_then (nat_cmp a b) (nat_cmp l m)) ≡ true
-numbers-order a b l m (inl less) = rw (cmp-less a b less)
-numbers-order a b l m (inr tie) =
-    elim (cases_order l m) [
-      | inl same ↦ rw (cmp-equal a b tie.0, cmp-equal l m same)
-      | inr (inl less) ↦ rw (cmp-equal a b tie.0, cmp-less l m less)
-      | inr (inr more) ↦ absurd (omega (arith, tie.1))
-    ]
+numbers-order a b l m h = grind (arith, nat_tests)
 
 -- p sorts at or before q of its family
 pub at_most-ends : (p q : Prefix) → p.family ≡ q.family → is_le (prefix_cmp p q) ≡ true → (p.first < q.first) ⊎ ((p.first ≡ q.first) × (p.length ≤ q.length))

@@ -1,8 +1,7 @@
 -- The law of prefix texts: each spelling is read back, so it has no fault where its parts are a prefix's.
 use Rattle.std.proofs.Common.{◌≡◌, ◌↔◌, ℕ, ◌+◌, ◌-◌, ◌%◌, ◌^◌, ◌<◌, ◌≤◌, sub-le, Bool, true, false, not, nat_lt, cond, List, [], ◌∷◌, ◌++◌, get_or, Option, Some, None, Result, Ok, Err, All, decimal, refl, sym, ap, ◌∙◌, subst, inl, inr, arith, lit≤, lit<, le-ltb, le-leb, ne_eqb}
-use Rattle.std.proofs.lemmas.Bool.{leb-true, or_from, ltb-false, eqb-true, not-false}
-use Rattle.std.proofs.lemmas.Option.{none-some, same_Some, option_and_then_some, cond_some}
-use Rattle.std.proofs.NetLemmas.Options.{map_some}
+use Rattle.std.proofs.lemmas.Bool.{or_from, ltb-false, eqb-true, not-false}
+use Rattle.std.proofs.lemmas.Option.{none-some, same_Some}
 use Rattle.std.proofs.lemmas.Slice.Eq.{bytes_eq-Decides}
 use Rattle.std.proofs.lemmas.Fmt.{decimal_is_IsNumeral, length-decimal-le}
 use Rattle.std.proofs.lemmas.List.Elements.{All-head, All-tail}
@@ -13,6 +12,7 @@ use Rattle.std.proofs.NetLemmas.Alphabet.{IsHexOrColon, All-hex_groups_text}
 use Rattle.std.specs.Char.{digit_value}
 use Rattle.std.specs.Str.{bytes_eq}
 use Rattle.std.specs.Int.Digits.{number_from_digits}
+use Rattle.std.proofs.lemmas.Int.Digits.{number_lt}
 use Rattle.std.specs.Net.Text.{ipv4_text, hex_groups_text, dotted_text, longest_zero_run}
 use Rattle.addr.specs.Family.{width}
 use Rattle.addr.specs.Address.{same_prefix}
@@ -22,10 +22,10 @@ use Rattle.addr.specs.declared.text.PrefixParts.{PrefixParts}
 use Rattle.addr.specs.declared.text.PrefixFault.{PrefixFault}
 use Rattle.addr.specs.declared.text.PrefixFault.TheVariants.{Shape, Spelling, Length, HostBits}
 use Rattle.addr.specs.declared.prefix.Prefix.{Prefix}
-use Rattle.addr.specs.PrefixText.{octets_of, groups_of, address_text, spelling, cut_at, short_number, octet, dotted_address, loose_address, loose_groups, loose, fault_of, is_aligned, prefix_text_fault, Spells, IsFirstLongestRun, PrefixTextLaw}
+use Rattle.addr.specs.PrefixText.{octets_of, groups_of, address_text, spelling, short_number, octet, dotted_address, loose_address, loose_groups, loose, fault_of, is_aligned, prefix_text_fault, Spells, IsFirstLongestRun, PrefixTextLaw}
 use Rattle.addr.proofs.PrefixTextLemmas.{short_number_from, Lacks, Lacks-append, Lacks-digits, cut_at_here, cut_at_none, dotted_parts, length_digits_in, below-digits_in, number-digits_in, at_below, option_cases}
 use Rattle.addr.proofs.AddressLemmas.{width_small, first_below, multiple-fits}
-use Rattle.addr.proofs.PrefixGroupsLemmas.{loose_groups_from, loose_groups_fit}
+use Rattle.addr.proofs.PrefixGroupsLemmas.{loose_groups_from}
 
 -- ---- numbers
 
@@ -66,11 +66,11 @@ dotted_lacks_slash a b c d ha hb hc hd =
 octet_below : (address k : ℕ) → get_or (octets_of address) k 0 < 256
 octet_below address k = at_below 0x100 (octets_of address) k (lit< tt) (below-digits_in 0x100 4 address (lit< tt))
 
-octets_back : (address : ℕ) → address < 2 ^ 32 → dotted_address (ipv4_text (octets_of address)) ≡ Some address
-octets_back address fits =
+octets_back : (address : ℕ) → dotted_address (ipv4_text (octets_of address)) ≡ Some (number_from_digits 0x100 (octets_of address))
+octets_back address =
     let read = dotted_address-text _ _ _ _ (octet_below address 0) (octet_below address 1) (octet_below address 2) (octet_below address 3) in
     let all = four_items (octets_of address) (length_digits_in 0x100 4 address) in
-    read ∙ ap Some (ap (number_from_digits 0x100) (sym all) ∙ number-digits_in 0x100 4 address (lit< tt) fits)
+    read ∙ ap (λ octets. Some (number_from_digits 0x100 octets)) (sym all)
 
 -- ---- IPv6
 
@@ -101,15 +101,33 @@ address_lacks_slash : (family : Family) (address : ℕ) → Lacks 47 (address_te
 address_lacks_slash V4 address = dotted_lacks_slash _ _ _ _ (octet_below address 0) (octet_below address 1) (octet_below address 2) (octet_below address 3)
 address_lacks_slash V6 address = hex_text_lacks 47 address (λ h. omega arith)
 
-address_back : (family : Family) (address : ℕ) → address < 2 ^ width family → loose_address (address_text family address) ≡ Some (family, address)
+-- the address that the text of a number stands for, which is the number where it is one of the family
+abbrev address_read : Family → ℕ → ℕ
+address_read V4 address = number_from_digits 0x100 (octets_of address)
+address_read V6 address = number_from_digits 0x10000 (groups_of address)
+
+address_read_is : (family : Family) (address : ℕ) → address < 2 ^ width family → address_read family address ≡ address
+address_read_is V4 address fits = number-digits_in 0x100 4 address (lit< tt) fits
+address_read_is V6 address fits = number-digits_in 0x10000 8 address (lit< tt) fits
+
+address_read_fits : (family : Family) (address : ℕ) → address_read family address < 2 ^ width family
+address_read_fits V4 address = rw (length_digits_in 0x100 4 address) at (number_lt 0x100 (octets_of address) (below-digits_in 0x100 4 address (lit< tt)))
+address_read_fits V6 address = rw (length_digits_in 0x10000 8 address) at (number_lt 0x10000 (groups_of address) (below-digits_in 0x10000 8 address (lit< tt)))
+
+address_back : (family : Family) (address : ℕ) → loose_address (address_text family address) ≡ Some (family, address_read family address)
 unfolding loose_address
-address_back V4 address fits = rw (octets_back address fits)
-address_back V6 address fits = rw (not_dotted address, groups_back address, number-digits_in 0x10000 8 address (lit< tt) fits)
+address_back V4 address = rw (octets_back address)
+address_back V6 address = rw (not_dotted address, groups_back address)
+
+loose-spelled : (family : Family) (address len : ℕ) → len < 1000 → loose (spelling family address len) ≡ Some (record { family = family; address = address_read family address; length = len })
+unfolding loose spelling
+loose-spelled family address len below =
+    rw (cut_at_here 47 (address_text family address) (decimal len) (address_lacks_slash family address), address_back family address, short_number-decimal len below)
 
 pub loose-spelling : (family : Family) (address len : ℕ) → address < 2 ^ width family → len < 1000 → loose (spelling family address len) ≡ Some (record { family = family; address = address; length = len })
-unfolding loose spelling
 loose-spelling family address len fits below =
-    rw (cut_at_here 47 (address_text family address) (decimal len) (address_lacks_slash family address), address_back family address fits, short_number-decimal len below)
+    let read = loose-spelled family address len below in
+    rw (address_read_is family address fits) at read
 
 -- ---- faults
 
@@ -136,52 +154,13 @@ faultless_parts text parts e =
     cond_is_none true fault rest e = absurd (none-some fault (sym e))
     cond_is_none false fault rest e = (refl, e)
 
--- ---- what was read is an address of its family
-
-dotted_fits : (text : List ℕ) (address : ℕ) → dotted_address text ≡ Some address → address < 2 ^ 32
-unfolding dotted_address
-dotted_fits text address e =
-    option_and_then_some _ (cut_at 46 text) _ e λ a cut_a after_a.
-    option_and_then_some _ (cut_at 46 a.1) _ after_a λ b cut_b after_b.
-    option_and_then_some _ (cut_at 46 b.1) _ after_b λ c cut_c after_c.
-    option_and_then_some _ (octet a.0) _ after_c λ first read_a then_b.
-    option_and_then_some _ (octet b.0) _ then_b λ second read_b then_c.
-    option_and_then_some _ (octet c.0) _ then_c λ third read_c then_d.
-    option_and_then_some _ (octet c.1) _ then_d λ fourth read_d done.
-    let one = octet_fits a.0 first read_a in
-    let two = octet_fits b.0 second read_b in
-    let three = octet_fits c.0 third read_c in
-    let four = octet_fits c.1 fourth read_d in
-    let value = same_Some _ _ done in
-    omega (arith, value)
-  where
-    octet_fits : (digits : List ℕ) (value : ℕ) → octet digits ≡ Some value → value ≤ 255
-    octet_fits digits value e =
-        option_and_then_some _ (short_number 10 3 digits) _ e λ number read kept.
-        let (test, same) = cond_some _ _ _ kept in
-        let below = leb-true number 255 test in
-        omega (arith, same)
-
-loose_address_fits : (text : List ℕ) (read : Family × ℕ) → loose_address text ≡ Some read → read.1 < 2 ^ width read.0
-unfolding loose_address
-loose_address_fits text read e =
-    elim (option_cases (dotted_address text)) [
-      | inl none ↦
-          let rest = rw none at e in
-          map_some _ (loose_groups text) _ rest λ groups found same.
-          rw (← same) (loose_groups_fit text groups found)
-      | inr dotted ↦
-          let same = same_Some _ _ (rw dotted.1 at e) in
-          rw (← same) (dotted_fits text dotted.0 dotted.1)
-    ]
-
-loose_fits : (text : List ℕ) (parts : PrefixParts) → loose text ≡ Some parts → parts.address < 2 ^ width parts.family
-unfolding loose
-loose_fits text parts e =
-    option_and_then_some _ (cut_at 47 text) _ e λ cut found after_cut.
-    option_and_then_some _ (loose_address cut.0) _ after_cut λ address read after_address.
-    option_and_then_some _ (short_number 10 3 cut.1) _ after_address λ len read_len done.
-    rw (← same_Some _ _ done) (loose_address_fits cut.0 address read)
+-- what was read is an address of its family
+faultless_fits : (text : List ℕ) (parts : PrefixParts) → loose text ≡ Some parts → IsFaultless text parts → parts.address < 2 ^ width parts.family
+faultless_fits text parts read h =
+    let short : parts.length < 1000 = omega (arith, width_small parts.family, h.length_fits) in
+    let same = same_Some _ _ (sym (loose-spelled parts.family parts.address parts.length short) ∙ ap loose h.spelled ∙ read) in
+    let back : address_read parts.family parts.address ≡ parts.address = ap (λ (p : PrefixParts). p.address) same in
+    omega (arith, back, address_read_fits parts.family parts.address)
 
 -- ---- prefixes
 
@@ -214,7 +193,7 @@ faultless-Spells p text spelled =
 
 prefix_from_parts : (text : List ℕ) (parts : PrefixParts) → loose text ≡ Some parts → IsFaultless text parts → (p : Prefix) × Spells p text
 prefix_from_parts text parts read h =
-    let below = loose_fits text parts read in
+    let below = faultless_fits text parts read h in
     let multiple = multiple-fits parts.address (width parts.family - parts.length) (width parts.family) (sub-le (width parts.family) parts.length) below h.aligned in
     (prefix_of parts.family parts.address parts.length h.length_fits h.aligned multiple, sym h.spelled)
 

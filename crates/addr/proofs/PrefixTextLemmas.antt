@@ -1,8 +1,9 @@
 -- The digits of a number in a base, texts that are cut at a byte, and short numbers.
-use Rattle.std.proofs.Common.{◌≡◌, ◌⊎◌, ℕ, zero, suc, ◌+◌, ◌*◌, ◌/◌, ◌%◌, ◌^◌, ◌<◌, ◌≤◌, true, false, ◌==◌, List, [], ◌∷◌, ◌++◌, length, get_or, take, drop, set, Option, Some, None, decimal, lit≤, lit<, refl, ap, inl, inr, arith, add-one, one-add, cond, nat_le, append_assoc, length-append, ne_eqb, eq-eqb, le-leb, lt-ltb, option_map}
+use Rattle.std.proofs.Common.{◌≡◌, ◌⊎◌, ℕ, zero, suc, ◌+◌, ◌*◌, ◌/◌, ◌%◌, ◌^◌, ◌<◌, ◌≤◌, true, false, ◌==◌, List, [], ◌∷◌, ◌++◌, length, get_or, take, drop, set, Option, Some, None, decimal, lit≤, lit<, refl, sym, ap, ◌∙◌, inl, inr, arith, add-one, one-add, cond, nat_le, append_assoc, length-append, ne_eqb, eq-eqb, le-leb, lt-ltb, option_map}
 use Rattle.std.proofs.Math.Nat.{pow-zero, pow-suc, pow-le-pow_right, div-lt_iff_lt-mul}
 use Rattle.std.proofs.lemmas.Bool.{cases_Bool, cases_lt, or_parts, or_from, le-ltb, lt-leb, and_parts, leb-true, ltb-true}
 use Rattle.std.proofs.lemmas.Option.{cond_some}
+use Rattle.std.proofs.lemmas.List.Folds.{list_any-append}
 use Rattle.std.proofs.lemmas.Int.Digits.{number_push, digits_value-lt}
 use Rattle.std.proofs.lemmas.List.{length_push, drop-set}
 use Rattle.std.proofs.lemmas.Fmt.{decimal_digit, decimal_step, length-decimal-le}
@@ -142,17 +143,10 @@ abbrev pub Lacks : ℕ → List ℕ → Type 0
 Lacks byte text = list_any (λ b. b == byte) text ≡ false
 
 pub Lacks-append : (byte : ℕ) (xs ys : List ℕ) → Lacks byte xs → Lacks byte ys → Lacks byte (xs ++ ys)
-Lacks-append byte [] ys hx hy = hy
-Lacks-append byte (x ∷ xs) ys hx hy =
-    let (here, others) = or_parts _ _ hx in
-    or_from _ _ here (Lacks-append byte xs ys others hy)
+Lacks-append byte xs ys hx hy = list_any-append (λ b. b == byte) xs ys ∙ or_from _ _ hx hy
 
 pub Lacks_parts : (byte : ℕ) (xs ys : List ℕ) → Lacks byte (xs ++ ys) → Lacks byte xs × Lacks byte ys
-Lacks_parts byte [] ys h = (refl, h)
-Lacks_parts byte (x ∷ xs) ys h =
-    let (here, others) = or_parts _ _ h in
-    let (front, back) = Lacks_parts byte xs ys others in
-    (or_from _ _ here front, back)
+Lacks_parts byte xs ys h = or_parts _ _ (sym (list_any-append (λ b. b == byte) xs ys) ∙ h)
 
 -- no digit of the base is the byte
 pub Lacks-digits : (base byte : ℕ) (ds : List ℕ) → base ≤ digit_value byte → AllDigits base ds → Lacks byte ds

@@ -3,17 +3,16 @@ use Rattle.std.proofs.Common.{◌≡◌, ℕ, ◌+◌, ◌-◌, ◌≤◌, Bool,
 use Rattle.std.specs.List.{list_all}
 use Rattle.std.proofs.lemmas.Bool.{cases_lt, and_parts, and_from, or_cases, or_left, or_right, false≢true, not-true}
 use Rattle.std.proofs.lemmas.Bool.Decides.{nat_tests}
-use Rattle.std.proofs.Math.Bool.{and-false}
-use Rattle.std.proofs.lemmas.List.Folds.{list_all-append, list_any-append}
+use Rattle.std.proofs.Math.Bool.{and-false, or_comm}
+use Rattle.std.proofs.lemmas.List.Folds.{list_all-append, list_any-append, Any-from_list_any, list_any-from_Any}
 use Rattle.std.proofs.lemmas.Map.Views.{any-filter_same}
 use Rattle.addr.specs.Address.{Address, is_between}
 use Rattle.addr.specs.Spans.{span_has, spans_have, is_apart_below, is_apart, span_eq, is_one_of, without_runs, same_span, AreApart, AreMaximal}
 use Rattle.addr.specs.declared.family.Family.{Family}
-use Rattle.addr.specs.declared.family.Family.TheVariants.{V4, V6}
 use Rattle.addr.specs.declared.span.Span.{Span}
-use Rattle.addr.proofs.Equality.{equal_span, span_itself, same_family}
+use Rattle.addr.proofs.Equality.{equal_span, span_itself, same_family, family_tells}
 use Rattle.addr.proofs.AddressLemmas.{between_at}
-use Rattle.addr.proofs.SpanLemmas.{is_gap}
+use Rattle.addr.proofs.SpanLemmas.{is_gap, family_lt_tells}
 
 -- ---- what holds of each run of a list
 
@@ -37,26 +36,17 @@ member_filter p runs s = any-filter_same (span_eq s) p (p s) (λ t is. ap p (sym
 
 -- an address of the runs lies in one of them
 had_by : (runs : List Span) (a : Address) → spans_have runs a ≡ true → (s : Span) × (is_one_of runs s ≡ true) × (span_has s a ≡ true)
-had_by [] a has = absurd (false≢true has)
-had_by (t ∷ rest) a has =
-    elim (or_cases (span_has t a) (spans_have rest a) has) [
-      | inl here ↦ (t, or_left _ (is_one_of rest t) (span_itself t), here)
-      | inr later ↦ let by = had_by rest a later in
-          (by.0, or_right (span_eq by.0 t) _ by.1, by.2)
-    ]
+had_by runs a has =
+    let one = Any-from_list_any (λ s. span_has s a) runs has in
+    (one.1, list_any-from_Any (span_eq one.1) runs (one.0, one.1, one.2, one.3, span_itself one.1), one.4)
 
 have_by : (runs : List Span) (s : Span) (a : Address) → is_one_of runs s ≡ true → span_has s a ≡ true → spans_have runs a ≡ true
-have_by [] s a there has = absurd (false≢true there)
-have_by (t ∷ rest) s a there has =
-    elim (or_cases (span_eq s t) (is_one_of rest s) there) [
-      | inl here ↦ or_left _ (spans_have rest a) (subst (λ u. span_has u a ≡ true) (equal_span s t here) has)
-      | inr later ↦ or_right (span_has t a) _ (have_by rest s a later has)
-    ]
+have_by runs s a there has =
+    let one = Any-from_list_any (span_eq s) runs there in
+    list_any-from_Any (λ t. span_has t a) runs (one.0, one.1, one.2, one.3, subst (λ u. span_has u a ≡ true) (equal_span s one.1 one.4) has)
 
 same_tests : (a b : Bool) → (a ≡ true → b ≡ true) → (b ≡ true → a ≡ true) → a ≡ b
-same_tests true b to back = sym (to refl)
-same_tests false true to back = back refl
-same_tests false false to back = refl
+same_tests a b to back = grind arith
 
 -- the same runs have the same addresses
 pub same_addresses : (xs ys : List Span) → ((s : Span) → is_one_of xs s ≡ is_one_of ys s) → (a : Address) → spans_have xs a ≡ spans_have ys a
@@ -66,10 +56,6 @@ same_addresses xs ys same a =
     (λ has. let by = had_by ys a has in have_by xs by.0 a (same by.0 ∙ by.1) by.2)
 
 -- ---- runs that are apart
-
-or_swapped : (a b : Bool) → (a || b) ≡ true → (b || a) ≡ true
-or_swapped true b is = or_right b true refl
-or_swapped false b is = or_left b false is
 
 pub maximal_apart : (runs : List Span) → AreMaximal runs → AreApart runs
 maximal_apart [] maximal = tt
@@ -85,7 +71,7 @@ two_apart (u ∷ rest) s t apart s_there t_there =
         | inr later ↦ inr (subst (λ v. is_apart v t ≡ true) (sym (equal_span s u first)) (all_at (is_apart u) rest t apart.0 later))
       ]
       | inr earlier ↦ elim (or_cases (span_eq t u) (is_one_of rest t) t_there) [
-        | inl second ↦ inr (subst (λ v. is_apart s v ≡ true) (sym (equal_span t u second)) (or_swapped (is_apart_below u s) (is_apart_below s u) (all_at (is_apart u) rest s apart.0 earlier)))
+        | inl second ↦ inr (subst (λ v. is_apart s v ≡ true) (sym (equal_span t u second)) (or_comm (is_apart_below s u) (is_apart_below u s) ∙ all_at (is_apart u) rest s apart.0 earlier))
         | inr later ↦ two_apart rest s t apart.1 earlier later
       ]
     ]
@@ -93,14 +79,10 @@ two_apart (u ∷ rest) s t apart s_there t_there =
 -- a run that has an address in or next to another is not apart from it
 near : (f g : Family) (lo hi start end n : ℕ) → is_between g start end (record { family = f; number = n }) ≡ true → lo ≤ n + 1 → n ≤ hi + 1
     → (is_gap f hi g start || is_gap g end f lo) ≡ true → ⊥
-near V4 V4 lo hi start end n has above below apart = grind (arith, nat_tests)
-near V4 V6 lo hi start end n has above below apart = false≢true has
-near V6 V4 lo hi start end n has above below apart = false≢true has
-near V6 V6 lo hi start end n has above below apart = grind (arith, nat_tests)
+near f g lo hi start end n has above below apart = grind (arith, nat_tests, family_tells, family_lt_tells)
 
 number_within : (f : Family) (lo hi n : ℕ) → is_between f lo hi (record { family = f; number = n }) ≡ true → (lo ≤ n) × (n ≤ hi)
-number_within V4 lo hi n has = (grind (arith, nat_tests), grind (arith, nat_tests))
-number_within V6 lo hi n has = (grind (arith, nat_tests), grind (arith, nat_tests))
+number_within f lo hi n has = (grind (arith, nat_tests), grind (arith, nat_tests))
 
 -- an address of the runs that is in or next to one of them is in that one
 touching : (runs : List Span) (s : Span) (n : ℕ) → AreApart runs → is_one_of runs s ≡ true → spans_have runs (record { family = s.family; number = n }) ≡ true
@@ -184,10 +166,7 @@ module _ (v w runs : List Span) (v_maximal : AreMaximal v) (w_maximal : AreMaxim
       ∙ both (is_one_of v s) (is_one_of w s)
     where
       both : (b c : Bool) → (not (not c && b) && b) ≡ (b && c)
-      both true true = refl
-      both true false = refl
-      both false true = refl
-      both false false = refl
+      both b c = grind arith
 
   in_come : (s : Span) → is_one_of come s ≡ (not (is_one_of v s) && is_one_of w s)
   in_come s = member_filter (λ t. not (is_one_of v t)) w s
@@ -196,9 +175,7 @@ module _ (v w runs : List Span) (v_maximal : AreMaximal v) (w_maximal : AreMaxim
   in_either s = list_any-append (span_eq s) kept come ∙ ap₂ ◌||◌ (in_kept s) (in_come s) ∙ either (is_one_of v s) (is_one_of w s)
     where
       either : (b c : Bool) → ((b && c) || (not b && c)) ≡ c
-      either true true = refl
-      either true false = refl
-      either false c = refl
+      either b c = grind arith
 
   apart_still : AreApart (kept ++ come)
   apart_still =

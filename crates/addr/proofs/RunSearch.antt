@@ -7,7 +7,7 @@ use Rattle.std.specs.List.Sorted.{IsBinarySearchResult, IsNonDecreasingBy, IsPar
 use Rattle.std.specs.Option.{option_map_or}
 use Rattle.std.specs.Ordering.{nat_cmp, is_lt, ordering_index, ordering_reverse, ordering_then}
 use Rattle.std.specs.declared.cmp.Ordering.TheVariants.{Less, Equal, Greater}
-use Rattle.std.proofs.lemmas.Bool.{cases_Bool, cases_lt, and_parts, false≢true, true≢false}
+use Rattle.std.proofs.lemmas.Bool.{cases_Bool, cases_lt, and_parts, false≢true}
 use Rattle.std.proofs.lemmas.Bool.Decides.{nat_tests}
 use Rattle.std.proofs.lemmas.Cmp.{tied_itself}
 use Rattle.std.proofs.lemmas.List.Folds.{list_any_none, list_any_at}
@@ -24,10 +24,10 @@ use Rattle.addr.specs.declared.family.Family.TheVariants.{V4, V6}
 use Rattle.addr.specs.declared.prefix.Prefix.{Prefix}
 use Rattle.addr.specs.declared.span.Span.{Span}
 use Rattle.addr.proofs.AddressLemmas.{first-last}
-use Rattle.addr.proofs.Equality.{equal_span, span_itself}
+use Rattle.addr.proofs.Equality.{equal_span, span_itself, family_tells}
 use Rattle.addr.proofs.OrderLemmas.{exact_family, derived_family, both_equal}
 use Rattle.addr.specs.steps.TotalOrders.{family_total}
-use Rattle.addr.proofs.SpanLemmas.{is_gap}
+use Rattle.addr.proofs.SpanLemmas.{is_gap, family_lt_tells}
 
 -- by family, first and last address
 abbrev span_cmp : Span → Span → Ordering
@@ -100,11 +100,7 @@ is_below f high g first = family_lt f g || (family_eq f g && nat_lt high first)
 
 -- a run that is apart below one before a prefix is before it too
 gap_below : (f g h : Family) (high low end first : ℕ) → low ≤ end → is_gap f high g low ≡ true → is_below g end h first ≡ true → is_below f high h first ≡ true
-gap_below V4 g V6 high low end first ordered gap below = refl
-gap_below V4 V4 V4 high low end first ordered gap below = grind (arith, nat_tests)
-gap_below V6 V6 V6 high low end first ordered gap below = grind (arith, nat_tests)
-gap_below f V6 V4 high low end first ordered gap below = absurd (false≢true below)
-gap_below V6 V4 h high low end first ordered gap below = absurd (false≢true gap)
+gap_below f g h high low end first ordered gap below = grind (arith, nat_tests, family_tells, family_lt_tells)
 
 -- those before a prefix are at the front
 pub before-partitioned : (p : Prefix) (runs : List Span) → AreMaximal runs → IsPartitionedBy (λ s. is_before s p) runs
@@ -125,18 +121,10 @@ module _ (p : Prefix) (test : ℕ → ℕ → Bool) (before : (lo hi : ℕ) → 
   passes s = family_eq s.family p.family && test s.lo s.hi
 
   below_fails : (f g : Family) (lo hi : ℕ) → is_below f hi g p.first ≡ true → (family_eq f g && test lo hi) ≡ false
-  below_fails V4 V4 lo hi below = before lo hi (grind (arith, nat_tests))
-  below_fails V6 V6 lo hi below = before lo hi (grind (arith, nat_tests))
-  below_fails V4 V6 lo hi below = refl
-  below_fails V6 V4 lo hi below = refl
+  below_fails f g lo hi below = grind (arith, nat_tests, family_tells, family_lt_tells, before lo hi)
 
   past_fails : (f g h : Family) (lo hi start end : ℕ) → lo ≤ hi → is_below f hi h p.first ≡ false → is_gap f hi g start ≡ true → (family_eq f h && test lo hi) ≡ false → (family_eq g h && test start end) ≡ false
-  past_fails V4 V4 V4 lo hi start end ordered reaches gap fails = past lo hi start end ordered (grind (arith, nat_tests)) (grind (arith, nat_tests)) fails
-  past_fails V6 V6 V6 lo hi start end ordered reaches gap fails = past lo hi start end ordered (grind (arith, nat_tests)) (grind (arith, nat_tests)) fails
-  past_fails f V4 V6 lo hi start end ordered reaches gap fails = refl
-  past_fails f V6 V4 lo hi start end ordered reaches gap fails = refl
-  past_fails V4 V6 V6 lo hi start end ordered reaches gap fails = absurd (true≢false reaches)
-  past_fails V6 V4 V4 lo hi start end ordered reaches gap fails = absurd (false≢true gap)
+  past_fails f g h lo hi start end ordered reaches gap fails = grind (arith, nat_tests, family_tells, family_lt_tells, past lo hi start end)
 
   place-tells : (runs : List Span) (n : ℕ) → AreMaximal runs → IsPlace p runs n → option_map_or passes (slice_get (drop n runs) 0) false ≡ list_any passes runs
   place-tells [] zero maximal place = refl

@@ -1,14 +1,16 @@
 -- Runs of addresses: what lists of maximal runs have, and how they grow.
-use Rattle.std.proofs.Common.{◌≡◌, ℕ, ◌+◌, ◌≤◌, ◌<◌, Bool, true, false, ◌&&◌, ◌||◌, nat_le, nat_lt, refl, arith, ◌↔◌, IsTrue, inl, inr, List, [], ◌∷◌, ◌++◌}
+use Rattle.std.proofs.Common.{◌≡◌, ℕ, ◌+◌, ◌≤◌, ◌<◌, Bool, true, false, ◌&&◌, ◌||◌, nat_le, nat_lt, refl, arith, ◌↔◌, ◌⊎◌, IsTrue, inl, inr, List, [], ◌∷◌, ◌++◌}
 use Rattle.std.specs.List.{list_any, list_all}
-use Rattle.std.proofs.lemmas.Bool.{cases_Bool, cases_lt, and_parts, and_from, or_cases, or_left, or_right, false≢true, true≢false}
+use Rattle.std.proofs.lemmas.Bool.{cases_Bool, and_parts, and_from, or_cases, or_left, or_right, false≢true}
 use Rattle.std.proofs.lemmas.Bool.Decides.{nat_tests}
 use Rattle.std.proofs.lemmas.List.Folds.{list_all-append, Any-from_list_any, list_any-from_Any}
+use Rattle.std.proofs.lemmas.List.Sums.{AllPass-from_list_all, list_all-from_AllPass}
 use Rattle.addr.specs.Family.{family_eq}
 use Rattle.addr.specs.Address.{Address, is_between, last_of, has_address}
 use Rattle.addr.specs.Spans.{span_has, spans_have, family_lt, is_apart_below, AreMaximal, span_covers, span_meets, HaveAll, HaveSome}
 use Rattle.addr.specs.steps.Parts.{IsWithin}
-use Rattle.addr.proofs.AddressLemmas.{between_within, between_at, overlap_by_shared, shared_by_overlap, overlap_ends, first-last}
+use Rattle.addr.proofs.Equality.{family_tells}
+use Rattle.addr.proofs.AddressLemmas.{between_within, between_at, overlap_by_shared, shared, first-last}
 use Rattle.addr.specs.declared.family.Family.{Family}
 use Rattle.addr.specs.declared.family.Family.TheVariants.{V4, V6}
 use Rattle.addr.specs.declared.prefix.Prefix.{Prefix}
@@ -18,18 +20,18 @@ use Rattle.addr.specs.declared.span.Span.{Span}
 abbrev pub is_gap : Family → ℕ → Family → ℕ → Bool
 is_gap f high g low = family_lt f g || (family_eq f g && nat_lt (high + 1) low)
 
+-- what the test of the order tells, for `grind`
+pub family_lt_tells : (f g : Family) → ((family_lt f g ≡ true) × (f ≡ V4) × (g ≡ V6)) ⊎ ((family_lt f g ≡ false) × ((f ≡ g) ⊎ ((f ≡ V6) × (g ≡ V4))))
+family_lt_tells V4 V4 = inr (refl, inl refl)
+family_lt_tells V4 V6 = inl (refl, refl, refl)
+family_lt_tells V6 V4 = inr (refl, inr (refl, refl))
+family_lt_tells V6 V6 = inr (refl, inl refl)
+
 pub gap_trans : (f g h : Family) (high low end start : ℕ) → low ≤ end → is_gap f high g low ≡ true → is_gap g end h start ≡ true → is_gap f high h start ≡ true
-gap_trans V4 g V6 high low end start le one two = refl
-gap_trans V4 V4 V4 high low end start le one two = grind (arith, nat_tests)
-gap_trans V6 V6 V6 high low end start le one two = grind (arith, nat_tests)
-gap_trans f V6 V4 high low end start le one two = absurd (false≢true two)
-gap_trans V6 V4 h high low end start le one two = absurd (false≢true one)
+gap_trans f g h high low end start le one two = grind (arith, nat_tests, family_tells, family_lt_tells)
 
 pub gap_wider : (f g : Family) (high high' low low' : ℕ) → high' ≤ high → low ≤ low' → is_gap f high g low ≡ true → is_gap f high' g low' ≡ true
-gap_wider V4 V4 high high' low low' a b gap = grind (arith, nat_tests)
-gap_wider V6 V6 high high' low low' a b gap = grind (arith, nat_tests)
-gap_wider V4 V6 high high' low low' a b gap = refl
-gap_wider V6 V4 high high' low low' a b gap = grind (arith, nat_tests)
+gap_wider f g high high' low low' a b gap = grind (arith, nat_tests)
 
 -- runs apart below each other by way of a third
 pub apart_trans : (s t u : Span) → is_apart_below s t ≡ true → is_apart_below t u ≡ true → is_apart_below s u ≡ true
@@ -60,12 +62,9 @@ maximal_append (x ∷ xs) ys mx my apart =
     let both = and_parts (all_above x ys) (list_all (λ s. all_above s ys) xs) apart in
     (rw (list_all-append (λ t. is_apart_below x t) xs ys) (and_from _ _ mx.0 both.0), maximal_append xs ys mx.1 my both.1)
 
--- a bound that is above each of xs, where what is above the bound is above y too
-pub all_above_trans : (s t : Span) (ys : List Span) → is_apart_below s t ≡ true → all_above t ys ≡ true → all_above s ys ≡ true
-all_above_trans s t [] gap above = refl
-all_above_trans s t (y ∷ ys) gap above =
-    let both = and_parts (is_apart_below t y) (all_above t ys) above in
-    and_from _ _ (apart_trans s t y gap both.0) (all_above_trans s t ys gap both.1)
+-- what each passes, each passes that follows from it
+pub all_weaker : {X : Type 0} (p q : X → Bool) (xs : List X) → ((x : X) → p x ≡ true → q x ≡ true) → list_all p xs ≡ true → list_all q xs ≡ true
+all_weaker p q xs each all = list_all-from_AllPass q xs (λ k d within. each _ (AllPass-from_list_all p xs all k d within))
 
 -- an address of runs above s lies past s, with a gap
 pub gap_to_had : (s : Span) (rest : List Span) (a : Address) → all_above s rest ≡ true → spans_have rest a ≡ true → is_gap s.family s.hi a.family a.number ≡ true
@@ -78,19 +77,11 @@ gap_to_had s (t ∷ rest) a above had =
     ]
   where
     gap_at : (f g h : Family) (high low end n : ℕ) → is_gap f high g low ≡ true → is_between g low end (record { family = h; number = n }) ≡ true → is_gap f high h n ≡ true
-    gap_at V4 g V6 high low end n gap here = refl
-    gap_at V4 V4 V4 high low end n gap here = grind (arith, nat_tests)
-    gap_at V6 V6 V6 high low end n gap here = grind (arith, nat_tests)
-    gap_at f V6 V4 high low end n gap here = absurd (false≢true here)
-    gap_at V6 V4 h high low end n gap here = absurd (false≢true gap)
+    gap_at f g h high low end n gap here = grind (arith, nat_tests, family_tells, family_lt_tells)
 
 -- an address past the end is in no run that ends there
 pub past_not_had : (f g h : Family) (low high start end n : ℕ) → is_gap f high g start ≡ true → is_between g start end (record { family = h; number = n }) ≡ true → is_between f low high (record { family = h; number = n }) ≡ false
-past_not_had V4 g V6 low high start end n gap there = refl
-past_not_had V4 V4 V4 low high start end n gap there = grind (arith, nat_tests)
-past_not_had V6 V6 V6 low high start end n gap there = grind (arith, nat_tests)
-past_not_had f V6 V4 low high start end n gap there = absurd (false≢true there)
-past_not_had V6 V4 h low high start end n gap there = absurd (false≢true gap)
+past_not_had f g h low high start end n gap there = grind (arith, nat_tests, family_tells, family_lt_tells)
 
 pub covered_has : (spans : List Span) (p : Prefix) → list_any (λ s. span_covers s p) spans ≡ true → HaveAll spans p
 covered_has spans p covered a there =
@@ -99,19 +90,14 @@ covered_has spans p covered a there =
 
 -- a run that has a prefix's first address and not the whole of it ends within it
 pub cut_short : (f g : Family) (low high first end : ℕ) → is_between f low high (record { family = g; number = first }) ≡ true → family_eq f g && (nat_le low first && nat_le end high) ≡ false → (f ≡ g) × (first ≤ high) × (high < end)
-cut_short V4 V4 low high first end here short = (refl, grind (arith, nat_tests), grind (arith, nat_tests))
-cut_short V6 V6 low high first end here short = (refl, grind (arith, nat_tests), grind (arith, nat_tests))
-cut_short V4 V6 low high first end here short = absurd (false≢true here)
-cut_short V6 V4 low high first end here short = absurd (false≢true here)
+cut_short f g low high first end here short = (grind (arith, nat_tests, family_tells), grind (arith, nat_tests), grind (arith, nat_tests))
 
 -- no run reaches to the address behind its end, and none that is apart above it starts there
 pub no_gap : (f : Family) (high : ℕ) → is_gap f high f (high + 1) ≡ true → ⊥
-no_gap V4 high gap = grind (arith, nat_tests)
-no_gap V6 high gap = grind (arith, nat_tests)
+no_gap f high gap = grind (arith, nat_tests, family_lt_tells)
 
 pub not_past_end : (f : Family) (low high : ℕ) → is_between f low high (record { family = f; number = high + 1 }) ≡ true → ⊥
-not_past_end V4 low high here = grind (arith, nat_tests)
-not_past_end V6 low high here = grind (arith, nat_tests)
+not_past_end f low high here = grind (arith, nat_tests)
 
 -- the address behind the end of the first run, where that run ends within the prefix
 pub next_not_had : (s : Span) (rest : List Span) (p : Prefix) → all_above s rest ≡ true → HaveAll (s ∷ rest) p → s.family ≡ p.family → p.first ≤ s.hi → s.hi < last_of p → ⊥
@@ -128,8 +114,7 @@ pub prefix_past : (s : Span) (p : Prefix) (a : Address) → is_gap s.family s.hi
 prefix_past s p a gap there = past_not_had s.family p.family a.family s.lo s.hi p.first (last_of p) a.number gap there
 
 pub or_second : (x y : Bool) → x ≡ false → (x || y) ≡ true → y ≡ true
-or_second false y first either = either
-or_second true y first either = absurd (true≢false first)
+or_second x y first either = grind arith
 
 pub had_covered : (spans : List Span) (p : Prefix) → AreMaximal spans → HaveAll spans p → list_any (λ s. span_covers s p) spans ≡ true
 had_covered [] p maximal all = absurd (false≢true (all (record { family = p.family; number = p.first }) (between_at p.family p.first (last_of p) p.first (omega arith) (first-last p))))
@@ -154,27 +139,11 @@ had_covered (s ∷ rest) p maximal all =
 pub covered_iff : (spans : List Span) (p : Prefix) → AreMaximal spans → IsTrue (list_any (λ s. span_covers s p) spans) ↔ HaveAll spans p
 covered_iff spans p maximal = (covered_has spans p, had_covered spans p maximal)
 
--- a run and a prefix that overlap share an address
-pub met_shares : (s : Span) (p : Prefix) → span_meets s p ≡ true → (a : Address) × (has_address p a ≡ true) × (span_has s a ≡ true)
-met_shares s p meets =
-    elim (cases_lt s.lo p.first) [
-      | inl before ↦ at p.first (omega arith) (omega arith) ends.1 (first-last p)
-      | inr after ↦ at s.lo (omega arith) (omega arith) s.ordered ends.0
-    ]
-  where
-    ends : (s.lo ≤ last_of p) × (p.first ≤ s.hi)
-    ends = overlap_ends s.family p.family s.lo s.hi p.first (last_of p) meets
-
-    at : (n : ℕ) → s.lo ≤ n → p.first ≤ n → n ≤ s.hi → n ≤ last_of p → (a : Address) × (has_address p a ≡ true) × (span_has s a ≡ true)
-    at n a b c d =
-        let both = shared_by_overlap s.family p.family s.lo s.hi p.first (last_of p) n a b c d meets in
-        (record { family = s.family; number = n }, both.1, both.0)
-
 pub met_some : (spans : List Span) (p : Prefix) → list_any (λ s. span_meets s p) spans ≡ true → HaveSome spans p
 met_some spans p meets =
     let one = Any-from_list_any (λ s. span_meets s p) spans meets in
-    let shared = met_shares one.1 p one.4 in
-    (shared.0, shared.1, list_any-from_Any (λ s. span_has s shared.0) spans (one.0, one.1, one.2, one.3, shared.2))
+    let both = shared one.1.family p.family one.1.lo one.1.hi p.first (last_of p) one.1.ordered (first-last p) one.4 in
+    (both.0, both.2, list_any-from_Any (λ s. span_has s both.0) spans (one.0, one.1, one.2, one.3, both.1))
 
 pub some_met : (spans : List Span) (p : Prefix) (a : Address) → has_address p a ≡ true → spans_have spans a ≡ true → list_any (λ s. span_meets s p) spans ≡ true
 some_met spans p a there had =

@@ -2,19 +2,21 @@
 use Rattle.std.proofs.Common.{◌≡◌, ℕ, ◌+◌, ◌-◌, ◌≤◌, ◌<◌, Bool, true, false, ◌&&◌, ◌||◌, not, nat_lt, refl, sym, ap, subst, ◌∙◌, arith, List, [], ◌∷◌, ◌++◌, Option, Some, None, IfSome, take, drop, get_or, length, suc, add-one, take_all}
 use Rattle.std.specs.List.{list_all}
 use Rattle.std.specs.Option.{option_to_list}
-use Rattle.std.proofs.lemmas.Bool.{and_parts, and_from, false≢true, true≢false}
+use Rattle.std.proofs.lemmas.Bool.{and_parts, and_from}
 use Rattle.std.proofs.lemmas.Bool.Decides.{nat_tests}
 use Rattle.std.proofs.lemmas.List.{take_more}
-use Rattle.std.proofs.Math.Bool.{or-false, or-true, and-false, or_assoc}
+use mathlib.Core.Bool.{and-or_distrib_right}
+use Rattle.std.proofs.Math.Bool.{or-false, and-false, or_assoc}
 use Rattle.std.proofs.Math.Seq.{drop-cons}
 use Rattle.std.proofs.lemmas.List.Folds.{list_all-append, list_any-append}
+use Rattle.std.proofs.lemmas.List.Sums.{AllPass-from_list_all, list_all-from_AllPass}
 use Rattle.addr.specs.Family.{family_eq}
 use Rattle.addr.specs.Address.{Address, is_between}
 use Rattle.addr.specs.declared.family.Family.{Family}
-use Rattle.addr.specs.declared.family.Family.TheVariants.{V4, V6}
+use Rattle.addr.proofs.Equality.{family_tells}
 use Rattle.addr.specs.Spans.{span_has, spans_have, is_apart_below, AreMaximal}
 use Rattle.addr.specs.steps.Parts.{IsWithin, AreParts, part_has, is_after}
-use Rattle.addr.proofs.SpanLemmas.{is_gap, all_below, all_above, AllApart, maximal_append, all_above_trans, apart_trans, apart_to_part, apart_from_part}
+use Rattle.addr.proofs.SpanLemmas.{is_gap, all_below, all_above, AllApart, maximal_append, all_weaker, apart_trans, apart_to_part, apart_from_part}
 use Rattle.addr.specs.declared.span.Span.{Span}
 
 -- the runs kept, then the pending one, then those still to come; together what was had and what is added
@@ -33,18 +35,13 @@ have_more xs s a = list_any-append (λ t. span_has t a) xs (s ∷ []) ∙ ap (λ
 
 -- each is apart below the next one and all that follow
 pub apart_head : (kept : List Span) (s : Span) (rest : List Span) → AllApart kept (s ∷ rest) → (all_below kept s ≡ true) × AllApart kept rest
-apart_head [] s rest apart = (refl, refl)
-apart_head (k ∷ kept) s rest apart =
-    let both = and_parts (all_above k (s ∷ rest)) (list_all (λ x. all_above x (s ∷ rest)) kept) apart in
-    let first = and_parts (is_apart_below k s) (all_above k rest) both.0 in
-    let others = apart_head kept s rest both.1 in
-    (and_from _ _ first.0 others.0, and_from _ _ first.1 others.1)
+apart_head kept s rest apart = (
+  all_weaker (λ k. all_above k (s ∷ rest)) (λ k. is_apart_below k s) kept (λ k b. (and_parts (is_apart_below k s) (all_above k rest) b).0) apart,
+  all_weaker (λ k. all_above k (s ∷ rest)) (λ k. all_above k rest) kept (λ k b. (and_parts (is_apart_below k s) (all_above k rest) b).1) apart,
+)
 
 pub below_apart : (kept : List Span) (s : Span) → all_below kept s ≡ true → AllApart kept (s ∷ [])
-below_apart [] s below = refl
-below_apart (k ∷ kept) s below =
-    let both = and_parts (is_apart_below k s) (all_below kept s) below in
-    and_from _ _ (and_from _ _ both.0 refl) (below_apart kept s both.1)
+below_apart kept s below = all_weaker (λ k. is_apart_below k s) (λ k. all_above k (s ∷ [])) kept (λ k b. and_from _ _ b refl) below
 
 pub maximal_more : (kept : List Span) (s : Span) → AreMaximal kept → all_below kept s ≡ true → AreMaximal (kept ++ s ∷ [])
 maximal_more kept s maximal below = maximal_append kept (s ∷ []) maximal (refl, tt) (below_apart kept s below)
@@ -64,15 +61,10 @@ last_below xs last s maximal = go (is_apart_below last s) refl
     go false is = list_all-append (λ t. is_apart_below t s) xs (last ∷ []) ∙ (λ i. all_below xs s && (is i && true)) ∙ and-false (all_below xs s)
 
 swap_last : (w x y z n : Bool) → (x || y) ≡ (z || n) → ((x || w) || y) ≡ ((z || w) || n)
-swap_last true x y z n e = rw (or-true x, or-true z) refl
-swap_last false x y z n e = rw (or-false x, or-false z) e
+swap_last w x y z n e = grind arith
 
 add_last : (w x y z n : Bool) → (x || y) ≡ (z || n) → ((x || y) || w) ≡ ((z || w) || n)
-add_last w x y z n e = ap (λ b. b || w) e ∙ turned z n w
-  where
-    turned : (z n w : Bool) → ((z || n) || w) ≡ ((z || w) || n)
-    turned z true w = rw (or-true z, or-true (z || w)) refl
-    turned z false w = rw (or-false z, or-false (z || w)) refl
+add_last w x y z n e = grind arith
 
 join_last : (w x y z n j : Bool) → j ≡ (y || w) → (x || y) ≡ (z || n) → (x || j) ≡ ((z || w) || n)
 join_last w x y z n j is e = ap (λ b. x || b) is ∙ sym (or_assoc x y w) ∙ add_last w x y z n e
@@ -94,7 +86,7 @@ add_above done s rest added kept pending gap now =
     record {
       maximal = maximal_more kept pending now.maximal now.before;
       before = all_true (λ k. is_apart_below k s) kept head.0 pending gap;
-      apart = all_true (λ k. all_above k rest) kept head.1 pending (all_above_trans pending s rest gap now.left.0);
+      apart = all_true (λ k. all_above k rest) kept head.1 pending (all_weaker (is_apart_below s) (is_apart_below pending) rest (λ y. apart_trans pending s y gap) now.left.0);
       left = now.left.1;
       same = λ a. rw (have_more kept pending a, have_more done s a) (add_last (span_has s a) (spans_have kept a) (span_has pending a) (spans_have done a) (span_has added a) (now.same a));
     }
@@ -124,66 +116,35 @@ pub record Cutting (done rest : List Span) (gone : Span) (kept : List Span) : Ty
   pub left : AreMaximal rest
   pub same : (a : Address) → spans_have kept a ≡ (spans_have done a && not (span_has gone a))
 
-each_above : (kept parts : List Span) (s : Span) → ((t : Span) → is_apart_below t s ≡ true → all_above t parts ≡ true) → all_below kept s ≡ true → AllApart kept parts
-each_above [] parts s above below = refl
-each_above (k ∷ kept) parts s above below =
-    let both = and_parts (is_apart_below k s) (all_below kept s) below in
-    and_from _ _ (above k both.0) (each_above kept parts s above both.1)
-
 each_below : (parts : List Span) (s : Span) (rest : List Span) → ((t : Span) → is_apart_below s t ≡ true → all_below parts t ≡ true) → all_above s rest ≡ true → AllApart parts rest
-each_below parts s [] below above = all_nil parts
-  where
-    all_nil : (xs : List Span) → AllApart xs []
-    all_nil [] = refl
-    all_nil (x ∷ xs) = all_nil xs
-each_below parts s (t ∷ rest) below above =
-    let both = and_parts (is_apart_below s t) (all_above s rest) above in
-    both_apart parts t rest (below t both.0) (each_below parts s rest below both.1)
-  where
-    both_apart : (xs : List Span) (t : Span) (rest : List Span) → all_below xs t ≡ true → AllApart xs rest → AllApart xs (t ∷ rest)
-    both_apart [] t rest one others = refl
-    both_apart (x ∷ xs) t rest one others =
-        let first = and_parts (is_apart_below x t) (all_below xs t) one in
-        let second = and_parts (all_above x rest) (list_all (λ y. all_above y rest) xs) others in
-        and_from _ _ (and_from _ _ first.0 second.0) (both_apart xs t rest first.1 second.1)
+each_below parts s rest below above =
+    list_all-from_AllPass (λ p. all_above p rest) parts (λ k d within.
+    list_all-from_AllPass (is_apart_below (get_or parts k d)) rest (λ j e inside.
+    let t = get_or rest j e in
+    AllPass-from_list_all (λ p. is_apart_below p t) parts (below t (AllPass-from_list_all (is_apart_below s) rest above j e inside)) k d within))
 
 pub cut_more : (done : List Span) (s : Span) (rest : List Span) (gone : Span) (kept parts : List Span) → AreParts s gone parts → Cutting done (s ∷ rest) gone kept → Cutting (done ++ s ∷ []) rest gone (kept ++ parts)
 cut_more done s rest gone kept parts are now =
     let head = apart_head kept s rest now.apart in
     record {
-      maximal = maximal_append kept parts now.maximal are.maximal (each_above kept parts s are.above head.0);
+      maximal = maximal_append kept parts now.maximal are.maximal (all_weaker (λ k. is_apart_below k s) (λ k. all_above k parts) kept are.above head.0);
       apart = rw (list_all-append (λ k. all_above k rest) kept parts) (and_from _ _ head.1 (each_below parts s rest are.below now.left.0));
       left = now.left.1;
-      same = λ a. rw (list_any-append (λ t. span_has t a) kept parts, have_more done s a, now.same a, are.same a) (spread (spans_have done a) (span_has s a) (not (span_has gone a)));
+      same = λ a. rw (list_any-append (λ t. span_has t a) kept parts, have_more done s a, now.same a, are.same a) (sym (and-or_distrib_right (spans_have done a) (span_has s a) (not (span_has gone a))));
     }
-  where
-    spread : (x y z : Bool) → ((x && z) || (y && z)) ≡ ((x || y) && z)
-    spread true true true = refl
-    spread true true false = refl
-    spread true false true = refl
-    spread true false false = refl
-    spread false y z = refl
 
 -- what lies after a run does not lie in it
 after_not_in : (f g : Family) (low high n : ℕ) → family_eq g f && nat_lt high n ≡ true → is_between f low high (record { family = g; number = n }) ≡ false
-after_not_in V4 V4 low high n past = grind (arith, nat_tests)
-after_not_in V6 V6 low high n past = grind (arith, nat_tests)
-after_not_in V4 V6 low high n past = absurd (false≢true past)
-after_not_in V6 V4 low high n past = absurd (false≢true past)
+after_not_in f g low high n past = grind (arith, nat_tests)
 
 joined : (whole other : Span) (a : Address) (x y : Bool) → x ≡ (span_has whole a && (not (span_has other a) && not (is_after a other))) → y ≡ (span_has whole a && is_after a other) → (x || y) ≡ (span_has whole a && not (span_has other a))
 joined whole other a x y first second = rw (first, second) (apart (span_has whole a) (span_has other a) (is_after a other) (after_not_in other.family a.family other.lo other.hi a.number))
   where
     apart : (w o p : Bool) → (p ≡ true → o ≡ false) → ((w && (not o && not p)) || (w && p)) ≡ (w && not o)
-    apart false o p none = refl
-    apart true true true none = absurd (true≢false (none refl))
-    apart true true false none = refl
-    apart true false true none = refl
-    apart true false false none = refl
+    apart w o p none = grind arith
 
 gap_same : (f : Family) (high low : ℕ) → high + 1 < low → is_gap f high f low ≡ true
-gap_same V4 high low lt = grind (arith, nat_tests)
-gap_same V6 high low lt = grind (arith, nat_tests)
+gap_same f high low lt = grind (arith, nat_tests, family_tells)
 
 apart_ends : (end low high start : ℕ) → end < low → low ≤ high → high < start → end + 1 < start
 apart_ends end low high start a b c = omega arith

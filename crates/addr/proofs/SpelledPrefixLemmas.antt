@@ -1,9 +1,8 @@
 -- `spelled_prefix` is the inverse of the spelling: the prefix that a text spells, where it spells one.
-use Rattle.std.proofs.Common.{◌≡◌, ℕ, ◌+◌, ◌-◌, ◌^◌, ◌%◌, ◌≤◌, ◌↔◌, List, Option, Some, None, Result, Ok, Err, refl, sym, ◌∙◌, subst}
+use Rattle.std.proofs.Common.{◌≡◌, ℕ, ◌+◌, ◌-◌, ◌^◌, ◌%◌, ◌≤◌, List, Option, Some, None, Result, Ok, Err, refl, sym, ◌∙◌, subst}
 use Rattle.std.proofs.Math.Bridge.{le_prop}
 use Rattle.std.proofs.Math.Nat.{ℕ_set}
 use Rattle.std.proofs.lemmas.Option.{none-some, same_Some}
-use Rattle.std.specs.Prelude.{IfErr}
 use Rattle.std.specs.Result.{MatchResult, result_ok}
 use Rattle.addr.specs.Family.{width}
 use Rattle.addr.specs.PrefixText.{prefix_if, prefix_text_fault, spelled_prefix, Spells}
@@ -41,11 +40,6 @@ pub spelled_prefix-gives : (text : List ℕ) (read : Result Prefix PrefixFault)
     → result_ok read ≡ spelled_prefix text
 spelled_prefix-gives text (Ok p) is = sym (spelled_prefix-Spells p text is.1)
 spelled_prefix-gives text (Err fault) is = sym (spelled_prefix-fault text fault is)
-
--- what `Prefix::read` answers, by its other clauses
-pub spelled_prefix-read : (text : List ℕ) (read : Result Prefix PrefixFault) → IfErr read (λ fault. prefix_text_fault text ≡ Some fault) → ((p : Prefix) → (read ≡ Ok p) ↔ Spells p text) → result_ok read ≡ spelled_prefix text
-spelled_prefix-read text (Ok p) fault each = sym (spelled_prefix-Spells p text ((each p).0 refl))
-spelled_prefix-read text (Err n) fault each = sym (spelled_prefix-fault text n fault)
 
 fault-unless_spelled : (text : List ℕ) (fault : Option PrefixFault) → prefix_text_fault text ≡ fault → (p : Prefix) → spelled_prefix text ≡ Some p → Spells p text
 fault-unless_spelled text None none p reported =

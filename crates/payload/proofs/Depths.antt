@@ -87,11 +87,7 @@ node-matches route p os k lengths inside longer =
     ∙ ap (λ b. b && authorizes route (originator_of v)) (subst (λ q. contains q route.prefix ≡ true) (sym at) inside))
 
 node-agrees : (p q : Prefix) (os : List Originator) (k : ℕ) → All (HasLengths p) os → p.length < k → list_any (λ v. agrees k v.prefix q) (node_vrps p os) ≡ false
-node-agrees p q os k lengths longer = any-node (λ v. agrees k v.prefix q) (λ o. false) p os lengths (λ v at. not-agrees-short v.prefix q k (subst (λ r. r.length < k) (sym at) longer)) ∙ none os
-  where
-    none : (os : List Originator) → list_any (λ (o : Originator). false) os ≡ false
-    none [] = refl
-    none (o ∷ os) = none os
+node-agrees p q os k lengths longer = any-node (λ v. agrees k v.prefix q) (λ o. false) p os lengths (λ v at. not-agrees-short v.prefix q k (subst (λ r. r.length < k) (sym at) longer)) ∙ list_any_none (λ (o : Originator). false) os (λ k d within. refl)
 
 unless : (a b c : Bool) → (a && not (b || c)) ≡ (if b then false else a && not c)
 unless a true c = and-false a

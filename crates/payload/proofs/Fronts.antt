@@ -121,14 +121,11 @@ upto-before p vrps i v rising within read upto k d low high =
     let here : v ≡ get_or vrps i d = get_or_read vrps i v within read d in
     rising-partitioned p vrps rising k i d (omega arith) within (subst (λ w. is_at_most w.prefix p ≡ true) here upto)
 
-range-read : (vrps : List Vrp) (start end k : ℕ) (d : Vrp) → start + k < end → get_or (slice_range vrps start end) k d ≡ get_or vrps (start + k) d
-range-read vrps start end k d within = get_or-between vrps start end k d within
-
 pub range-partitioned : (p : Prefix) (vrps : List Vrp) (start end : ℕ) → end ≤ length vrps → AreRising vrps → IsPartitionedBy (λ v. is_at_most v.prefix p) (slice_range vrps start end)
 range-partitioned p vrps start end fits rising i j d le within last =
     let long = length-between vrps start end fits in
-    let first : get_or (slice_range vrps start end) i d ≡ get_or vrps (start + i) d = range-read vrps start end i d (omega arith) in
-    let second : get_or (slice_range vrps start end) j d ≡ get_or vrps (start + j) d = range-read vrps start end j d (omega arith) in
+    let first : get_or (slice_range vrps start end) i d ≡ get_or vrps (start + i) d = get_or-between vrps start end i d (omega arith) in
+    let second : get_or (slice_range vrps start end) j d ≡ get_or vrps (start + j) d = get_or-between vrps start end j d (omega arith) in
     subst (λ v. is_at_most v.prefix p ≡ true) (sym first)
     (rising-partitioned p vrps rising (start + i) (start + j) d (omega arith) (omega arith) (subst (λ v. is_at_most v.prefix p ≡ true) second last))
 
@@ -141,13 +138,13 @@ front-in_range p vrps start end more fits order before after within parted =
         | inl early ↦ before k d low early
         | inr late ↦
             let same : start + (k - start) ≡ k = omega arith in
-            let read : get_or (slice_range vrps start end) (k - start) d ≡ get_or vrps k d = range-read vrps start end (k - start) d (omega arith) ∙ ap (λ n. get_or vrps n d) same in
+            let read : get_or (slice_range vrps start end) (k - start) d ≡ get_or vrps k d = get_or-between vrps start end (k - start) d (omega arith) ∙ ap (λ n. get_or vrps n d) same in
             subst (λ v. is_at_most v.prefix p ≡ true) read (parted.0 (k - start) d (omega arith) (omega arith))
       ]),
       (λ k d low high. elim (cases_lt k end) [
         | inl early ↦
             let same : start + (k - start) ≡ k = omega arith in
-            let read : get_or (slice_range vrps start end) (k - start) d ≡ get_or vrps k d = range-read vrps start end (k - start) d (omega arith) ∙ ap (λ n. get_or vrps n d) same in
+            let read : get_or (slice_range vrps start end) (k - start) d ≡ get_or vrps k d = get_or-between vrps start end (k - start) d (omega arith) ∙ ap (λ n. get_or vrps n d) same in
             subst (λ v. is_at_most v.prefix p ≡ false) read (parted.1 (k - start) d (omega arith) (omega arith))
         | inr late ↦ after k d late high
       ]),

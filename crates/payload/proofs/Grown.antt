@@ -6,24 +6,10 @@ use Rattle.std.proofs.lemmas.List.Elements.{All-cons, All-nil}
 use Rattle.std.proofs.lemmas.Bool.{cases_lt}
 use mathlib.Core.Bool.{beq}
 use Rattle.payload.specs.declared.originator.Originator.{Originator}
-use Rattle.payload.specs.steps.Skipped.{common, low_bits}
+use Rattle.payload.specs.steps.Skipped.{common}
 use Rattle.payload.specs.steps.Tree.{Tree, Leaf, Fork, Top, tree, above, chain, grown, AreOriginators, IsInserted, IsRemoved, IsPruned, has, has_on_path, is_bare, is_place, nodes_on_path, same_tops}
 use Rattle.payload.proofs.Trees.{and-none, bare-none, changed-grown, changed-one, changed-zero, full-inserted, has-leaf, removed-leaf}
 use Rattle.payload.proofs.TrieWalks.{on-path-leaf}
-
--- the three lowest bits of 13, which are those of 5
-bits-of_number : low_bits 3 13 ≡ true ∷ false ∷ true ∷ []
-bits-of_number = refl
-
--- two bits up to where the paths differ, or one of them ends
-common-bits : common (true ∷ false ∷ false ∷ []) (true ∷ false ∷ true ∷ []) ≡ 2
-common-bits = refl
-
-common-end : common (true ∷ false ∷ false ∷ []) (true ∷ false ∷ []) ≡ 2
-common-end = refl
-
-grown-two : (t : Top) → tree (grown (false ∷ true ∷ []) t) ≡ Fork [] (Fork [] Leaf (tree t)) Leaf
-grown-two t = refl
 
 -- ---- common bits
 

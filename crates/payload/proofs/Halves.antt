@@ -5,10 +5,10 @@ use Rattle.std.proofs.lemmas.List.{append-nil}
 use Rattle.std.proofs.lemmas.Nat.{pow_pos, pow-add, pow_below, div-add-mod', div-mul-add}
 use Rattle.std.proofs.Math.Nat.{mul-add, add-mul, add-mul-mod_self_right, mod-eq_of_lt}
 use Rattle.addr.specs.Family.{width}
-use Rattle.addr.specs.Address.{bit_of, contains, last_of, same_prefix}
+use Rattle.addr.specs.Address.{bit_of, contains, same_prefix}
 use Rattle.addr.specs.declared.prefix.Prefix.{Prefix}
 use Rattle.addr.proofs.AddressLemmas.{below_widest, multiple-at_most}
-use Rattle.addr.proofs.PrefixOrderLemmas.{block-within, contains-ends, ends-contains}
+use Rattle.addr.proofs.PrefixOrderLemmas.{block-within, contains-ends, ends-contains, first-size}
 use Rattle.payload.specs.steps.Skipped.{number_of}
 use Rattle.payload.specs.steps.Tree.{Top, Tree, above, grown, tree}
 use Rattle.payload.specs.steps.Trie.{half_first, half_vrps, vrps_at, vrps_below}
@@ -73,14 +73,11 @@ half-multiple bit p a is room =
     begins false = omega arith
     begins true = omega arith
 
-first-last : (p : Prefix) → p.first + 2 ^ (width p.family - p.length) ≡ suc (last_of p)
-first-last p = omega (arith, pow_pos (width p.family - p.length))
-
 -- the first address of a prefix in p lies in p
 pub within-first : (p q : Prefix) → contains p q ≡ true → q.first < p.first + 2 ^ (width p.family - p.length)
 within-first p q inside =
     let ends = contains-ends p q inside in
-    omega (arith, ends.last, first-last p, first-last q, pow_pos (width q.family - q.length))
+    omega (arith, ends.last, first-size p, first-size q, pow_pos (width q.family - q.length))
 
 -- the bit of what lies in a half
 pub half-bit : (bit : Bool) (p q : Prefix) (room : p.length < width p.family) → contains (half bit p room) q ≡ true → (bit_of q p.length == 1) ≡ bit
@@ -96,8 +93,8 @@ half-bit bit p q room inside =
 
 -- a half lies in p
 pub contains-half : (bit : Bool) (p : Prefix) (room : p.length < width p.family) → contains p (half bit p room) ≡ true
-contains-half false p room = ends-contains p (half false p room) refl (omega arith) (omega (arith, first-last p, first-last (half false p room), doubled (width p.family) p.length room))
-contains-half true p room = ends-contains p (half true p room) refl (omega arith) (omega (arith, first-last p, first-last (half true p room), doubled (width p.family) p.length room))
+contains-half false p room = ends-contains p (half false p room) refl (omega arith) (omega (arith, first-size p, first-size (half false p room), doubled (width p.family) p.length room))
+contains-half true p room = ends-contains p (half true p room) refl (omega arith) (omega (arith, first-size p, first-size (half true p room), doubled (width p.family) p.length room))
 
 -- a longer prefix in p lies in the half to which its next bit leads
 pub half-contains : (bit : Bool) (p q : Prefix) (room : p.length < width p.family) → contains p q ≡ true → p.length < q.length → (bit_of q p.length == 1) ≡ bit → contains (half bit p room) q ≡ true
@@ -107,8 +104,8 @@ half-contains bit p q room inside longer is =
     elim (cases_lt q.first (p.first + half_size p)) [
       | inl low ↦
           let within = block-within p.first q.first q.first (width p.family - (p.length + 1)) (width q.family - q.length) (half false p room).aligned q.aligned ends.first (omega arith) low (λ same. omega (arith, widths, longer)) in
-          there false (ends-contains (half false p room) q ends.family ends.first (omega (arith, within, first-last (half false p room), first-last q)))
-      | inr high ↦ there true (ends-contains (half true p room) q ends.family high (omega (arith, ends.last, first-last p, first-last (half true p room), first-last q, doubled (width p.family) p.length room)))
+          there false (ends-contains (half false p room) q ends.family ends.first (omega (arith, within, first-size (half false p room), first-size q)))
+      | inr high ↦ there true (ends-contains (half true p room) q ends.family high (omega (arith, ends.last, first-size p, first-size (half true p room), first-size q, doubled (width p.family) p.length room)))
     ]
   where
     there : (side : Bool) → contains (half side p room) q ≡ true → contains (half bit p room) q ≡ true
@@ -128,7 +125,7 @@ contains-longer p q inside =
     elim (cases_lt q.length p.length) [
       | inl shorter ↦
           let more : 2 ^ (width p.family - p.length) < 2 ^ (width q.family - q.length) = pow_below _ _ (omega (arith, p.length_fits, widths)) in
-          absurd (omega (arith, ends.first, ends.last, first-last p, first-last q))
+          absurd (omega (arith, ends.first, ends.last, first-size p, first-size q))
       | inr longer ↦ longer
     ]
 
@@ -139,7 +136,7 @@ contains-same p q inside short =
     let longer = contains-longer p q inside in
     let lengths : p.length ≡ q.length = omega arith in
     let sizes : 2 ^ (width p.family - p.length) ≡ 2 ^ (width q.family - q.length) = ap (λ e. 2 ^ e) (omega (arith, ap width ends.family)) in
-    same_prefix p q ends.family (omega (arith, ends.first, ends.last, first-last p, first-last q)) lengths
+    same_prefix p q ends.family (omega (arith, ends.first, ends.last, first-size p, first-size q)) lengths
 
 -- ---- the prefix to which a path of bits leads
 

@@ -35,9 +35,6 @@ marks (Some u) = refl
 same_set : (s t : set.VrpSet) → ((v : Vrp) → set.contains s v ≡ set.contains t v) → s ≡ t
 same_set s t each = maps.same_map vrp_order.total vrp_order.exact s t (λ v. marks _ ∙ ap marked (each v) ∙ sym (marks _))
 
-contains-empty : (v : Vrp) → set.contains set.empty v ≡ false
-contains-empty v = ap is_some (maps.get-empty vrp_cmp v)
-
 pub contains-insert : (s : set.VrpSet) (v w : Vrp) → set.contains (set.insert s v) w ≡ (is_vrp w v || set.contains s w)
 contains-insert s v w = ap is_some (maps.get-insert vrp_order.total s v tt w) ∙ some-or (is_vrp w v) _
 
@@ -45,7 +42,7 @@ pub contains-remove : (s : set.VrpSet) (v w : Vrp) → set.contains (set.remove 
 contains-remove s v w = ap is_some (maps.get-remove vrp_order.total s v w) ∙ none-and (is_vrp w v) _
 
 pub contains-from_list : (vrps : List Vrp) (v : Vrp) → set.contains (set.from_list vrps) v ≡ list_any (is_vrp v) vrps
-contains-from_list [] v = contains-empty v
+contains-from_list [] v = ap is_some (maps.get-empty vrp_cmp v)
 contains-from_list (w ∷ vrps) v = contains-insert (set.from_list vrps) w v ∙ ap (λ b. is_vrp v w || b) (contains-from_list vrps v)
 
 -- lists that contain the same VRPs make one set

@@ -5,6 +5,7 @@ use Rattle.std.specs.Ordering.{is_eq, nat_cmp, ordering_then}
 use Rattle.std.specs.declared.cmp.Ordering.TheVariants.{Equal}
 use Rattle.std.proofs.lemmas.Bool.{cases_Bool, cases_lt, and_parts, false_from_ne_true}
 use Rattle.std.proofs.lemmas.Cmp.{tied_itself}
+use Rattle.std.proofs.lemmas.List.Folds.{list_any_none}
 use Rattle.addr.specs.Address.{bit_of, contains}
 use Rattle.addr.specs.Family.{width}
 use Rattle.addr.specs.Order.{prefix_cmp}
@@ -63,11 +64,8 @@ around-itself v w is = subst (λ u. contains u.prefix v.prefix ≡ true) (same_v
 -- no VRP of a node above that of v's prefix is v
 none-above : (v : Vrp) (p : Prefix) (os : List Originator) (zero one : Tree) → IsPruned (width p.family) p.length (Fork os zero one) → p.length < v.prefix.length → list_any (is_vrp v) (node_vrps p os) ≡ false
 none-above v p os zero one pruned longer =
-    any-node (is_vrp v) (λ o. false) p os pruned.0.lengths (λ w same. other-length v w (subst (λ q. q.length < v.prefix.length) (sym same) longer)) ∙ none os
-  where
-    none : (os : List Originator) → list_any (λ (o : Originator). false) os ≡ false
-    none [] = refl
-    none (o ∷ os) = none os
+    any-node (is_vrp v) (λ o. false) p os pruned.0.lengths (λ w same. other-length v w (subst (λ q. q.length < v.prefix.length) (sym same) longer))
+    ∙ list_any_none (λ (o : Originator). false) os (λ k d within. refl)
 
 -- a tree has a VRP of its prefix at the end of the bits of the VRP's prefix
 pub any-is_vrp : (v : Vrp) (p : Prefix) (t : Tree) → IsPruned (width p.family) p.length t → contains p v.prefix ≡ true → list_any (is_vrp v) (vrps_at p t) ≡ has (bits_from v.prefix p.length) (originator_of v) t

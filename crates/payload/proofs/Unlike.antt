@@ -1,10 +1,10 @@
 -- VRPs that are between two of one prefix, and do not match a route.
-use Rattle.std.proofs.Common.{◌≡◌, ℕ, ◌+◌, ◌≤◌, ◌<◌, Bool, true, false, ◌&&◌, nat_le, List, take, drop, length, get_or, refl, sym, ap, subst, arith, inl, inr, ◌⊎◌, Ordering}
+use Rattle.std.proofs.Common.{◌≡◌, ℕ, ◌+◌, ◌≤◌, ◌<◌, Bool, true, false, ◌&&◌, nat_le, List, take, drop, length, get_or, sym, ap, subst, arith, inl, inr, ◌⊎◌, Ordering}
 use Rattle.std.specs.List.{All}
 use Rattle.std.specs.List.Sorted.{IsPartitionPoint, IsPartitionedBy}
 use Rattle.std.specs.Ordering.{nat_cmp, ordering_then, is_lt}
 use Rattle.std.specs.declared.cmp.Ordering.TheVariants.{Less, Equal, Greater}
-use Rattle.std.proofs.lemmas.Bool.{cases_lt, cases_order}
+use Rattle.std.proofs.lemmas.Bool.{cases_lt}
 use Rattle.std.proofs.lemmas.Bool.Decides.{nat_tests}
 use Rattle.std.proofs.Math.Bool.{and-false}
 use Rattle.std.proofs.lemmas.List.{take-append-drop, get_or-drop, length-drop}
@@ -16,33 +16,12 @@ use Rattle.addr.specs.declared.route.Route.{Route}
 use Rattle.addr.specs.declared.vrp.Vrp.{Vrp}
 use Rattle.payload.specs.Rising.{AreRising}
 use Rattle.payload.specs.steps.Search.{is_below, HasAllMatching}
-use Rattle.addr.proofs.PrefixOrderLemmas.{cmp-less, cmp-equal, cmp-greater}
 
 less-numbers : (a b l m : ℕ) → ordering_then (nat_cmp a b) (nat_cmp l m) ≡ Less → (a < b) ⊎ ((a ≡ b) × (l < m))
-less-numbers a b l m h =
-    elim (cases_order a b) [
-      | inl same ↦ elim (cases_lt l m) [
-        | inl less ↦ inr (same, less)
-        | inr most ↦ elim (cases_order l m) [
-          | inl tie ↦ let no : ordering_then (nat_cmp a b) (nat_cmp l m) ≡ Equal = rw (cmp-equal a b same, cmp-equal l m tie) in cc
-          | inr (inl less) ↦ absurd (omega arith)
-          | inr (inr more) ↦ let no : ordering_then (nat_cmp a b) (nat_cmp l m) ≡ Greater = rw (cmp-equal a b same, cmp-greater l m more) in cc
-        ]
-      ]
-      | inr (inl less) ↦ inl less
-      | inr (inr more) ↦ let no : ordering_then (nat_cmp a b) (nat_cmp l m) ≡ Greater = rw (cmp-greater a b more) in cc
-    ]
+less-numbers a b l m h = grind (arith, nat_tests)
 
 not_less-numbers : (a b l m : ℕ) → is_lt (ordering_then (nat_cmp a b) (nat_cmp l m)) ≡ false → (b < a) ⊎ ((a ≡ b) × (m ≤ l))
-not_less-numbers a b l m h =
-    elim (cases_order a b) [
-      | inl same ↦ elim (cases_lt l m) [
-        | inl less ↦ let no : is_lt (ordering_then (nat_cmp a b) (nat_cmp l m)) ≡ true = rw (cmp-equal a b same, cmp-less l m less) in cc
-        | inr most ↦ inr (same, most)
-      ]
-      | inr (inl less) ↦ let no : is_lt (ordering_then (nat_cmp a b) (nat_cmp l m)) ≡ true = rw (cmp-less a b less) in cc
-      | inr (inr more) ↦ inl more
-    ]
+not_less-numbers a b l m h = grind (arith, nat_tests)
 
 -- what sorts between two that tie in the first order is settled by the second
 tied : (o r s : Ordering) → ordering_then o r ≡ Less → is_lt (ordering_then o s) ≡ false → (r ≡ Less) × (is_lt s ≡ false)
@@ -51,8 +30,7 @@ tied Equal r s less from = (less, from)
 tied Greater r s less from = cc
 
 unmatched : (a b c : Bool) → b && c ≡ false → a && (b && c) ≡ false
-unmatched true b c h = h
-unmatched false b c h = refl
+unmatched a b c h = grind arith
 
 -- From this maxLength and AS of its prefix on, and before w, no VRP matches: its prefix is that of w, and its maxLength
 -- is too small or that of w.
