@@ -1,5 +1,6 @@
 pub mod SameCharter
 mod Rowids
+mod Collecting
 mod AllTexts
 mod Grouped
 pub mod SomeAuths

@@ -27,7 +27,7 @@ use Rattle.database.specs.steps.Numbered.{last_value, is_integer_below, Rise, co
 
 -- ---- from each row and the next to all rows
 
-below_apart : (a b : Value) → is_integer_below a b ≡ true → is_eq (value_cmp a b) ≡ false
+pub below_apart : (a b : Value) → is_integer_below a b ≡ true → is_eq (value_cmp a b) ≡ false
 below_apart (Int m) (Int n) is = ap is_eq (value_cmp-Int m n) ∙ go (int_cmp m n) is
   where
     go : (o : Ordering) → is_lt o ≡ true → is_eq o ≡ false

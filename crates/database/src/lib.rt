@@ -1,6 +1,7 @@
 //! Databases that have the tables of a desk: making one, and opening one.
 #![tactic(auto)]
 
+mod collect;
 mod found;
 pub mod laws;
 mod opening;

@@ -20,9 +20,10 @@ ghost use Rattle.transactions.specs.Statements.{state_in, IsReady, WhenClean};
 ghost use Rattle.database.specs.TablesRead.{HoldSomeRows, ShowsSome, TablesRead};
 ghost use Rattle.database.specs.steps.Numbered.{AreRead, Rise, SelectsAll, shown_in};
 ghost use Rattle.transactions.specs.steps.Statements.{AnswersSelect};
-ghost use Rattle.database.specs.steps.Opened.{HasNumber, ShowsNumber, number_row, MakeAuths, ShowAuths, ShowExceptions, ShowHolders, ShowsCharter, claim_places, entry_places};
-ghost use Rattle.transactions.specs.Queries.{IsAskedOnce, IsClean, IsReadyToAsk, IsAskedInside, ObeysSchema};
+ghost use Rattle.database.specs.steps.Opened.{HasNumber, ShowsNumber, number_row, MakeAuths, ShowAuths, ShowExceptions, ShowHolders, ShowsCharter, ShowsOthers, claim_places, entry_places};
+ghost use Rattle.transactions.specs.Queries.{IsAsked, IsAskedOnce, IsClean, IsReadyToAsk, IsAskedInside, ObeysSchema};
 
+use crate::collect::Collected;
 use crate::rise::rise;
 use addr::{Name, Prefix, Span};
 use moving::shows_old_schema;
@@ -36,7 +37,7 @@ use tables::{
     SELECT_ALL_HOLDERS, SELECT_ALL_OPERATORS, SELECT_ALL_PREFIXES, SELECT_ALL_SPANS, SELECT_SCHEMA,
     first_entries, shows_schema,
 };
-use transactions::{StoreFault, ask_inside, group_files, read_all};
+use transactions::{StoreFault, ask_inside, group_files, read_all, take_each};
 
 /// A value that each row of one table shows.
 trait InTable: FromRow {
@@ -117,6 +118,52 @@ fn read_in_order<T: InOrder, S: Alter>(
         (shown_in T.tree T.places (state_in S.Store tx.old).now) }
 {
     let mut values: Vec<T> = read_table(tx, alloc)?;
+    values.sort_unstable_by(|one, other| one.order(other));
+    Ok(values)
+}
+
+/// The values of all rows of a table, outside a transaction. It holds one row at a time.
+fn collect_table<T: InTable, S: Alter>(
+    conn: &mut Connection<S>,
+    alloc: Global,
+) -> Result<Vec<T>, StoreFault>
+    requires { IsReadyToAsk S.Store conn.old }
+    ensures asked { IsAsked S.Store conn.old conn.new result }
+    ensures tree { IsClean S.Store conn.new
+        → OnOk result (IsTree ((state S.Store conn.old).now.trees T.tree)) }
+    ensures read { IsClean S.Store conn.new → IfOk result (λ values.
+        AreRead T.cells T.fits (shown_in T.tree T.places (state S.Store conn.old).now)
+        values.items) }
+    ensures schema { IsClean S.Store conn.new → result ≡ Err StoreFault.Schema
+        → ¬ AllByRecursion (ShowsSome T.cells T.fits)
+        (shown_in T.tree T.places (state S.Store conn.old).now) }
+{
+    let collected: Collected<T> = take_each(conn, T::select_all(), Collected::none(alloc))?;
+    let Some(values) = collected.into_values() else {
+        return Err(StoreFault::Schema);
+    };
+    Ok(values)
+}
+
+/// The same in their order.
+fn collect_in_order<T: InOrder, S: Alter>(
+    conn: &mut Connection<S>,
+    alloc: Global,
+) -> Result<Vec<T>, StoreFault>
+    requires { IsReadyToAsk S.Store conn.old }
+    ensures asked { IsAsked S.Store conn.old conn.new result }
+    ensures tree { IsClean S.Store conn.new
+        → OnOk result (IsTree ((state S.Store conn.old).now.trees T.tree)) }
+    ensures read { IsClean S.Store conn.new → IfOk result (λ values.
+        AreRead T.cells T.fits (shown_in T.tree T.places (state S.Store conn.old).now)
+        values.items) }
+    ensures sorted { IsClean S.Store conn.new
+        → IfOk result (λ values. IsSorted T.order values.items) }
+    ensures schema { IsClean S.Store conn.new → result ≡ Err StoreFault.Schema
+        → ¬ AllByRecursion (ShowsSome T.cells T.fits)
+        (shown_in T.tree T.places (state S.Store conn.old).now) }
+{
+    let mut values: Vec<T> = collect_table(conn, alloc)?;
     values.sort_unstable_by(|one, other| one.order(other));
     Ok(values)
 }
@@ -413,7 +460,68 @@ pub(crate) fn read_inside<S: Alter>(
     Ok(charter)
 }
 
-/// Like `read_inside`, in a transaction of its own, which is rolled back.
+/// Reads all rows but those of claims and of entries, and returns the charter that they have.
+fn read_others<S: Alter>(tx: &mut Transaction<'_, S>, alloc: Global) -> Result<Charter, StoreFault>
+    requires { WhenClean S.Store IsReady tx.old }
+    ensures asked { IsAskedInside S.Store tx.old tx.new result }
+    ensures shown { HasCleanDisk (state_in S.Store tx.new) → IfOk result (λ charter.
+        ShowsOthers charter (state_in S.Store tx.old).now) }
+    ensures schema { HasCleanDisk (state_in S.Store tx.new) → result ≡ Err StoreFault.Schema
+        → ¬ TablesRead (state_in S.Store tx.old).now.trees }
+{
+    read_number(tx, false)?;
+    let charter = read_charter(tx, alloc)?;
+    // For the proof: its contract says that the operators and the pool make a charter.
+    let _operators = charter.operators();
+    read_holders(tx, alloc)?;
+    read_unused(tx)?;
+    read_exceptions(tx, alloc)?;
+    Ok(charter)
+}
+
+/// The same in a transaction of its own, which is rolled back.
+fn read_others_once<S: Alter>(
+    conn: &mut Connection<S>,
+    alloc: Global,
+) -> Result<Charter, StoreFault>
+    requires { IsReadyToAsk S.Store conn.old }
+    ensures asked { IsAskedOnce S.Store conn.old conn.new result }
+    ensures shown { IsClean S.Store conn.new → IfOk result (λ charter.
+        ShowsOthers charter (state S.Store conn.old).now) }
+    ensures schema { IsClean S.Store conn.new → result ≡ Err StoreFault.Schema
+        → ¬ TablesRead (state S.Store conn.old).now.trees }
+{
+    // For the proof: its contract says that outside a transaction all that is shown is committed.
+    let _idle = conn.is_autocommit();
+    let mut tx = conn.transaction();
+    let charter = read_others(&mut tx, alloc)?;
+    tx.rollback();
+    // Only a connection that compiled a text is known to be open.
+    conn.prepare(SELECT_SCHEMA)?;
+    Ok(charter)
+}
+
+/// Checks that the rows of claims and of entries read, and that they make authorizations. It holds
+/// one row at a time, and the values of all.
+fn collect_auths<S: Alter>(conn: &mut Connection<S>, alloc: Global) -> Result<(), StoreFault>
+    requires ready { IsReadyToAsk S.Store conn.old }
+    requires unused { IsClean S.Store conn.old
+        → (state S.Store conn.old).now.trees auth.tree ≡ [] }
+    ensures asked { IsAsked S.Store conn.old conn.new result }
+    ensures found { IsClean S.Store conn.new
+        → OnOk result (ShowAuths (state S.Store conn.old).now) }
+    ensures schema { IsClean S.Store conn.new → result ≡ Err StoreFault.Schema
+        → ¬ TablesRead (state S.Store conn.old).now.trees }
+{
+    // For the proof: its contract says that what is shown obeys the schema.
+    let _schema = conn.schema();
+    let claims: Vec<OfHolder<Claim>> = collect_in_order(conn, alloc)?;
+    let entries: Vec<OfHolder<EntryRow>> = collect_in_order(conn, alloc)?;
+    check_auths(alloc, &claims, &entries)
+}
+
+/// Reads all rows of a database that has the tables of a desk, outside a transaction, and returns
+/// the charter that they have.
 pub(crate) fn read_tables<S: Alter>(
     conn: &mut Connection<S>,
     alloc: Global,
@@ -427,14 +535,9 @@ pub(crate) fn read_tables<S: Alter>(
     ensures schema { IsClean S.Store conn.new → result ≡ Err StoreFault.Schema
         → ¬ TablesRead (state S.Store conn.old).now.trees }
 {
-    // For the proof: their contracts say that what is shown obeys the schema, and that outside a
-    // transaction all of it is committed.
+    // For the proof: its contract says that what is shown obeys the schema.
     let _schema = conn.schema();
-    let _idle = conn.is_autocommit();
-    let mut tx = conn.transaction();
-    let charter = read_inside(&mut tx, alloc)?;
-    tx.rollback();
-    // Only a connection that compiled a text is known to be open.
-    conn.prepare(SELECT_SCHEMA)?;
+    let charter = read_others_once(conn, alloc)?;
+    collect_auths(conn, alloc)?;
     Ok(charter)
 }

@@ -9,7 +9,7 @@ use sqlite::Row;
 use sqlite::types::ValueRef;
 
 /// The last value of the row, or NULL if there is none.
-fn last_value(row: &Row) -> ValueRef<'_>
+pub(crate) fn last_value(row: &Row) -> ValueRef<'_>
     ensures { owned result ≡ last_value row.now }
 {
     let last = row.column_count().saturating_sub(1);

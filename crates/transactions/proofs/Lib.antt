@@ -1,6 +1,7 @@
 pub mod StatementLemmas
 pub mod PutLemmas
 pub mod QueryLemmas
+mod Taking
 pub mod Asking
 pub mod Ascending
 pub mod Obeyed

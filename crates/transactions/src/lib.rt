@@ -11,6 +11,6 @@ mod values;
 
 pub use fault::StoreFault;
 pub use files::group_files;
-pub use query::{ask, ask_inside};
+pub use query::{TakeRow, ask, ask_inside, take_each};
 pub use statement::execute;
 pub use values::read_all;

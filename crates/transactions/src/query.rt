@@ -1,14 +1,17 @@
 //! A query of a database that has the tables of a desk.
-ghost use Rattle.std.specs.Prelude.{IfOk};
+ghost use Rattle.std.specs.Prelude.{◌≡◌, ◌≢◌, ◌⊎◌, false, List, [], ◌∷◌, ◌++◌, Err, IfOk, OnErr};
 ghost use Rattle.sqlite.specs.Given.{IsPlain};
 ghost use Rattle.sqlite.specs.Held.{state};
-ghost use Rattle.sqlite.specs.Listing.{understood};
-ghost use Rattle.sqlite.specs.State.{Shown};
+ghost use Rattle.sqlite.specs.Listing.{understood, reads_listing};
+ghost use Rattle.sqlite.specs.State.{IsRolledBack, IsUnchanged, Shown, Survives};
 ghost use Rattle.sqlite.specs.Values.{bound};
+ghost use Rattle.sqlite_value.specs.Order.{Row as Cells};
 ghost use Rattle.tables.specs.Tables.{OverDesk};
 ghost use Rattle.transactions.specs.Statements.{IfAnswered, IsReady, WhenClean};
 ghost use Rattle.transactions.specs.Queries.{IsAsked, IsClean, IsReadyToAsk, IsAskedInside};
+ghost use Rattle.transactions.specs.steps.Statements.{AnswersSelect};
 
+use crate::fault::StoreFault;
 use sqlite::types::ValueRef;
 use sqlite::{Alter, Connection, Error, Row, Transaction};
 
@@ -47,4 +50,68 @@ pub fn ask_inside<S: Alter>(
         Shown sql.now (bound values.now) old new rows.items) tx.old tx.new }
 {
     tx.query_all(sql, values)
+}
+
+/// Takes the rows of an answer, one after the other.
+pub trait TakeRow: Drop {
+    // What a taker may be once it took these rows, in order.
+    ghost took: { Self → List Cells → Self → Type 0 };
+
+    /// Takes one more row. What a row shows is no fault: a taker keeps in mind what it found, and
+    /// takes the rest too, so that in the end it is known of a whole answer.
+    fn take(self, row: &Row) -> Result<Self, StoreFault>
+        ensures took { IfOk result (λ now. (start : Self) (rows : List Cells)
+            → took start rows self → took start (rows ++ row.now ∷ []) now) }
+        ensures no_schema { result ≢ Err StoreFault.Schema };
+}
+
+/// Hands each row that a query answers to the taker. The text commits nothing.
+fn take_rows<S: Alter, T: TakeRow>(
+    conn: &mut Connection<S>,
+    sql: &str,
+    taker: T,
+) -> Result<T, StoreFault>
+    requires plain { IsClean S.Store conn.old → IsPlain (understood conn.old.schema sql.now) }
+    requires begun { T.took taker [] taker }
+    ensures mode { conn.old.in_transaction ≡ false → conn.new.in_transaction ≡ false }
+    ensures taken { IsClean S.Store conn.new → IfOk result (λ now. (rows : List Cells)
+        × Shown sql.now [] (state S.Store conn.old) (state S.Store conn.new) rows
+        × T.took taker rows now) }
+    ensures kept { IsClean S.Store conn.new → OnErr result
+        (IsUnchanged (state S.Store conn.old) (state S.Store conn.new)
+        ⊎ IsRolledBack (state S.Store conn.old) (state S.Store conn.new)) }
+    ensures survives { Survives (state S.Store conn.old) (state S.Store conn.new) (λ _. ⊥) }
+    ensures no_schema { result ≢ Err StoreFault.Schema }
+{
+    let mut now = taker;
+    let mut rows = conn.query(sql, &[])?;
+    'rows: for _ in 0..u64::MAX {
+        let Some(row) = rows.next()? else {
+            return Ok(now);
+        };
+        now = now.take(row)?;
+    }
+    Err(StoreFault::Database)
+}
+
+/// Hands each row that a query answers to the taker, one after the other, so that one row is held
+/// at a time. The database stays as it is.
+pub fn take_each<S: Alter, T: TakeRow>(
+    conn: &mut Connection<S>,
+    sql: &str,
+    taker: T,
+) -> Result<T, StoreFault>
+    requires ready { IsReadyToAsk S.Store conn.old }
+    requires plain { OverDesk (λ s. IsPlain (understood s sql.now)) }
+    requires unlisted { OverDesk (λ s. reads_listing s sql.now ≡ false) }
+    requires begun { T.took taker [] taker }
+    ensures asked { IsAsked S.Store conn.old conn.new result }
+    ensures taken { IsClean S.Store conn.new → IfOk result (λ now. (rows : List Cells)
+        × AnswersSelect sql.now (state S.Store conn.old).now rows × T.took taker rows now) }
+    ensures no_schema { result ≢ Err StoreFault.Schema }
+{
+    // For the proof: its contract says that outside a transaction all that is shown is committed.
+    let _idle = conn.is_autocommit();
+    conn.prepare(sql)?;
+    take_rows(conn, sql, taker)
 }

@@ -1,5 +1,5 @@
 -- Rows of a table that end in their rowids.
-use Rattle.std.specs.Prelude.{◌≡◌, ℕ, ◌-◌, Bool, true, false, List, [], ◌∷◌, ◌++◌, drop, map, length, All, IsPermutation}
+use Rattle.std.specs.Prelude.{◌≡◌, ℕ, ℤ, ◌-◌, Bool, true, false, List, [], ◌∷◌, ◌++◌, Option, Some, None, drop, map, length, All, IsPermutation}
 use Rattle.std.specs.List.{AllByRecursion}
 use Rattle.std.specs.Ordering.{is_eq, is_lt, int_cmp}
 use Rattle.sqlite.specs.Effect.{Database}
@@ -10,6 +10,8 @@ use Rattle.sqlite_value.specs.declared.value.Value.TheVariants.{Int}
 use Rattle.sqlite_value.specs.Order.{Row, column, value_cmp}
 use Rattle.sqlite_trees.specs.Tree.{rowid, IsAscending}
 use Rattle.sqlite_trees.specs.View.{is_int}
+use Rattle.sqlite_rules.specs.Lists.{Has}
+use Rattle.tables.specs.Decode.{ShowsNone, first_columns}
 use Rattle.tables.specs.Tables.{OverDesk, contents, columns}
 use Rattle.transactions.specs.steps.Statements.{AnswersSelect}
 
@@ -50,3 +52,28 @@ pub record AreRead {X : Type 0} (cells : X → Row) (fits : X → Type 0) (shown
   where
     pub fit : All fits values
     pub same : IsPermutation shown (map cells values)
+
+-- ---- rows that are taken one at a time
+
+-- the row ends in an integer that is at most this
+abbrev pub EndsUpTo : Option ℤ → Row → Type 0
+EndsUpTo None c = ⊥
+EndsUpTo (Some last) c = (n : ℤ) × (last_value c ≡ Int n) × (is_lt (int_cmp last n) ≡ false)
+
+-- the values that rows show, whose last integer this is
+pub record AreTaken {X : Type 0} (cells : X → Row) (fits : X → Type 0) (width : ℕ) (rows : List Row) (values : List X) (last : Option ℤ) : Type 0
+  where
+    pub apart : IsAscending (λ a b. is_eq (value_cmp (last_value a) (last_value b)) ≡ false) rows
+    pub ends : AllByRecursion (EndsUpTo last) rows
+    pub shown : map (first_columns width) rows ≡ map cells values
+    pub fit : AllByRecursion fits values
+
+-- each row showed a value, and these are they, or some row showed none
+pub record Collects {X : Type 0} (cells : X → Row) (fits : X → Type 0) (width : ℕ) (rows : List Row) (values : List X) (last : Option ℤ) (is_read : Bool) : Type 0
+  where
+    pub read : is_read ≡ true → AreTaken cells fits width rows values last
+    pub unread : is_read ≡ false → (c : Row) × Has rows c × ShowsNone cells fits (first_columns width c)
+
+-- the cells show a value, which stands after the others
+abbrev pub Shows : {X : Type 0} → (X → Row) → (X → Type 0) → Row → List X → List X → Type 0
+Shows {X} cells fits shown before after = (x : X) × fits x × (shown ≡ cells x) × (after ≡ before ++ x ∷ [])

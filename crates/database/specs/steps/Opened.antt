@@ -1,11 +1,11 @@
 -- What the queries of all rows of the tables show.
-use Rattle.std.specs.Prelude.{◌≡◌, ℕ, List, [], ◌∷◌, map, flat_map, Bool, Contains, IsPermutation, IsTrue, ⊤, if◌then◌else◌}
+use Rattle.std.specs.Prelude.{◌≡◌, ℕ, List, [], ◌∷◌, map, flat_map, Bool, false, Contains, IsPermutation, IsTrue, ⊤, if◌then◌else◌}
 use Rattle.std.specs.List.{AllByRecursion}
 use Rattle.sqlite.specs.Effect.{Database}
 use Rattle.sqlite_value.specs.Order.{Row}
 use Rattle.sqlite_trees.specs.Tree.{Trees}
 use Rattle.addr.specs.Name.{is_name}
-use Rattle.charters.specs.CharterSets.{CharterSets}
+use Rattle.charters.specs.CharterSets.{CharterSets, IsCharter}
 use Rattle.registry.specs.RoaPrefixes.{AreEntries}
 use Rattle.registry.specs.Values.{FilesFit, GrantFits}
 use Rattle.registry.specs.declared.authorization.Auth.{Auth}
@@ -90,3 +90,12 @@ pub record ShowAuths (db : Database) : Type 0 where
 pub record ShowExceptions (db : Database) : Type 0 where
   pub rows : ShowsEach slurm.tree (0 ∷ 1 ∷ 2 ∷ 3 ∷ 4 ∷ 5 ∷ 6 ∷ 7 ∷ []) ShowsException db
   pub files : (files : List NamedSlurm) × HoldsFiles files (contents (db.trees slurm.tree)) × FilesFit files
+
+-- what the tables show beside those of claims and of entries
+pub record ShowsOthers (charter : CharterSets) (db : Database) : Type 0 where
+  pub numbered : ShowsNumber false db
+  pub valid : IsCharter charter
+  pub chartered : ShowsCharter charter db
+  pub holders : ShowHolders db
+  pub unused : db.trees auth.tree ≡ []
+  pub excepted : ShowExceptions db

@@ -1,0 +1,30 @@
+use Rattle.sqlite.specs.Held.{state}
+use Rattle.database.proofs.Collecting.{some_untaken, taken_read, taken_rise}
+use Rattle.database.proofs.Rowids.{is_tree, shown_of}
+use Rattle.database.proofs.reading.collect_table.Goals as goal
+
+pub returns-in_default-clause-schema : goal.returns-in_default-clause-schema
+returns-in_default-clause-schema g c clean is =
+    let db = (state g.S.Store c.args.conn.now).now in
+    let asks = c.select_all.ensures in
+    let it = c.in_ok-collected.ensures.taken clean in
+    let same = shown_of g.T.FromRow.width g.T.InTable.places (db.trees g.T.InTable.tree) it.0 asks.counted (asks.found db it.0 it.1) in
+    some_untaken g.T.FromRow.cells g.T.FromRow.fits g.T.FromRow.width it.0 _ same (it.2.unread c.in_default.ensures)
+
+pub returns-clause-tree : goal.returns-clause-tree
+returns-clause-tree g c clean =
+    let db = (state g.S.Store c.args.conn.now).now in
+    let asks = c.select_all.ensures in
+    let it = c.in_ok-collected.ensures.taken clean in
+    let taken = it.2.read c.in-Some.ensures.0 in
+    is_tree g.T.InTable.places (db.trees g.T.InTable.tree) it.0 (asks.found db it.0 it.1)
+    (taken_rise g.T.FromRow.cells g.T.FromRow.fits g.T.FromRow.width it.0 _ _ taken)
+
+pub returns-clause-read : goal.returns-clause-read
+returns-clause-read g c clean =
+    let db = (state g.S.Store c.args.conn.now).now in
+    let asks = c.select_all.ensures in
+    let it = c.in_ok-collected.ensures.taken clean in
+    let same = shown_of g.T.FromRow.width g.T.InTable.places (db.trees g.T.InTable.tree) it.0 asks.counted (asks.found db it.0 it.1) in
+    let read = taken_read g.T.FromRow.cells g.T.FromRow.fits g.T.FromRow.width it.0 _ same _ _ (it.2.read c.in-Some.ensures.0) in
+    rw c.in-Some.ensures.1 read
