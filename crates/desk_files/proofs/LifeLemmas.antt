@@ -1,8 +1,8 @@
 -- What a desk has after a crash, and after lives with a crash after each.
-use Rattle.std.proofs.Common.{All, ◌≡◌, ℕ, ◌+◌, ◌<◌, IsTrue, List, [], ◌∷◌, ◌++◌, length, get_or, map, take, inl, refl, sym, ap, ◌∙◌, subst}
+use Rattle.std.proofs.Common.{All, ◌≡◌, ℕ, ◌+◌, ◌<◌, IsTrue, List, [], ◌∷◌, ◌++◌, length, get_or, map, take, inl, inr, refl, sym, ap, ◌∙◌, subst}
 use Rattle.std.specs.Borrow.{Bor}
 use Rattle.std.specs.Global.{Vec}
-use Rattle.std.proofs.lemmas.List.{map-append, take_more}
+use Rattle.std.proofs.lemmas.List.{map-append, take-map, take_more}
 use Rattle.std.proofs.lemmas.List.Elements.{All-nil}
 use Rattle.sqlite.specs.Held.{Held, state}
 use Rattle.sqlite.specs.Store.{Ghosts}
@@ -19,7 +19,7 @@ use Rattle.desk.specs.Run.{Runs}
 use Rattle.desk.specs.declared.desk.Desk.{Desk}
 use Rattle.desk.specs.declared.reply.Reply.{Reply}
 use Rattle.desk.proofs.ResumedLemmas.{left_found, pending_after_all_fits}
-use Rattle.desk_files.specs.Lives.{HoldsLegal, LeavesLegal, Lives, LivesOn, ResumesAfter}
+use Rattle.desk_files.specs.Lives.{HoldsLegal, LeavesLegal, LeavesLives, Lives, LivesOn, ResumesAfter, StoreLeavesAtMost}
 
 abbrev requests : Bor (List Asked) → List Asked
 requests asked = asked.now
@@ -129,6 +129,60 @@ module _ {S : Type 0} (g : Ghosts S) where
         left = kept.left [] was.4;
       }
 
+  -- nothing was asked after the first of these lives, and the desk became a store
+  pub none_more : (start old : Desk S) (lives : List (Bor (List Asked))) (index : ℕ) (replies : List (Vec Reply)) (closed : Held S) (store : S)
+      → closed ≡ old.store.connection → IsQuiet g.view g.faults g.recovers g.is_shielded closed.store store
+      → LivesOn g start (map requests (take index lives)) (map items replies) old
+      → LeavesLives g start (map requests lives) store
+  none_more start old lives index replies closed store same quiet so_far charter before is has alone =
+      let was = so_far charter before is has alone in
+      let taken = sym (take-map requests index lives) in (
+        was.0,
+        [],
+        (
+          index,
+          map items replies,
+          was.0,
+          subst (λ (l : List (List Asked)). Lives charter before l (map items replies) was.0) taken was.1,
+          inl (refl, refl),
+        ),
+        (λ trees found. was.4 trees (subst (λ (h : Held S). (state g h).may_leave trees) same (quiet.outcomes trees found))),
+      )
+
+  -- the lists up to an index, and the one there
+  one_more_taken : (lives : List (Bor (List Asked))) (index : ℕ) (asked : Bor (List Asked))
+      → index < length lives → asked ≡ get_or lives index asked
+      → map requests (take (index + 1) lives) ≡ map requests (take index lives) ++ asked.now ∷ []
+  one_more_taken lives index asked below here =
+      let taken : take (index + 1) lives ≡ take index lives ++ asked ∷ [] = take_more lives index asked below ∙ ap (λ x. take index lives ++ x ∷ []) (sym here) in
+      ap (map requests) taken ∙ map-append requests (take index lives) (asked ∷ [])
+
+  -- the requests of one more life were answered, and the desk was not opened after them
+  pub not_opened : (start old ran : Desk S) (lives : List (Bor (List Asked))) (index : ℕ) (asked : Bor (List Asked)) (replies : List (Vec Reply)) (list : Vec Reply) (store : S)
+      → index < length lives → asked ≡ get_or lives index asked
+      → LivesOn g start (map requests (take index lives)) (map items replies) old
+      → ((history : History) → IsLegal (charter_of old) history → HoldsHistory g old history → AreKept g (charter_of old) history asked.now list.items old ran)
+      → ((charter : Charter) (history : History) (pending : List Asked) → LeavesAtMost g charter ran history pending → StoreLeavesAtMost g charter store history pending)
+      → LeavesLives g start (map requests lives) store
+  not_opened start old ran lives index asked replies list store below here so_far keeps leaves charter before is has alone =
+      let was = so_far charter before is has alone in
+      let kept = kept_on old ran asked.now list.items keeps charter was.0 was.2 in
+      let pending = pending_after_all asked.now list.items [] in
+      let taken = sym (take-map requests index lives) in
+      let next : take (index + 1) (map requests lives) ≡ take index (map requests lives) ++ asked.now ∷ [] =
+      take-map requests (index + 1) lives ∙ one_more_taken lives index asked below here ∙ ap (λ l. l ++ asked.now ∷ []) taken in (
+        kept.answered.after,
+        pending,
+        (
+          index,
+          map items replies,
+          was.0,
+          subst (λ (l : List (List Asked)). Lives charter before l (map items replies) was.0) taken was.1,
+          inr (asked.now, list.items, next, kept.answered.runs, refl),
+        ),
+        leaves charter kept.answered.after pending (kept.left [] was.4),
+      )
+
   -- one more life, of the list at an index
   pub live_more : PendingFits → (start old ran new : Desk S) (lives : List (Bor (List Asked))) (index : ℕ) (asked : Bor (List Asked)) (replies grown : List (Vec Reply)) (list : Vec Reply)
       → index < length lives → asked ≡ get_or lives index asked → grown ≡ replies ++ list ∷ []
@@ -137,9 +191,7 @@ module _ {S : Type 0} (g : Ghosts S) where
       → All AskedFits asked.now → ResumesAfter g ran new
       → LivesOn g start (map requests (take (index + 1) lives)) (map items grown) new
   live_more more_fits start old ran new lives index asked replies grown list below here pushed so_far keeps each resumes =
-      let taken : take (index + 1) lives ≡ take index lives ++ asked ∷ [] = take_more lives index asked below ∙ ap (λ x. take index lives ++ x ∷ []) (sym here) in
-      let requested : map requests (take (index + 1) lives) ≡ map requests (take index lives) ++ asked.now ∷ [] =
-      ap (map requests) taken ∙ map-append requests (take index lives) (asked ∷ []) in
+      let requested = one_more_taken lives index asked below here in
       let replied : map items grown ≡ map items replies ++ list.items ∷ [] = ap (map items) pushed ∙ map-append items replies (list ∷ []) in
       subst (λ (l : List (List Asked)). LivesOn g start l (map items grown) new) (sym requested)
       (subst (λ (r : List (List Reply)). LivesOn g start (map requests (take index lives) ++ asked.now ∷ []) r new) (sym replied)

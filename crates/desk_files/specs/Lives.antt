@@ -1,5 +1,5 @@
 -- The lives of a desk over a disk that may crash: lists of requests, with a crash after each.
-use Rattle.std.specs.Prelude.{◌≡◌, List, [], ◌∷◌, IsTrue}
+use Rattle.std.specs.Prelude.{◌≡◌, ◌⊎◌, ℕ, ◌+◌, List, [], ◌∷◌, ◌++◌, take, IsTrue}
 use Rattle.std.specs.List.{AllByRecursion}
 use Rattle.sqlite.specs.Store.{Ghosts}
 use Rattle.sqlite_trees.specs.Tree.{Trees}
@@ -68,6 +68,17 @@ Lives charter before (asked ∷ lives) (replies ∷ more) after =
     × IsAtMostOneMore charter left (pending_after_all asked replies []) next
     × Lives charter next lives more after
 
+-- The first of these lives were lived, and left a history. Then nothing more was asked, or the requests of the next life
+-- were answered and the desk was not opened after them. `after` is the history then, and these requests are pending.
+abbrev pub LivesUntil : Charter → History → List (List Asked) → History → List Asked → Type 0
+LivesUntil charter before lives after pending =
+    (number : ℕ) × (replies : List (List Reply)) × (left : History)
+    × Lives charter before (take number lives) replies left
+    × (((after ≡ left) × (pending ≡ []))
+    ⊎ ((asked : List Asked) × (list : List Reply)
+    × (take (number + 1) lives ≡ take number lives ++ asked ∷ [])
+    × Runs charter left asked list after × (pending ≡ pending_after_all asked list [])))
+
 -- The desk has a legal history of values of their types, and a crash leaves that and nothing else. The operators of the
 -- charter have names.
 pub record HoldsLegal {S : Type 0} (g : Ghosts S) (desk : Desk S) : Type 0 where
@@ -90,3 +101,12 @@ LivesOn g old lives replies new =
     × Represents g charter new after
     × (HistoryFits before → HistoryFits after)
     × LeavesAtMost g charter new after []
+
+-- Where the desk had a history, and a crash of it left that and nothing else, a crash of the store leaves at most what the
+-- first of these lives led to.
+abbrev pub LeavesLives : {S : Type 0} → Ghosts S → Desk S → List (List Asked) → S → Type 0
+LeavesLives g desk lives store =
+    (charter : Charter) (before : History) → IsCharter charter
+    → Represents g charter desk before → LeavesAtMost g charter desk before []
+    → (after : History) × (pending : List Asked) × LivesUntil charter before lives after pending
+    × StoreLeavesAtMost g charter store after pending

@@ -2,7 +2,7 @@
 ghost use Rattle.std.specs.Prelude.{◌≡◌, IfErr, IfOk, map};
 ghost use Rattle.sqlite_trees.specs.View.{IsClean};
 ghost use Rattle.desk.specs.Desk.{IsOnCleanDisk};
-ghost use Rattle.desk_files.specs.Lives.{HoldsLegal, LivesOn, RefusesAfter, ResumesAfter};
+ghost use Rattle.desk_files.specs.Lives.{HoldsLegal, LeavesLives, LivesOn, RefusesAfter, ResumesAfter};
 
 use desk::{Asked, Desk, Reply};
 use sqlite::{Alter, Connection};
@@ -59,6 +59,8 @@ pub fn live<S: Alter + Reopen + Drop>(
         → IsOnCleanDisk S.Store desk) }
     ensures not_schema { IfErr result (λ refused. IsClean (S.Store.view refused.1)
         → refused.0 ≡ StoreFault.Schema → ¬ HoldsLegal S.Store desk) }
+    ensures left { IfErr result (λ refused. IsClean (S.Store.view refused.1)
+        → LeavesLives S.Store desk (map (λ asked. asked.now) lives.now) refused.1) }
 {
     // For the proof: the theorem by which the values of the requests reach the next life.
     desk::laws::pending_fits();
