@@ -31,8 +31,7 @@ pub fn read_body<S: Source>(
         × Gives bytes (S.handed_out source.old) (S.handed_out source.new)
         × (length bytes < length_of_body)
         × IsOver (S.has_ended source.new) (S.has_failed source.new) }
-    ensures memory { result ≡ Err BodyFault.Memory
-        → S.handed_out source.new ≡ S.handed_out source.old }
+    ensures memory { result ≡ Err BodyFault.Memory → source.new ≡ source.old }
 {
     let Ok(mut body) = Vec::with_capacity(alloc, length_of_body) else {
         return Err(BodyFault::Memory);

@@ -1,6 +1,6 @@
 //! What hypothetical changes would leave.
 
-ghost use Rattle.std.specs.Prelude.{◌≡◌, ◌+◌, ◌<◌, ℕ, Bool, List, Option, Contains, length, Some, option_copied};
+ghost use Rattle.std.specs.Prelude.{◌≡◌, ◌+◌, ◌<◌, ℕ, Bool, List, Option, Contains, length, Some, Err, IsSome, option_copied};
 ghost use Rattle.charters.specs.declared.charter.Charter.{Charter as CharterValue};
 ghost use Rattle.registry.specs.declared.authorization.Auth.{Auth as AuthValue};
 ghost use Rattle.registry.specs.declared.command.Proposed.{Proposed as ProposedValue};
@@ -87,6 +87,7 @@ pub fn suppose_on(
         → IsPartIfAny changes.now left_out keep whole (rows_if_any (option_copied part.entry))
         → IsPartAnswer charter history holder day caller.now changes.now
         (auths_if_any (option_copied part.entry)) result }
+    ensures memory { result ≡ Err Refusal.Memory → IsSome (option_copied part.entry) }
 {
     let Some(before) = part else {
         return Err(Refusal::Denied(Rule::Grant, Some(1)));

@@ -14,7 +14,7 @@ returns-in_default-clause-some g c = (
 pub returns-in-Err-Memory-clause-some : goal.returns-in-Err-Memory-clause-some
 returns-in-Err-Memory-clause-some g c = (
   [],
-  c.in-Err-Memory.ensures.memory (ap Err c.in-Err-Memory.field-0-is) ∙ sym (append-nil (g.S.Source.handed_out c.args.source.now)),
+  ap g.S.Source.handed_out (c.in-Err-Memory.ensures.memory (ap Err c.in-Err-Memory.field-0-is)) ∙ sym (append-nil (g.S.Source.handed_out c.args.source.now)),
   λ head whole says. inr (inl (
     head_view c.args.request.now,
     c.in-Some.size,
