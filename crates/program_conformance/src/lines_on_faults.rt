@@ -1,5 +1,5 @@
 //! The lines on connections that failed.
-ghost use Rattle.std.specs.Prelude.{false};
+ghost use Rattle.std.specs.Prelude.{false, true};
 
 use crate::clients::{desk_in_memory, first_of_march};
 use addr::Day;
@@ -43,6 +43,8 @@ impl<'a> Clients<'a> {
 }
 
 impl Connections for Clients<'_> {
+    ghost is_listening = { λ _. true };
+
     ghost cannot_listen = { λ _. false };
 
     ghost has_failed = { λ clients. clients.has_failed };

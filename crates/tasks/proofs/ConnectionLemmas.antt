@@ -2,6 +2,7 @@
 use Rattle.std.proofs.Common.{◌≡◌, ◌∙◌, ◌+◌, ℕ, suc, Bool, List, [], ◌∷◌, ◌++◌, length, Option, Some, None, ap, append_assoc, arith, refl, subst, sym}
 use Rattle.std.proofs.lemmas.List.{append-nil}
 use Rattle.std.specs.Io.KnownBytes.{Appends}
+use Rattle.std.specs.Result.{result_err}
 use Rattle.web.specs.declared.http.WebFault.{WebFault}
 use Rattle.tasks.specs.Connections.{Accepts, Logs}
 use Rattle.tasks.specs.Serving.{AnswersInTurn, fault_lines, line_for, Transcript}
@@ -49,25 +50,25 @@ in-turn-then answers old state new (first ∷ later) one (next, answered_first, 
     (next, answered_first, in-turn-then answers next state new later one answered_later answered)
 
 lines-then : (number : ℕ) (passed : List Transcript) (one : Transcript)
-    → fault_lines number (passed ++ one ∷ []) ≡ fault_lines number passed ++ line_for (length passed + number) one.fault
+    → fault_lines number (passed ++ one ∷ []) ≡ fault_lines number passed ++ line_for (length passed + number) (result_err one.ended)
 lines-then number [] one =
     let counted : number ≡ 0 + number = omega arith in
-    append-nil (line_for number one.fault) ∙ ap (λ n. line_for n one.fault) counted
+    append-nil (line_for number (result_err one.ended)) ∙ ap (λ n. line_for n (result_err one.ended)) counted
 lines-then number (first ∷ later) one =
     let counted : length later + suc number ≡ suc (length later) + number = omega arith in
-    ap (λ lines. line_for number first.fault ++ lines) (lines-then (suc number) later one
-    ∙ ap (λ n. fault_lines (suc number) later ++ line_for n one.fault) counted)
-    ∙ sym (append_assoc (line_for number first.fault) (fault_lines (suc number) later)
-    (line_for (suc (length later) + number) one.fault))
+    ap (λ lines. line_for number (result_err first.ended) ++ lines) (lines-then (suc number) later one
+    ∙ ap (λ n. fault_lines (suc number) later ++ line_for n (result_err one.ended)) counted)
+    ∙ sym (append_assoc (line_for number (result_err first.ended)) (fault_lines (suc number) later)
+    (line_for (suc (length later) + number) (result_err one.ended)))
 
 pub logs-one : (lost_old lost_state lost_new : Bool) (old state new : Option (List ℕ)) (served : ℕ) (passed : List Transcript)
-    (one : Transcript) (fault : Option WebFault) → length passed ≡ served → one.fault ≡ fault
+    (one : Transcript) (fault : Option WebFault) → length passed ≡ served → result_err one.ended ≡ fault
     → Logs lost_old lost_state old state (fault_lines 1 passed)
     → Logs lost_state lost_new state new (line_for (served + 1) fault)
     → Logs lost_old lost_new old new (fault_lines 1 (passed ++ one ∷ []))
 logs-one lost_old lost_state lost_new old state new served passed one fault counted is logged logged_one =
-    let line : line_for (length passed + 1) one.fault ≡ line_for (served + 1) fault =
-    ap (λ n. line_for (n + 1) one.fault) counted ∙ ap (line_for (served + 1)) is in
+    let line : line_for (length passed + 1) (result_err one.ended) ≡ line_for (served + 1) fault =
+    ap (λ n. line_for (n + 1) (result_err one.ended)) counted ∙ ap (line_for (served + 1)) is in
     let lines : fault_lines 1 (passed ++ one ∷ []) ≡ fault_lines 1 passed ++ line_for (served + 1) fault =
     lines-then 1 passed one ∙ ap (λ l. fault_lines 1 passed ++ l) line in
     subst (Logs lost_old lost_new old new) (sym lines)

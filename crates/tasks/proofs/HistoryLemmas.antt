@@ -1,5 +1,6 @@
 -- The histories that a desk has after connections.
 use Rattle.std.proofs.Common.{◌≡◌, ◌∙◌, ◌≤◌, ◌<◌, ℕ, Bool, true, false, List, [], ◌∷◌, ◌++◌, Option, Some, None, Result, Ok, Err, IfOk, OnOk, OnErr, ap, arith, refl, subst, sym, inl, inr}
+use Rattle.std.specs.Result.{result_err}
 use Rattle.sqlite.specs.Store.{Ghosts}
 use Rattle.charters.specs.declared.charter.Charter.{Charter}
 use Rattle.registry.specs.History.{History}
@@ -38,7 +39,7 @@ module _ {S There : Type 0} (g : Ghosts S)
   LeadsTo new leads = (after : There) × Shows new after × leads after
 
   abbrev ConnectionBy : ℕ → There → Transcript → There → Type 0
-  ConnectionBy day before passed after = EndsWith (RespondsBy replies day) before passed passed.fault after
+  ConnectionBy day before passed after = EndsWith (RespondsBy replies day) before passed (result_err passed.ended) after
 
   module _ (day : ℕ) (old new : Desk S) (before : There) (clean : IsOnCleanDisk g new) (shows : Shows old before) where
     unchanged : (leads : There → Type 0) → new ≡ old → leads before → LeadsTo new leads
@@ -86,7 +87,7 @@ module _ {S There : Type 0} (g : Ghosts S)
   in_turn_along day (one ∷ later) old new before (next, (mid, served, was_ready, tells, again), in_turn) clean shows =
       let clean_next = (later_in_turn g day next new later in_turn).clean clean in
       let clean_mid = (later_again g day mid next was_ready again).clean clean_next in
-      let (after_one, shows_one, leads_one) = ended day old mid before clean_mid shows one one.fault served.1 in
+      let (after_one, shows_one, leads_one) = ended day old mid before clean_mid shows one (result_err one.ended) served.1 in
       let shows_next = again_shows day mid next was_ready after_one clean_next again shows_one in
       let (after, shows_after, leads) = in_turn_along day later next new after_one in_turn clean shows_next in
       (after, shows_after, (after_one, leads_one, leads))

@@ -1,6 +1,5 @@
 -- A desk over several connections.
 use Rattle.std.proofs.Common.{◌≡◌, ◌∙◌, ℕ, Bool, true, false, List, [], ◌∷◌, ◌++◌, Result, Ok, Err, IfOk, ap, refl, subst, sym}
-use Rattle.std.specs.Result.{result_err}
 use Rattle.sqlite.specs.Store.{Ghosts}
 use Rattle.desk.specs.declared.desk.Desk.{Desk}
 use Rattle.streams.specs.Streams.{AppendsBeginning}
@@ -63,19 +62,23 @@ module _ {S : Type 0} (g : Ghosts S) where
         read_failed = read_failed;
         sent = written_new;
         write_failed = write_failed;
-        fault = result_err result;
+        ended = result;
       }) new
   serves (Ok x) day old new given_old given_new written_old written_new has_ended read_failed write_failed later ok read write
       failed none_given none_written =
       let (bytes, text, given, responds, extent, written) = ok in
       let received : bytes ≡ given_new = sym (given ∙ ap (λ before. before ++ bytes) none_given) in
       let sent : text ≡ written_new = sym (written ∙ ap (λ before. before ++ text) none_written) in
-      (later, subst (λ b. RespondsTo g old day b written_new new) received (subst (λ t. RespondsTo g old day bytes t new) sent responds))
+      (
+        later,
+        subst (λ b. RespondsTo g old day b written_new new) received (subst (λ t. RespondsTo g old day bytes t new) sent responds),
+        subst (λ b. HasExtent day b written_new x) received (subst (λ t. HasExtent day bytes t x) sent extent),
+      )
   serves (Err Read) day old new given_old given_new written_old written_new has_ended read_failed write_failed later ok read write
       failed none_given none_written =
       let (bytes, given, cut, over, same, kept) = read refl in
       let received : bytes ≡ given_new = sym (given ∙ ap (λ before. before ++ bytes) none_given) in
-      (later, (subst IsCutShort received cut, over, kept ∙ none_written, same))
+      (later, (subst IsCutShort received cut, over, kept ∙ none_written, same), tt)
   serves (Err Write) day old new given_old given_new written_old written_new has_ended read_failed write_failed later ok read write
       failed none_given none_written =
       let (bytes, text, given, responds, (out, more, written, whole)) = write refl in
@@ -89,4 +92,5 @@ module _ {S : Type 0} (g : Ghosts S) where
               (subst (λ t. RespondsTo g old day bytes t new) all responds),
           failed refl,
         ),
+        tt,
       )

@@ -1,5 +1,6 @@
 -- The histories that connections lead to, what a crash leaves of them, and the files that hold them.
 use Rattle.std.specs.Prelude.{◌≡◌, ◌⊎◌, ℕ, List}
+use Rattle.std.specs.Result.{result_err}
 use Rattle.sqlite.specs.Store.{Ghosts as StoreGhosts}
 use Rattle.sqlite_disk.specs.declared.Disk.{Ghosts}
 use Rattle.sqlite_disk.specs.declared.Files.{Files}
@@ -27,12 +28,12 @@ RespondsBy replies day old bytes text new =
 -- what a connection on a day makes of a history, by the bytes that passed on it
 abbrev pub ConnectionLeads : Charter → ℕ → History → Transcript → History → Type 0
 ConnectionLeads charter day before passed after =
-    EndsWith (RespondsBy (RepliesOn charter) day) before passed passed.fault after
+    EndsWith (RespondsBy (RepliesOn charter) day) before passed (result_err passed.ended) after
 
 -- and of the requests that a crash may leave applied
 abbrev pub ConnectionLeaves : Charter → ℕ → Standing → Transcript → Standing → Type 0
 ConnectionLeaves charter day before passed after =
-    EndsWith (RespondsBy (RepliesLeaving charter) day) before passed passed.fault after
+    EndsWith (RespondsBy (RepliesLeaving charter) day) before passed (result_err passed.ended) after
 
 -- after connections on the day a crash leaves of the desk no more than they allow
 abbrev pub LeavesInTurn : {S : Type 0} → StoreGhosts S → ℕ → Desk S → List Transcript → Desk S → Type 0

@@ -1,25 +1,29 @@
 -- What `roadesk serve` does on its connections, and the line that it prints for one that failed.
-use Rattle.std.specs.Prelude.{◌≡◌, ◌≢◌, ℕ, suc, Bool, true, false, List, [], ◌∷◌, ◌++◌, MatchBool, Option, Some, None, codes, decimal}
+use Rattle.std.specs.Prelude.{◌≡◌, ◌≢◌, ℕ, suc, Bool, true, false, List, [], ◌∷◌, ◌++◌, MatchBool, Option, Some, None, Result, IfOk, codes, decimal}
+use Rattle.std.specs.Result.{result_err}
 use Rattle.sqlite.specs.Store.{Ghosts}
 use Rattle.desk.specs.Prepared.{day_of, IsPrepared}
 use Rattle.desk.specs.declared.desk.Desk.{Desk}
 use Rattle.http_messages.specs.Input.{IsOver}
 use Rattle.requests.specs.HttpRequests.{IsCutShort}
 use Rattle.web.specs.HttpAnswers.{RespondsTo}
+use Rattle.web.specs.RequestExtent.{HasExtent}
 use Rattle.web.specs.ScriptAnswer.{IsLaterDesk}
 use Rattle.web.specs.WebFault.{web_fault_number}
+use Rattle.web.specs.declared.http.Extent.{Extent}
 use Rattle.web.specs.declared.http.WebFault.{WebFault}
 use Rattle.web.specs.declared.http.WebFault.TheVariants.{Read, Write}
 
 -- What passed on a connection: the bytes that were read, whether the last read met the end or failed, the bytes that were
--- written, whether the last write failed, and the fault that serving it ended with.
+-- written, whether the last write failed, and how much of the request was read, or the fault that serving it ended
+-- with.
 pub record Transcript : Type 0 where
   pub received : List ℕ
   pub has_ended : Bool
   pub read_failed : Bool
   pub sent : List ℕ
   pub write_failed : Bool
-  pub fault : Option WebFault
+  pub ended : Result Extent WebFault
 
 -- ---- one connection
 
@@ -33,11 +37,13 @@ EndsWith responds old passed (Some Read) new =
 EndsWith responds old passed (Some Write) new =
     (unsent : List ℕ) × responds old passed.received (passed.sent ++ unsent) new × (passed.write_failed ≡ true)
 
--- a connection on a day, and the desk before and after it
+-- A connection on a day, and the desk before and after it. Without a fault it is known how much of the request was read:
+-- of one that was not read whole, more may come.
 abbrev pub Serves : {S : Type 0} → Ghosts S → ℕ → Desk S → Transcript → Desk S → Type 0
 Serves g day old passed new =
     IsLaterDesk g old new
-    × EndsWith (λ before bytes text after. RespondsTo g before day bytes text after) old passed passed.fault new
+    × EndsWith (λ before bytes text after. RespondsTo g before day bytes text after) old passed (result_err passed.ended) new
+    × IfOk passed.ended (λ extent. HasExtent day passed.received passed.sent extent)
 
 -- ---- ready for a day
 
@@ -88,4 +94,4 @@ line_for connection (Some fault) = fault_line connection (web_fault_number fault
 -- the lines for connections that are counted from this number on
 abbrev pub fault_lines : ℕ → List Transcript → List ℕ
 fault_lines number [] = []
-fault_lines number (passed ∷ later) = line_for number passed.fault ++ fault_lines (suc number) later
+fault_lines number (passed ∷ later) = line_for number (result_err passed.ended) ++ fault_lines (suc number) later

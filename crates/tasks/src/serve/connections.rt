@@ -1,6 +1,5 @@
 //! Connections that are accepted and answered, one after the other.
-ghost use Rattle.std.specs.Prelude.{◌≡◌, ◌<◌, ◌≤◌, ◌∷◌, ℕ, Bool, List, [], Option, None, false, true, length, IfOk, OnErr, OnOk};
-ghost use Rattle.std.specs.Result.{result_err};
+ghost use Rattle.std.specs.Prelude.{◌≡◌, ◌<◌, ◌≤◌, ◌∷◌, ℕ, Bool, List, [], Option, None, is_some, false, true, length, IfOk, OnErr, OnOk};
 ghost use Rattle.http_messages.specs.Input.{Gives, IsOver};
 ghost use Rattle.tasks.specs.ConnectionTime.{discard_limit};
 ghost use Rattle.tasks.specs.Connections.{Accepts, Passes};
@@ -57,7 +56,7 @@ pub trait AnswerConnections {
               read_failed = S.has_failed source.new;
               sent = D.written drain.new;
               write_failed = D.has_failed drain.new;
-              fault = result_err result;
+              ended = result;
             }) self.new };
 }
 
@@ -93,6 +92,9 @@ pub trait Connections {
     // The connections that were accepted, if they are known.
     ghost accepted: { Self → Option (List Transcript) } = { λ _. None };
 
+    // Whether it listens.
+    ghost is_listening: { Self → Bool };
+
     // Whether listening has failed.
     ghost cannot_listen: { Self → Bool };
 
@@ -102,6 +104,7 @@ pub trait Connections {
     /// Binds the socket, so that clients can connect.
     fn listen(&mut self) -> io::Result<()>
         ensures none { Accepts (accepted self.old) (accepted self.new) [] }
+        ensures bound { OnOk result (is_listening self.new ≡ true) }
         ensures listens { OnOk result (cannot_listen self.new ≡ cannot_listen self.old) }
         ensures failed { OnErr result (cannot_listen self.new ≡ true) };
 
@@ -113,7 +116,7 @@ pub trait Connections {
         engine: &mut E,
         day: Day,
     ) -> Result<Result<Extent, WebFault>, Failed>
-        ensures ok { IfOk result (λ ended. (passed : Transcript) × (passed.fault ≡ result_err ended)
+        ensures ok { IfOk result (λ ended. (passed : Transcript) × (passed.ended ≡ ended)
             × Accepts (accepted self.old) (accepted self.new) (passed ∷ [])
             × E.answers day engine.old passed engine.new) }
         ensures err { OnErr result (engine.new ≡ engine.old) }
@@ -161,6 +164,8 @@ impl<'a, R: Clock, N: Network> Incoming<'a, R, N> {
 }
 
 impl<R: Clock, N: Network> Connections for Incoming<'_, R, N> {
+    ghost is_listening = { λ incoming. is_some incoming.listener };
+
     ghost cannot_listen = { λ incoming. incoming.cannot_listen };
 
     ghost has_failed = { λ incoming. incoming.has_failed };
@@ -211,7 +216,7 @@ fn answer_and_end<P: Peer, Q: Peer, E: AnswerConnections>(
     day: Day,
 ) -> Result<Extent, WebFault>
     requires { Q.began to.old ≡ P.began from.old }
-    ensures { (passed : Transcript) × (after : Q) × (passed.fault ≡ result_err result)
+    ensures { (passed : Transcript) × (after : Q) × (passed.ended ≡ result)
         × Passes (P.remaining from.old) (Q.contents to.old) passed (Q.contents after)
         × E.answers day engine.old passed engine.new }
 {
@@ -263,7 +268,7 @@ pub fn answer_in_time<P: Peer, Q: Peer, E: AnswerConnections>(
 ) -> Result<Extent, WebFault>
     // What was received is what the one peer gave, and what was sent is what the other took, which
     // left it as it is in `after`.
-    ensures { (passed : Transcript) × (after : Q) × (passed.fault ≡ result_err result)
+    ensures { (passed : Transcript) × (after : Q) × (passed.ended ≡ result)
         × Passes (P.remaining from.old) (Q.contents to.old) passed (Q.contents after)
         × E.answers day engine.old passed engine.new }
 {
@@ -291,7 +296,7 @@ fn answer_between<R: Read + Drop, W: Write + Drop, E: AnswerConnections, B: Begi
 ) -> Result<Extent, WebFault>
     requires remaining { R.remaining from ≡ B.remaining }
     requires contents { W.contents to ≡ B.contents }
-    ensures { (passed : Transcript) × (after : W) × (passed.fault ≡ result_err result)
+    ensures { (passed : Transcript) × (after : W) × (passed.ended ≡ result)
         × Passes B.remaining B.contents passed (W.contents after)
         × E.answers day engine.old passed engine.new }
 {

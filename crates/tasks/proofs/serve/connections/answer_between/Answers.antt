@@ -1,5 +1,4 @@
 use Rattle.std.proofs.Common.{refl}
-use Rattle.std.specs.Result.{result_err}
 use Rattle.streams.specs.Device.{device_bytes, device_has_ended, device_has_failed, device_inner}
 use Rattle.tasks.proofs.FollowLemmas.{given-first, taken-after}
 use Rattle.tasks.proofs.serve.connections.answer_between.Goals as goal
@@ -14,7 +13,7 @@ returns g c =
         read_failed = device_has_failed source.device;
         sent = device_bytes drain.device;
         write_failed = device_has_failed drain.device;
-        fault = result_err c.answer.result;
+        ended = c.answer.result;
       },
       device_inner drain.device,
       refl,
