@@ -1,5 +1,5 @@
 -- The records of a text are its next record and those of the rest.
-use Rattle.std.proofs.Common.{◌≡◌, ◌≤◌, ◌<◌, ◌+◌, ◌⊎◌, inl, inr, ℕ, zero, suc, List, [], ◌∷◌, length, Option, Some, None, refl, sym, ap, arith}
+use Rattle.std.proofs.Common.{◌≡◌, ◌≤◌, ◌<◌, ◌+◌, inl, inr, ℕ, zero, suc, List, [], ◌∷◌, length, Some, None, refl, sym, ap, arith}
 use Rattle.std.proofs.lemmas.Bool.{cases_Bool}
 use Rattle.std.proofs.lemmas.Option.{same_Some}
 use Rattle.csv.specs.Machine.{Read, next_record, step, is_end, fields_after, field_after, ends_at_end}
@@ -7,6 +7,7 @@ use Rattle.csv.specs.Reading.{records_from}
 use Rattle.csv.specs.declared.parser.Config.{Config}
 use Rattle.csv.specs.declared.parser.State.{State}
 use Rattle.csv.specs.declared.parser.State.TheVariants as st
+use Rattle.addr.proofs.PrefixTextLemmas.{option_cases}
 
 -- the end of a text leaves no bytes
 takes_last : (cfg : Config) (s : State) (fields : List (List ℕ)) (field : List ℕ) (r : Read)
@@ -34,10 +35,6 @@ takes_some cfg s fields field c (d ∷ rest) r e = elim (cases_Bool (is_end (ste
       let more = takes_some cfg (step cfg s c).0 (fields_after (step cfg s c).1 fields field) (field_after (step cfg s c).1 c field) d rest r (rw goes at e) in
       omega arith
 ]
-
-option_cases : {T : Type 0} (found : Option T) → (found ≡ None) ⊎ ((x : T) × (found ≡ Some x))
-option_cases None = inl refl
-option_cases (Some x) = inr (x, refl)
 
 -- there are no records at the end of a text
 none_left : (cfg : Config) (n : ℕ) → records_from cfg n st.StartRecord [] ≡ []

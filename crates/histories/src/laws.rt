@@ -22,6 +22,7 @@ pub fn ends_just_overlapping()
 /// The rows of a holder after a legal history whose values are those of their types are in their
 /// ranges: numbers from 1 to 999,999, at most 999,999 grants and as many authorizations made, and each
 /// maxLength neither below its prefix's length nor over its family's width.
+#[tactic(auto, using(crate::proofs::Fitting::legal_rows_fit))]
 pub fn legal_rows_fit()
     ensures { LegalRowsFit }
 {}

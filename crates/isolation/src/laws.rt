@@ -26,6 +26,7 @@ pub fn others_keep_rows()
 
 /// Hypothetical changes at a holder leave the rows of every other holder, and the SLURM files in
 /// force.
+#[tactic(auto, using(crate::proofs::Grown::hypothetical_keeps_others))]
 pub fn hypothetical_keeps_others()
     ensures { HypotheticalKeepsOthers }
 {}
@@ -46,18 +47,21 @@ pub fn commands_by_entries()
 
 /// After a legal history, what is shown, listed or denied at a holder is the same as after only the
 /// entries that name the holder.
+#[tactic(auto, using(crate::proofs::Isolation::queries_by_entries))]
 pub fn queries_by_entries()
     ensures { QueriesByEntries }
 {}
 
 /// After a legal history, an import at a holder makes what it would make after only the entries
 /// that name the holder, or the same row is denied by the same rule.
+#[tactic(auto, using(crate::proofs::GrownAlike::imports_by_entries))]
 pub fn imports_by_entries()
     ensures { ImportsByEntries }
 {}
 
 /// After a legal history, hypothetical changes at a holder come out as they would after only the
 /// entries that name the holder, or the same change is denied by the same rule.
+#[tactic(auto, using(crate::proofs::GrownAlike::hypothetical_by_entries))]
 pub fn hypothetical_by_entries()
     ensures { HypotheticalByEntries }
 {}
@@ -66,6 +70,7 @@ pub fn hypothetical_by_entries()
 /// the second time changes nothing: the rows of every holder and the SLURM files in force stay. In
 /// between no entry may name one of its holders or, if it brings SLURM files, bring SLURM files.
 /// The history is legal, and the command's values are those of their types.
+#[tactic(auto, using(crate::proofs::Again::repeats_leave_rows))]
 pub fn again()
     ensures { RepeatsLeaveRows }
 {}
@@ -73,6 +78,7 @@ pub fn again()
 /// If an import was accepted, and no later entry of a legal history names its holder, the same
 /// import makes nothing. Sent by its caller on its day it is accepted; sent by another caller or on
 /// another day it may be denied.
+#[tactic(auto, using(crate::proofs::Present::imports_repeat))]
 pub fn import_again()
     ensures { ImportsRepeat }
 {}

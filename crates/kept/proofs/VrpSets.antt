@@ -1,8 +1,8 @@
 -- The VRPs of a set that others are put into or taken out of.
-use Rattle.std.proofs.Common.{◌≡◌, Bool, true, false, not, ◌||◌, ◌↔◌, ◌⊎◌, inl, inr, IsTrue, List, refl, sym, ap, ◌∙◌, subst, Contains}
+use Rattle.std.proofs.Common.{◌≡◌, true, false, not, ◌↔◌, ◌⊎◌, inl, inr, IsTrue, List, sym, ap, ◌∙◌, subst, Contains}
 use Rattle.std.specs.List.{list_any}
 use Rattle.std.specs.Ordering.{is_eq}
-use Rattle.std.proofs.lemmas.Bool.{and_from, and_parts, cases_Bool, not-true, or_left, or_right, true≢false}
+use Rattle.std.proofs.lemmas.Bool.{and_from, and_parts, cases_Bool, not-true, or_cases, or_left, or_right, true≢false}
 use Rattle.std.proofs.lemmas.Cmp.{tied_itself}
 use Rattle.addr.specs.declared.vrp.Vrp.{Vrp}
 use Rattle.addr.proofs.OrderLemmas.{vrp_order}
@@ -59,7 +59,7 @@ items_such P vrps list s is same are v =
 -- with one more, the set has that one and what it had
 pub items_inserted : (s : set.VrpSet) (w v : Vrp) → Contains (set.items (set.insert s w)) v ↔ (Contains (set.items s) v ⊎ (v ≡ w))
 items_inserted s w v = (
-  λ there. elim (one_true (is_vrp v w) (set.contains s v) (sym (contains-insert s w v) ∙ (in_set (set.insert s w) v).0 there)) [
+  λ there. elim (or_cases (is_vrp v w) (set.contains s v) (sym (contains-insert s w v) ∙ (in_set (set.insert s w) v).0 there)) [
     | inl one ↦ inr (same_vrp-equal v w one)
     | inr had ↦ inl ((in_set s v).1 had)
   ],
@@ -68,10 +68,6 @@ items_inserted s w v = (
     | inr same ↦ or_left (is_vrp v w) (set.contains s v) (is_vrp-of v w same)
   ]),
 )
-  where
-    one_true : (a b : Bool) → (a || b) ≡ true → (a ≡ true) ⊎ (b ≡ true)
-    one_true true b is = inl refl
-    one_true false b is = inr is
 
 -- with one less, what it had but that one
 pub items_removed : (s : set.VrpSet) (w v : Vrp) → Contains (set.items (set.remove s w)) v ↔ (Contains (set.items s) v × ¬ (v ≡ w))

@@ -6,7 +6,7 @@ use Rattle.std.specs.List.{AllByRecursion}
 use Rattle.std.proofs.Math.Bool.{or-false}
 use Rattle.std.proofs.lemmas.Bool.Decides.{nat_tests}
 use Rattle.std.proofs.lemmas.List.Elements.{All-nil, All-cons, All-from_recursion, recursion_from_All}
-use Rattle.std.proofs.lemmas.List.{length-map}
+use Rattle.std.proofs.lemmas.List.{length-map, nil_from_length}
 use Rattle.std.proofs.lemmas.List.Folds.{list_any-append}
 use Rattle.std.proofs.lemmas.List.Sorted.{list_any-IsPermutation, length_permutation, IsPermutation-refl}
 use Rattle.sqlite.specs.Effect.{Database}
@@ -103,12 +103,8 @@ all_spans_fit spans k d low = tt
 
 -- ---- counters
 
-none_in : {X : Type 0} (xs : List X) → IsPermutation [] xs → xs ≡ []
-none_in [] same = refl
-none_in (x ∷ xs) same = absurd (let e = length_permutation _ _ same in cc)
-
 pub first_counters : (o : Option Rows) (xs : List Counters) → IsPermutation (items_if_any counters_of_rows o) xs → slice_get xs 0 ≡ counters_if_any o
-first_counters None xs same = rw (none_in xs same) refl
+first_counters None xs same = rw (nil_from_length xs (length_permutation _ _ same)) refl
 first_counters (Some r) xs same = rw (one_permutation (record { granted = r.granted; created = r.created }) xs same) refl
 
 -- there are counters where the holder is registered

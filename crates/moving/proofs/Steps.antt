@@ -1,5 +1,6 @@
 -- What the four statements do that move the rows of schema 1, and that together they move them.
 use Rattle.std.proofs.Common.{◌≡◌, ◌≢◌, ℕ, true, not, List, [], ◌∷◌, ◌++◌, map, filter, drop, Option, None, refl, sym, ap, ap₂, subst, ◌∙◌, append-nil, arith, IsPermutation}
+use Rattle.std.proofs.lemmas.List.{nil_from_length}
 use Rattle.std.proofs.lemmas.List.Sorted.{IsPermutation-map, IsPermutation-trans, length_permutation}
 use Rattle.sqlite.specs.Effect.{Database}
 use Rattle.sqlite.specs.State.{State, Writes}
@@ -119,10 +120,6 @@ module _ (s : Schema) (old new : State) (text : List ℕ) (count : ℕ) (has : o
 
 -- ---- all four
 
-none_in : {A : Type 0} (xs : List A) → IsPermutation [] xs → xs ≡ []
-none_in [] same = refl
-none_in (x ∷ xs) same = absurd (let e = length_permutation _ _ same in cc)
-
 -- a table of schema 1 is one of a desk, and neither of the two beside them
 old_is_other : (t : ℕ) → is_old_table t ≡ true → (is_table t ≡ true) × (t ≢ claim.tree) × (t ≢ entry.tree)
 old_is_other = each_table (λ t. (is_table t ≡ true) × (t ≢ claim.tree) × (t ≢ entry.tree)) old_tables (
@@ -209,7 +206,7 @@ module _ (old : Trees) (a b c d e : Database) (was : AreMovable old) (wide : IsW
   moved = record {
     claims = subst (λ l. IsPermutation (map claim_columns (contents (old auth.tree))) (contents l)) (sym claims_since) claims_there;
     entries = subst (λ l. IsPermutation (map entry_columns (contents (old auth.tree))) (contents l)) (sym entries_since) entries_there;
-    emptied = ap contents auths_since ∙ none_in (contents (d.trees auth.tree)) emptied.rows;
+    emptied = ap contents auths_since ∙ nil_from_length (contents (d.trees auth.tree)) (length_permutation _ _ emptied.rows);
     number = number_there;
     others = others;
     whole = each_table (λ t. IsTree (e.trees t)) desk_tables (

@@ -1,5 +1,6 @@
 -- The rows of an import that some authorization has the terms of.
 use Rattle.std.proofs.Common.{◌≡◌, ◌<◌, ◌+◌, ℕ, Bool, true, false, cond, ◌&&◌, ◌||◌, ◌==◌, List, [], ◌∷◌, ◌++◌, get_or, length, take, Option, Some, None, refl, ap, sym, ◌∙◌}
+use Rattle.std.proofs.Math.Bool.{or-false}
 use Rattle.std.proofs.lemmas.List.Folds.{list_any-append, list_any_more}
 use Rattle.std.specs.List.{list_any}
 use Rattle.std.specs.Ordering.{is_eq}
@@ -33,10 +34,6 @@ or_last false true = refl
 or_last true false = refl
 or_last true true = refl
 
-or_false : (a : Bool) → (a || false) ≡ a
-or_false false = refl
-or_false true = refl
-
 -- the row ties with this one
 abbrev ties_with : ImportRow → Option ImportRow → Bool
 ties_with row None = false
@@ -66,7 +63,7 @@ row_put old new auths x own is updates are row =
 
 no_row_put : (rows : BTreeSet ImportRow) (auths : List Auth) (x : Auth) → row_of x ≡ None → AreAuthorized rows auths → AreAuthorizedWith rows auths x
 no_row_put rows auths x is are row =
-    are row ∙ sym (or_false (list_any (has_terms (row_terms row)) auths)) ∙ ap (λ b. list_any (has_terms (row_terms row)) auths || b) (sym (has_row row x ∙ ap (ties_with row) is))
+    are row ∙ sym (or-false (list_any (has_terms (row_terms row)) auths)) ∙ ap (λ b. list_any (has_terms (row_terms row)) auths || b) (sym (has_row row x ∙ ap (ties_with row) is))
 
 -- the first authorizations and the next one
 module _ (auths : List Auth) (i : ℕ) (x : Auth) (low : i < length auths) (is : x ≡ get_or auths i x) where
@@ -89,4 +86,4 @@ pub row_authorized : (old new : BTreeSet ImportRow) (auths : List Auth) (x : Aut
 row_authorized old new auths x own of_terms updates are row =
     let test = has_terms (row_terms row) in
     row_put old new auths x own (ap row_of of_terms) updates are row
-    ∙ ap (λ b. list_any test auths || b) (sym (or_false (test x))) ∙ sym (list_any-append test auths (x ∷ []))
+    ∙ ap (λ b. list_any test auths || b) (sym (or-false (test x))) ∙ sym (list_any-append test auths (x ∷ []))

@@ -2,7 +2,7 @@
 use Rattle.std.proofs.Common.{◌≡◌, ℕ, Bool, true, false, cond, not, ◌||◌, List, [], ◌∷◌, ◌++◌, map, flat_map, filter, Option, Some, None, IsTrue, refl, sym, ap, subst, ◌∙◌, inl, inr, IsPermutation}
 use Rattle.std.specs.Prelude.{⊤}
 use Rattle.std.specs.List.{AllByRecursion, list_any}
-use Rattle.std.proofs.lemmas.List.Concat.{flat_map-append}
+use Rattle.std.proofs.lemmas.List.Concat.{flat_map-append, flat_map_single}
 use Rattle.std.proofs.lemmas.List.Sorted.{IsPermutation-append, IsPermutation-filter_both, IsPermutation-refl, IsPermutation-sym, IsPermutation-trans}
 use Rattle.sqlite_value.specs.declared.value.Value.{Value}
 use Rattle.sqlite_value.specs.declared.value.Value.TheVariants.{Null, Int, Real, Text, Blob}
@@ -12,7 +12,7 @@ use Rattle.sqlite_rules.proofs.ListLemmas.{all_from, all_has, has_left, has_righ
 use Rattle.sqlite_rules.proofs.ProbeLemmas.{mapped_has}
 use Rattle.sqlite_keyed.proofs.ListLemmas.{none_from_any}
 use Rattle.sqlite_trees.specs.Tree.{Trees}
-use Rattle.sqlite_trees.proofs.ListLemmas.{all-flat_map, all-map, all_of, all_weaker, flat_map-map, flat_map-one, flat_map_same_on}
+use Rattle.sqlite_trees.proofs.ListLemmas.{all-flat_map, all-map, all_of, all_weaker, flat_map-map, flat_map_same_on}
 use Rattle.addr.specs.Name.{is_name}
 use Rattle.registry.specs.History.{same_name}
 use Rattle.registry.specs.Rows.{Rows}
@@ -126,9 +126,6 @@ flat_map-flat_map : {X Y Z : Type 0} (g : Y → List Z) (f : X → List Y) (xs :
 flat_map-flat_map g f [] = refl
 flat_map-flat_map g f (x ∷ xs) = flat_map-append g (f x) (flat_map f xs) ∙ ap (λ l. flat_map g (f x) ++ l) (flat_map-flat_map g f xs)
 
-flat_map-ones : {X Y : Type 0} (f : X → Y) (xs : List X) → flat_map (λ x. f x ∷ []) xs ≡ map f xs
-flat_map-ones f xs = sym (flat_map-map (λ y. y ∷ []) f xs) ∙ flat_map-one (map f xs)
-
 abbrev beside : List ℕ → Auth → OfHolder Auth
 beside h x = record { holder = h; row = x }
 
@@ -176,8 +173,8 @@ pub some_auths :
 some_auths rows trees claims entries unused fit = record {
   auths = auths_of rows holders.each;
   fit = auths_fit rows fit holders.each;
-  claims_shown = subst (λ l. IsPermutation l (contents (trees claim.tree))) (flat_map-ones row_of_claim (auths_of rows holders.each))
-      (part_shown rows claim_part (λ x. row_of_claim x ∷ []) (λ h r. sym (flat_map-ones (λ x. row_of_claim (beside h x)) r.auths)) _ claims holders.each holders.apart
+  claims_shown = subst (λ l. IsPermutation l (contents (trees claim.tree))) (flat_map_single row_of_claim (auths_of rows holders.each))
+      (part_shown rows claim_part (λ x. row_of_claim x ∷ []) (λ h r. sym (flat_map_single (λ x. row_of_claim (beside h x)) r.auths)) _ claims holders.each holders.apart
       (λ c has. holders.kept _ (has_left of_claims of_entries _ (mapped_has (name_of_row claim_part) _ c has))));
   entries_shown =
       part_shown rows entry_part rows_of_entries (λ h r. refl) _ entries holders.each holders.apart

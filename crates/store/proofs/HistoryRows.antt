@@ -11,6 +11,7 @@ use Rattle.std.proofs.lemmas.List.Filters.{length-filter_both}
 use Rattle.sqlite_rules.proofs.ListLemmas.{has_contained, some_from}
 use Rattle.sqlite_trees.specs.Tree.{IsAscending}
 use Rattle.sqlite_trees.proofs.ListLemmas.{ascending_weaker}
+use Rattle.sqlite_keyed.proofs.SliceLemmas.{is_some-map}
 use Rattle.sqlite_keyed.proofs.SortLemmas.{sorted_unique}
 use Rattle.addr.specs.Address.{Address}
 use Rattle.addr.specs.Spans.{span_has, spans_have}
@@ -23,7 +24,6 @@ use Rattle.registry.specs.declared.authorization.Auth.{Auth}
 use Rattle.registry.specs.declared.authorization.AuthTerms.{AuthTerms}
 use Rattle.registry.specs.declared.command.Command.{Command}
 use Rattle.registry.specs.declared.command.Command.TheVariants.{Register, Delegate, Transfer, Reclaim, Grant, Revoke, Create, Amend, Withdraw, Import, Slurm}
-use Rattle.registry.specs.declared.command.Proposed.{Proposed}
 use Rattle.registry.specs.declared.grant.Granted.{Granted}
 use Rattle.registry.specs.declared.limits.TheConstants.{MOST_AUTHORIZATIONS}
 use Rattle.registry.specs.declared.rows.HolderRows.{HolderRows}
@@ -251,13 +251,9 @@ rows_registered : (history : History) (h : List ℕ) (rows : Option Rows) → Ro
 rows_registered history h None unregistered = sym unregistered
 rows_registered history h (Some r) registered = sym registered.0
 
-some_mapped : {X Y : Type 0} (f : X → Y) (o : Option X) → is_some (option_map f o) ≡ is_some o
-some_mapped f None = refl
-some_mapped f (Some x) = refl
-
 register_facts : (history : History) (h : List ℕ) (rows : Option Rows) (part : Option HolderRows) → RowsIfAny history h rows → AreCounted rows part → is_some part ≡ is_registered history h
 register_facts history h rows part of are =
-    sym (some_mapped (λ (p : HolderRows). p.granted) part) ∙ ap is_some are.granted ∙ some_mapped (λ (r : Rows). r.granted) rows ∙ rows_registered history h rows of
+    sym (is_some-map (λ (p : HolderRows). p.granted) part) ∙ ap is_some are.granted ∙ is_some-map (λ (r : Rows). r.granted) rows ∙ rows_registered history h rows of
 
 made_loaded : (history : History) (h : List ℕ) (rows : Option Rows) (made : Option ℕ) → RowsIfAny history h rows → made ≡ option_map (λ (r : Rows). r.granted) rows → IsMadeIfAny history h made
 made_loaded history h None made unregistered is = subst (IsMadeIfAny history h) (sym is) unregistered
@@ -267,7 +263,7 @@ delegate_facts : (charter : Charter) (history : History) (h : List ℕ) (p : Pre
     → AnswersDelegate history h p (option_map (λ (r : HolderRows). r.holdings) loaded.rows) loaded.answers.taken
 delegate_facts charter history h p all loaded legal has are =
     let rows = all.of_holder h in record {
-      registered = some_mapped (λ (r : HolderRows). r.holdings) loaded.rows ∙ are.holdings.registered ∙ rows_registered history h rows (has.holders h);
+      registered = is_some-map (λ (r : HolderRows). r.holdings) loaded.rows ∙ are.holdings.registered ∙ rows_registered history h rows (has.holders h);
       holdings = each loaded.rows are.holdings.runs (is_held charter history h rows legal (has.holders h)).holdings;
       free = tells_taken charter all history legal has p loaded.answers.taken (are.taken (runs_apart history all has));
     }

@@ -5,7 +5,7 @@ use Rattle.std.specs.List.{AllByRecursion, list_any}
 use Rattle.std.specs.List.Sorted.{IsStrictlySortedBy}
 use Rattle.std.specs.Ordering.{eq_by_cmp}
 use Rattle.std.proofs.Math.Bool.{or-false}
-use Rattle.std.proofs.lemmas.Bool.{cases_Bool, and_from, eq-eqb, eqb-true, false≢true}
+use Rattle.std.proofs.lemmas.Bool.{cases_Bool, and_from, and_parts, eq-eqb, eqb-true, false≢true}
 use Rattle.std.proofs.lemmas.Bool.Decides.{nat_tests}
 use Rattle.std.proofs.lemmas.List.{drop_more}
 use Rattle.std.proofs.lemmas.List.Filters.{length-filter_both}
@@ -15,7 +15,7 @@ use Rattle.sqlite.specs.Effect.{Database, IsDatabase}
 use Rattle.sqlite_rules.specs.Lists.{Has}
 use Rattle.sqlite_rules.proofs.ListLemmas.{all_from, has_filtered, some_from, some_has}
 use Rattle.sqlite_trees.specs.Tree.{IsAscending}
-use Rattle.sqlite_trees.proofs.ListLemmas.{all-append, all_weaker, all-permutation, ascending-append, filter_none, filter_same, all_of}
+use Rattle.sqlite_trees.proofs.ListLemmas.{all_weaker, all-permutation, ascending-append, filter_none, filter_same, all_of}
 use Rattle.addr.specs.declared.asn.Asn.{Asn}
 use Rattle.charters.specs.CharterSets.{CharterSets}
 use Rattle.registry.specs.declared.authorization.Auth.{Auth}
@@ -39,10 +39,6 @@ use Rattle.loads.proofs.GivenAuths.{created_shown}
 use Rattle.store.proofs.HeldOnce.{one_of_number}
 use Rattle.store.specs.PartLoaded.{IsForChanges}
 use Rattle.store.specs.steps.PartNumbers.{AreOfNumbers, asks_for, gives_numbered, has_number, some_asks_for}
-
-both_hold : (a b : Bool) → (a && b) ≡ true → (a ≡ true) × (b ≡ true)
-both_hold true b is = (refl, is)
-both_hold false b is = absurd (false≢true is)
 
 or_assoc : (a b c : Bool) → ((a || b) || c) ≡ (a || (b || c))
 or_assoc true b c = refl
@@ -99,7 +95,7 @@ module _ (auths : List Auth) (once : AreNumberedOnce auths) (x : Auth) (there : 
       elim (cases_Bool (list_any such auths)) [
         | inl some ↦
             let (y, has, is) = some_has such auths some in
-            let both = both_hold (x.number == y.number) (gives_some y asn es) is in
+            let both = and_parts (x.number == y.number) (gives_some y asn es) is in
             let same : x ≡ y = once x y there has (eqb-true _ _ both.0) in
             some ∙ sym (ap (λ (z : Auth). gives_some z asn es) same ∙ both.1)
         | inr none ↦ elim (cases_Bool (gives_some x asn es)) [

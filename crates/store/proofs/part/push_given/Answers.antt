@@ -1,4 +1,4 @@
-use Rattle.std.proofs.Common.{◌==◌, ◌||◌, ◌+◌, [], ◌∷◌, drop, arith, ap, sym, ◌∙◌}
+use Rattle.std.proofs.Common.{◌==◌, ◌||◌, ◌+◌, [], ◌∷◌, drop, arith, ap, ◌∙◌}
 use Rattle.std.proofs.lemmas.List.{drop_all}
 use Rattle.sqlite.specs.Held.{state}
 use Rattle.sqlite.specs.State.{HasCleanDisk}
