@@ -1,15 +1,23 @@
 -- The payloads that are of one of some claims. The claims rise by their holders and numbers, so a binary search finds one.
-use Rattle.std.proofs.Common.{◌≡◌, ℕ, List, [], length, Result, Ok, Err, is_ok, inl, inr, sym, ap, arith}
+use Rattle.std.proofs.Common.{◌≡◌, ℕ, Bool, true, false, cond, List, [], ◌∷◌, ◌++◌, map, length, MatchBool, Result, Ok, Err, is_ok, inl, inr, refl, sym, ap, subst, ◌∙◌, arith, append-nil}
 use Rattle.std.specs.Cmp.{IsTotalOrder}
 use Rattle.std.specs.List.Sorted.{IsBinarySearchResult, IsSearchInRange}
 use Rattle.std.specs.Ordering.{is_eq}
 use Rattle.std.proofs.lemmas.Bool.{cases_lt}
 use Rattle.std.proofs.lemmas.Cmp.{on_total, then_total}
+use Rattle.std.proofs.lemmas.List.{map-append}
+use Rattle.std.proofs.lemmas.List.Elements.{filter-append}
 use Rattle.std.proofs.lemmas.List.Folds.{list_any_none, list_any_at}
 use Rattle.std.proofs.lemmas.List.Sorted.{searchable_from_sorted}
 use Rattle.sqlite_value.specs.Order.{Row, column}
 use Rattle.sqlite_value.proofs.OrderLemmas.{value_cmp_total}
-use Rattle.loads.specs.steps.InForce.{claim_key, payload_key, key_order, is_claimed, ClaimsRise}
+use Rattle.sqlite_rules.specs.Lists.{Has}
+use Rattle.sqlite_rules.proofs.ListLemmas.{has_left, has_right}
+use Rattle.addr.specs.declared.vrp.Vrp.{Vrp}
+use Rattle.registry.specs.Values.{VrpFits}
+use Rattle.tables.specs.Cells.{vrp_cells}
+use Rattle.tables.specs.Decode.{ShowsNone}
+use Rattle.loads.specs.steps.InForce.{claim_key, payload_of, payload_key, key_order, is_claimed, of_claims, ClaimsRise, ShowVrps}
 
 pub key_total : IsTotalOrder key_order
 key_total = then_total (on_total (λ (r : Row). column r 0) value_cmp_total) (on_total (λ (r : Row). column r 1) value_cmp_total)
@@ -25,3 +33,39 @@ searched claims row (Err at) rise range place =
       | inl before ↦ ap is_eq (parted.0 k d (omega arith) before)
       | inr after ↦ ap is_eq (parted.1 k d after within)
     ]))
+
+-- what is told of claims that rise
+pub told : (claims own : List Row) (row : Row) (result b : Bool) → claims ≡ own → ClaimsRise own → (ClaimsRise claims → result ≡ is_claimed claims row) → result ≡ b → is_claimed own row ≡ b
+told claims own row result b same rise is said =
+    subst (λ l. is_claimed l row ≡ b) same (sym (is (subst ClaimsRise (sym same) rise)) ∙ said)
+
+-- ---- payloads that are taken one at a time
+
+module _ (claims rows : List Row) (row : Row) where
+  parted : of_claims claims (rows ++ row ∷ []) ≡ of_claims claims rows ++ of_claims claims (row ∷ [])
+  parted = ap (map payload_of) (filter-append (is_claimed claims) rows (row ∷ [])) ∙ map-append payload_of _ _
+
+  pub shows_the_same : (vrps : List Vrp) (is_read : Bool) → is_claimed claims row ≡ false → ShowVrps (of_claims claims rows) vrps is_read → ShowVrps (of_claims claims (rows ++ row ∷ [])) vrps is_read
+  shows_the_same vrps is_read none was =
+      let same = parted ∙ ap (λ (b : Bool). of_claims claims rows ++ map payload_of (cond b (row ∷ []) [])) none ∙ append-nil (of_claims claims rows) in
+      subst (λ l. ShowVrps l vrps is_read) (sym same) was
+
+  pub shows_no_more : (vrps : List Vrp) (is_read : Bool) → is_read ≡ false → ShowVrps (of_claims claims rows) vrps is_read → ShowVrps (of_claims claims (rows ++ row ∷ [])) vrps is_read
+  shows_no_more vrps is_read over was =
+      let none = was.unread over in
+      record {
+        read = λ is. absurd cc;
+        unread = λ _. (none.0, subst (λ l. Has l none.0) (sym parted) (has_left (of_claims claims rows) (of_claims claims (row ∷ [])) none.0 none.1), none.2);
+      }
+
+  pub shows_more : (vrps now : List Vrp) (was_read is_read : Bool) → was_read ≡ true → is_claimed claims row ≡ true → ShowVrps (of_claims claims rows) vrps was_read
+      → MatchBool is_read (map vrp_cells now ≡ map vrp_cells vrps ++ payload_of row ∷ []) (ShowsNone vrp_cells VrpFits (payload_of row))
+      → ShowVrps (of_claims claims (rows ++ row ∷ [])) now is_read
+  shows_more vrps now was_read is_read so_far claimed was shown =
+      let more : of_claims claims (rows ++ row ∷ []) ≡ of_claims claims rows ++ payload_of row ∷ [] =
+      parted ∙ ap (λ (b : Bool). of_claims claims rows ++ map payload_of (cond b (row ∷ []) [])) claimed in
+      subst (λ l. ShowVrps l now is_read) (sym more) (go is_read shown)
+    where
+      go : (is_read : Bool) → MatchBool is_read (map vrp_cells now ≡ map vrp_cells vrps ++ payload_of row ∷ []) (ShowsNone vrp_cells VrpFits (payload_of row)) → ShowVrps (of_claims claims rows ++ payload_of row ∷ []) now is_read
+      go true added = record { read = λ _. ap (λ l. l ++ payload_of row ∷ []) (was.read so_far) ∙ sym added; unread = λ is. absurd cc }
+      go false none = record { read = λ is. absurd cc; unread = λ _. (payload_of row, has_right (of_claims claims rows) (payload_of row ∷ []) (payload_of row) (inl refl), none) }

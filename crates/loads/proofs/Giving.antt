@@ -1,5 +1,5 @@
 -- The VRPs that the authorizations in force give, and the prefixes that are taken.
-use Rattle.std.proofs.Common.{◌≡◌, ◌↔◌, ◌≢◌, ℕ, true, ◌==◌, List, [], ◌∷◌, ◌++◌, map, Any, Contains, arith, refl, sym, ap, subst, ◌∙◌}
+use Rattle.std.proofs.Common.{◌≡◌, ◌↔◌, ◌≢◌, ℕ, true, ◌==◌, List, [], ◌∷◌, ◌++◌, map, Contains, arith, refl, sym, ap, subst, ◌∙◌}
 use Rattle.std.specs.Prelude.{AllPairs}
 use Rattle.std.proofs.lemmas.List.{get_or-map, length-map}
 use Rattle.std.proofs.lemmas.Bool.{and_parts, and_from, eqb-true, eq-eqb}
@@ -19,6 +19,7 @@ use Rattle.registry.specs.declared.authorization.RoaPrefix.{RoaPrefix}
 use Rattle.registry.specs.Terms.{is_entry, IsVrpOf, IsVrpOfEntry}
 use Rattle.registry.specs.Values.{AuthFits, VrpFits}
 use Rattle.tables.specs.Cells.{vrp_cells, number_cell, prefix_cells}
+use Rattle.tables.specs.Decode.{ShowsNone}
 use Rattle.addr.proofs.Equality.{equal_prefix, prefix_itself}
 use Rattle.addr.proofs.SpanLemmas.{met_iff}
 use Rattle.loads.specs.steps.InForce.{payload_cells, IsPayloadOn}
@@ -82,9 +83,9 @@ module _ (day : ℕ) (all : AllRows) (rows : List Row) (each : (row : Row) → C
   each_given vrps shown v = (is_given vrps shown v, has_given vrps shown v)
 
   -- rows of authorizations that give VRPs are read
-  pub given_read : AllGiveOn all day → ¬ Any (λ row. (v : Vrp) → VrpFits v → vrp_cells v ≢ row) rows
-  given_read give (at, row, low, is, none) =
-      let (h, r, x, e, of, in_r, in_x, from, until, shows) = (each row).0 (at, low, is) in
+  pub given_read : AllGiveOn all day → ¬ ((row : Row) × Has rows row × ShowsNone vrp_cells VrpFits row)
+  given_read give (row, has, none) =
+      let (h, r, x, e, of, in_r, in_x, from, until, shows) = (each row).0 (contains_had rows row has) in
       let (v, given, fits) = give h r x e of in_r in_x from until in
       none v fits (cells_of_entry x e v given ∙ sym shows)
 

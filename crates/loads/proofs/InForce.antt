@@ -7,7 +7,7 @@ use Rattle.std.proofs.lemmas.Int.{ints}
 use Rattle.std.proofs.lemmas.List.Sorted.{IsPermutation-sym, IsPermutation-map, list_any-IsPermutation}
 use Rattle.std.proofs.lemmas.Result.{IfOk-weaker}
 use Rattle.sqlite.specs.declared.error.Error.{Error}
-use Rattle.sqlite.specs.Effect.{Database, IsDatabase}
+use Rattle.sqlite.specs.Effect.{Database, IsDatabase, Reads}
 use Rattle.sqlite.specs.State.{State, Shown}
 use Rattle.sqlite_value.specs.declared.keys.Key.{Key}
 use Rattle.sqlite_value.specs.declared.value.Value.TheVariants.{Null, Text}
@@ -15,6 +15,7 @@ use Rattle.sqlite_value.specs.Order.{Row, column, value_cmp}
 use Rattle.sqlite_value.proofs.OrderLemmas.{value_cmp-Int, then-Equal}
 use Rattle.sqlite_sql.specs.declared.ops.CompareOp.TheVariants.{Le, Ge}
 use Rattle.sqlite_sql.specs.Term.{Term, eval_all}
+use Rattle.sqlite_schema.specs.declared.command.Command.{Command}
 use Rattle.sqlite_rules.specs.Lists.{Has}
 use Rattle.sqlite_rules.proofs.ListLemmas.{all_from, has_filtered, has_kept, has_contained, contains_had, some_has, some_from}
 use Rattle.sqlite_rules.proofs.ProbeLemmas.{mapped_has, has_mapped}
@@ -41,9 +42,11 @@ use Rattle.tables.proofs.Selecting.{picks, permuted, sorted}
 use Rattle.tables.proofs.SomeRow.{has_permuted, of_some, in_table, has_entry_row, entry_row_of}
 use Rattle.tables.proofs.Texts.{upwards}
 use Rattle.transactions.specs.Laws.{payload_columns, ClaimsDiffer}
+use Rattle.transactions.specs.steps.Statements.{AnswersSelect}
 use Rattle.tables.proofs.Columns.{shown_at, shown_columns}
 use Rattle.transactions.proofs.QueryLemmas.{reads_desk}
-use Rattle.loads.specs.steps.InForce.{claim_columns, entry_columns, payload_of, claim_key, payload_key, key_order, is_claimed, ClaimsRise, is_open_on, claims_on, is_claimed_on, FindsClaims, FindsPayloads, FindsInForce, IsPayloadOn}
+use Rattle.loads.specs.steps.InForce.{claim_columns, entry_columns, payload_of, claim_key, payload_key, key_order, is_claimed, ClaimsRise, is_open_on, claims_on, is_claimed_on, FindsClaims, FindsPayloads, FindsInForce, IsPayloadOn, of_claims}
+use Rattle.loads.specs.Loads.{IsOfAll}
 use Rattle.loads.proofs.Claimed.{key_total}
 use Rattle.loads.proofs.Finding.{of_contents}
 
@@ -88,28 +91,31 @@ module _ (day : ℕ) (old new : State) (has : IsTrue old.is_open → old.now.sch
 abbrev entry_places : List ℕ
 entry_places = 2 ∷ 3 ∷ 4 ∷ 5 ∷ 6 ∷ 0 ∷ 1 ∷ []
 
-pub finds_payloads : (old new : State) → (IsTrue old.is_open → old.now.schema.tables ≡ desk_tables) → (rows : List Row) → Shown SELECT_PAYLOADS.now [] old new rows → FindsPayloads old.now rows
-finds_payloads old new has rows shown =
-    let tree = old.now.trees entry.tree in
-    let read = reads_desk payloads_is [] old new rows has shown in
+finds_payloads : (db : Database) (rows : List Row) → AnswersSelect SELECT_PAYLOADS.now db rows → FindsPayloads db rows
+finds_payloads db rows answered =
+    let tree = db.trees entry.tree in
+    let answer = (subst (λ (k : Command). Reads k db [] rows) (payloads_is.is db.schema) answered).answer Null in
     let same = of_contents (λ r. eval_all (shown_at entry_places) ([] ∷ r ∷ [])) entry_columns (picks [] []) (λ _. true) (shown_columns entry_places []) (λ _. refl) tree in
     let every : filter (λ _. true) (contents tree) ≡ contents tree = filter_all _ (contents tree) (all_from _ (contents tree) (λ _ _. refl)) in
-    subst (λ l. IsPermutation l rows) (same ∙ ap (map entry_columns) every) (permuted entry.tree [] (shown_at entry_places) [] old.now.trees [] rows (read.answer Null))
+    subst (λ l. IsPermutation l rows) (same ∙ ap (map entry_columns) every) (permuted entry.tree [] (shown_at entry_places) [] db.trees [] rows answer)
 
 -- the payloads that are of one of the claims are those of the entries whose claims are in force
-pub claimed_found : (day : ℕ) (db : Database) (claims payloads : List Row) → FindsClaims day db claims → FindsPayloads db payloads → FindsInForce day db (map payload_of (filter (is_claimed claims) payloads))
-claimed_found day db claims payloads of_claims of_entries =
+claimed_found : (day : ℕ) (db : Database) (claims payloads : List Row) → FindsClaims day db claims → FindsPayloads db payloads → FindsInForce day db (of_claims claims payloads)
+claimed_found day db claims payloads found of_entries =
     let table = contents (db.trees entry.tree) in
     let same : filter (is_claimed claims) (map entry_columns table) ≡ map entry_columns (filter (is_claimed_on day db) table) =
     filter-map (is_claimed claims) entry_columns table
-    ∙ (λ i. map entry_columns (filter (λ c. sym (list_any-IsPermutation (λ d. is_eq (key_order (claim_key d) (payload_key (entry_columns c)))) (claims_on day db) claims of_claims) i) table)) in
+    ∙ (λ i. map entry_columns (filter (λ c. sym (list_any-IsPermutation (λ d. is_eq (key_order (claim_key d) (payload_key (entry_columns c)))) (claims_on day db) claims found) i) table)) in
     let shown = IsPermutation-map payload_of _ _ (IsPermutation-filter (is_claimed claims) _ _ of_entries) in
     subst (λ l. IsPermutation l (map payload_of (filter (is_claimed claims) payloads))) (ap (map payload_of) same ∙ map-map payload_of entry_columns _) shown
+
+pub taken_found : (day : ℕ) (db : Database) (claims payloads : List Row) → FindsClaims day db claims → AnswersSelect SELECT_PAYLOADS.now db payloads → FindsInForce day db (of_claims claims payloads)
+taken_found day db claims payloads found answered = claimed_found day db claims payloads found (finds_payloads db payloads answered)
 
 -- ---- what they are of the typed rows
 
 -- no two claims of a desk have the same holder and number
-pub numbers_differ : ClaimsDiffer → (db : Database) → IsDatabase db → db.schema.tables ≡ desk_tables → IsTree (db.trees claim.tree) → NumbersDiffer db.trees
+numbers_differ : ClaimsDiffer → (db : Database) → IsDatabase db → db.schema.tables ≡ desk_tables → IsTree (db.trees claim.tree) → NumbersDiffer db.trees
 numbers_differ differ db sound tables whole =
     let table = contents (db.trees claim.tree) in
     let every : filter (λ _. true) table ≡ table = filter_all _ table (all_from _ table (λ _ _. refl)) in
@@ -186,5 +192,9 @@ module _ (day : ℕ) (all : AllRows) (db : Database) (rows : List Row) (holds_cl
       let picked = has_kept (is_claimed_on day db) entries row kept claimed in
       subst (Contains rows) (sym is) (contains_had rows _ (has_permuted _ _ (payload_columns row) found (mapped_has payload_columns (filter (is_claimed_on day db) entries) row picked)))
 
-  pub each_in_force : (v : Row) → Contains rows v ↔ IsPayloadOn all day v
+  each_in_force : (v : Row) → Contains rows v ↔ IsPayloadOn all day v
   each_in_force v = (is_in_force v, has_in_force v)
+
+pub each_payload : (day : ℕ) (s : State) → ClaimsDiffer → IsDatabase s.now → s.now.schema.tables ≡ desk_tables → (rows : List Row) → FindsInForce day s.now rows → IsOfAll (λ all. (row : Row) → Contains rows row ↔ IsPayloadOn all day row) s
+each_payload day s differ sound tables rows found charter all holds =
+    each_in_force day all s.now rows holds.claims holds.entries (numbers_differ differ s.now sound tables (holds.whole claim.tree refl)) found

@@ -18,7 +18,7 @@ ghost use Rattle.tables.specs.TablesHold.{items_if_any};
 ghost use Rattle.transactions.specs.Queries.{IsAsked, IsClean, IsReadyToAsk};
 ghost use Rattle.loads.specs.steps.Queries.{SelectsWith, counters_if_any};
 
-use crate::across::in_force_rows;
+use crate::across::take_in_force;
 use crate::select::OfHolder;
 use addr::{Day, Holdings, Name, Span, Vrp};
 use registry::{Auth, Granted, HolderRows};
@@ -326,7 +326,11 @@ pub fn load_vrps<S: Alter>(
 {
     // For the proof: its contract says that what the connection shows obeys the schema.
     let _schema = conn.schema();
+    transactions::laws::claims_differ();
     transactions::laws::entries_differ();
-    let rows = in_force_rows(conn, day)?;
-    read_all(alloc, &rows)
+    let taken = take_in_force(conn, alloc, day)?;
+    let Some(vrps) = taken.into_vrps() else {
+        return Err(StoreFault::Schema);
+    };
+    Ok(vrps)
 }

@@ -1,6 +1,6 @@
--- Steps of reading: the authorizations of all holders that are in force on a day. Their claims and the payloads of all
--- entries are queried, and the payloads of no such claim are removed.
-use Rattle.std.specs.Prelude.{◌≡◌, ℕ, ◌≤◌, Bool, true, ◌&&◌, List, [], ◌∷◌, ◌++◌, map, filter, Contains, Some, IsPermutation, IsSorted}
+-- Steps of reading: the authorizations of all holders that are in force on a day. Their claims are queried, and of the
+-- payloads of all entries those of such a claim are taken, one at a time.
+use Rattle.std.specs.Prelude.{◌≡◌, ℕ, ◌≤◌, Bool, true, false, ◌&&◌, List, [], ◌∷◌, ◌++◌, map, filter, Contains, Some, IsPermutation, IsSorted}
 use Rattle.std.specs.List.{list_any}
 use Rattle.std.specs.declared.cmp.Ordering.{Ordering}
 use Rattle.std.specs.Ordering.{is_eq, then_cmp}
@@ -10,12 +10,15 @@ use Rattle.sqlite_value.specs.Order.{Row, column}
 use Rattle.sqlite_sql.specs.declared.ops.CompareOp.TheVariants.{Le, Ge}
 use Rattle.sqlite_sql.specs.declared.ops.BinaryOp.TheVariants.{Compare}
 use Rattle.sqlite_sql.specs.Ops.{binary, is_true}
+use Rattle.sqlite_rules.specs.Lists.{Has}
+use Rattle.addr.specs.declared.vrp.Vrp.{Vrp}
 use Rattle.registry.specs.declared.authorization.Auth.{Auth}
 use Rattle.registry.specs.declared.authorization.RoaPrefix.{RoaPrefix}
 use Rattle.registry.specs.Rows.{Rows}
 use Rattle.registry.specs.RowsOfAll.{AllRows}
-use Rattle.tables.specs.Cells.{number_cell, prefix_cells}
-use Rattle.tables.specs.Decode.{first_columns}
+use Rattle.registry.specs.Values.{VrpFits}
+use Rattle.tables.specs.Cells.{number_cell, prefix_cells, vrp_cells}
+use Rattle.tables.specs.Decode.{ShowsNone, first_columns}
 use Rattle.tables.specs.Tables.{claim, entry, columns, contents}
 use Rattle.transactions.specs.Laws.{payload_columns}
 use Rattle.loads.specs.steps.Queries.{by_column}
@@ -76,6 +79,17 @@ is_claimed_on day db c = is_claimed (claims_on day db) (entry_columns c)
 abbrev pub FindsInForce : ℕ → Database → List Row → Type 0
 FindsInForce day db rows =
     IsPermutation (map payload_columns (filter (is_claimed_on day db) (contents (db.trees entry.tree)))) rows
+
+-- ---- payloads that are taken one at a time
+
+-- the payloads that are of one of the claims
+abbrev pub of_claims : List Row → List Row → List Row
+of_claims claims rows = map payload_of (filter (is_claimed claims) rows)
+
+-- each payload shows a VRP, and these are they, or some payload shows none
+pub record ShowVrps (payloads : List Row) (vrps : List Vrp) (is_read : Bool) : Type 0 where
+  pub read : is_read ≡ true → payloads ≡ map vrp_cells vrps
+  pub unread : is_read ≡ false → (row : Row) × Has payloads row × ShowsNone vrp_cells VrpFits row
 
 -- ---- the authorizations
 
