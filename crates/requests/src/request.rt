@@ -1,11 +1,12 @@
 //! Reading requests: here from JSON lines.
-ghost use Rattle.std.specs.Prelude.{◌≡◌, Some, Err, true, IfOk, OnErr};
+ghost use Rattle.std.specs.Prelude.{◌≡◌, ◌≤◌, length, Some, Err, true, IfOk, OnErr};
 ghost use Rattle.serde_json.specs.View.{view};
 ghost use Rattle.json_values.specs.Parts.{mapped};
 ghost use Rattle.json_values.specs.Tree.{tree_of};
 ghost use Rattle.requests.specs.Actions.{takes_body};
 ghost use Rattle.requests.specs.RequestFaults.{action_in, request_fault};
 ghost use Rattle.requests.specs.RequestText.{ReadsLine};
+ghost use Rattle.requests.specs.declared.request.TheConstants.{LINE_LENGTH_LIMIT};
 ghost use Rattle.requests.specs.steps.RequestReading.{asked_as, asked_by, asked_in, asked_terms, line_subject, request_in, request_terms};
 
 mod commands;
@@ -48,6 +49,8 @@ pub fn read_line_request(alloc: Global, line: &[u8]) -> Result<Asked, LineFault>
     ensures ok { IfOk result (ReadsLine line.now) }
     ensures malformed { (m : Malformed) → result ≡ Err (LineFault.Malformed m)
         → request_fault line.now ≡ Some m }
+    // To refuse a line that is too long takes no memory.
+    ensures memory { result ≡ Err LineFault.Memory → length line.now ≤ LINE_LENGTH_LIMIT }
 {
     match asked_in(alloc, line) {
         Ok(Ok(asked)) => Ok(asked),
@@ -58,7 +61,8 @@ pub fn read_line_request(alloc: Global, line: &[u8]) -> Result<Asked, LineFault>
 
 /// The request of a line, or its lowest fault.
 fn asked_in(alloc: Global, line: &[u8]) -> Read<Asked>
-    ensures { IfOk result (λ asked. mapped asked_terms asked ≡ asked_in line.now) }
+    ensures read { IfOk result (λ asked. mapped asked_terms asked ≡ asked_in line.now) }
+    ensures memory { OnErr result (length line.now ≤ LINE_LENGTH_LIMIT) }
 {
     if line.len() > LINE_LENGTH_LIMIT {
         return Ok(Err(Fault::TooLong));
