@@ -1,8 +1,10 @@
 -- The answers to HTTP requests and the responses that give them.
-use Rattle.std.proofs.Common.{◌≡◌, ℕ, Bool, true, false, List, ◌++◌, codes, Option, Some, None, Result, Ok, Err, refl, ap, subst, ◌∙◌, append_assoc, get_or, inl, inr, is_some, sym, true≢false, option_copied, Bor}
+use Rattle.std.proofs.Common.{◌≡◌, ℕ, Bool, true, false, List, [], ◌∷◌, length, ◌++◌, codes, Option, Some, None, Result, Ok, Err, refl, ap, subst, ◌∙◌, append_assoc, get_or, inl, inr, is_some, sym, true≢false, option_copied, Bor}
 use Rattle.std.specs.Fmt.{digits}
 use Rattle.std.specs.Global.{Vec}
+use Rattle.std.proofs.lemmas.List.{append-nil, append_cancel_left}
 use Rattle.std.proofs.lemmas.Option.{same_Some}
+use Rattle.http_messages.specs.declared.head.TheConstants.{HEAD_LIMIT}
 use Rattle.std.specs.Prelude.{IfSome}
 use Rattle.std.specs.Result.{OnErr, OnOk}
 use Rattle.sqlite.specs.Store.{Ghosts}
@@ -73,6 +75,37 @@ pub gives-more : (before between after head rest : List ℕ) → Gives head befo
     → Gives (head ++ rest) before after
 gives-more before between after head rest given given_rest =
     given_rest ∙ ap (λ u. u ++ rest) given ∙ append_assoc before head rest
+
+-- where nothing more was given, these are no bytes
+given-none : (bytes before after : List ℕ) → Gives bytes before after → after ≡ before → bytes ≡ []
+given-none bytes before after given same =
+    append_cancel_left before bytes [] (sym given ∙ same ∙ sym (append-nil before))
+
+some-given : (b : ℕ) (bytes before after : List ℕ) → Gives (b ∷ bytes) before after → after ≡ before → ⊥
+some-given b bytes before after given same = let none = given-none (b ∷ bytes) before after given same in cc
+
+-- a whole head, and whatever comes after it, is some bytes
+pub head-given : (head rest before after : List ℕ) → IsWholeHead head → Gives (head ++ rest) before after → after ≡ before → ⊥
+head-given [] rest before after whole given same = let ends = whole.ends in cc
+head-given (b ∷ head) rest before after whole given same = some-given b (head ++ rest) before after given same
+
+pub whole-given : (head before after : List ℕ) → IsWholeHead head → Gives head before after → after ≡ before → ⊥
+whole-given [] before after whole given same = let ends = whole.ends in cc
+whole-given (b ∷ head) before after whole given same = some-given b head before after given same
+
+-- so are as many as a head may have
+pub limit-given : (bytes before after : List ℕ) → length bytes ≡ HEAD_LIMIT → Gives bytes before after → after ≡ before → ⊥
+limit-given [] before after full given same = cc
+limit-given (b ∷ bytes) before after full given same = some-given b bytes before after given same
+
+-- and a head with what was read on from it
+pub next-given : {A : Type 0} (next : Option A) (P : A → List ℕ → Type 0) (head before between after : List ℕ)
+    → IsWholeHead head → Gives head before between
+    → IfSome next (λ x. (rest : List ℕ) × Gives rest between after × P x rest)
+    → IfSome next (λ _. after ≡ before → ⊥)
+next-given None P head before between after whole given some = tt
+next-given (Some x) P head before between after whole given (rest, given_rest, _) =
+    head-given head rest before after whole (gives-more before between after head rest given given_rest)
 
 -- ---- desks
 

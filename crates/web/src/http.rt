@@ -1,5 +1,5 @@
 //! The desk over HTTP, one request a connection.
-ghost use Rattle.std.specs.Prelude.{◌≡◌, ◌++◌, ℕ, List, Err, true, IfOk, OnOk};
+ghost use Rattle.std.specs.Prelude.{◌≡◌, ◌≢◌, ◌++◌, ℕ, List, Err, None, true, IfOk, OnOk};
 ghost use Rattle.std.specs.Io.{appended_bytes};
 ghost use Rattle.streams.specs.Streams.{AppendsBeginning};
 ghost use Rattle.desk.specs.Desk.{KeepsRows};
@@ -125,6 +125,10 @@ pub fn serve_request<S: Source, D: Drain, A: Alter>(
     ensures kept { HasErrorStatus (appended_bytes (D.written drain.old) (D.written drain.new))
         → KeepsRows A.Store desk.old desk.new }
     ensures desk { IsLaterDesk A.Store desk.old desk.new }
+
+    // If the routes are given, no response comes before a byte was read.
+    ensures begun { routes.entry ≢ None → result ≢ Err WebFault.Read
+        → S.handed_out source.new ≢ S.handed_out source.old }
 {
     let Some(next) = read_next(alloc, routes, source, day) else {
         return Err(WebFault::Read);

@@ -1,5 +1,5 @@
 //! The request of a connection, read before anything is acted on.
-ghost use Rattle.std.specs.Prelude.{◌≡◌, ◌++◌, ◌<◌, ℕ, List, Ok, None, Some, length, IfSome};
+ghost use Rattle.std.specs.Prelude.{◌≡◌, ◌≢◌, ◌++◌, ◌<◌, ℕ, List, Ok, None, Some, length, IfSome};
 ghost use Rattle.std.specs.Option.{option_copied};
 ghost use Rattle.http_messages.specs.HeadEnd.{IsWholeHead};
 ghost use Rattle.http_messages.specs.Input.{Gives, IsOver};
@@ -53,6 +53,8 @@ pub(super) fn read_next<S: Source>(
         × Gives bytes (S.handed_out source.old) (S.handed_out source.new)
         × IsCutShort bytes
         × IsOver (S.has_ended source.new) (S.has_failed source.new) }
+    ensures begun { routes.entry ≢ None → IfSome result (λ _.
+        S.handed_out source.new ≢ S.handed_out source.old) }
 {
     if let Some(routes) = routes {
         return read_by(alloc, routes, source, day);
@@ -73,6 +75,7 @@ fn read_by<S: Source>(alloc: Global, routes: &Routes, source: &mut S, day: Day) 
         × Gives bytes (S.handed_out source.old) (S.handed_out source.new)
         × IsCutShort bytes
         × IsOver (S.has_ended source.new) (S.has_failed source.new) }
+    ensures begun { IfSome result (λ _. S.handed_out source.new ≢ S.handed_out source.old) }
 {
     let head = match read_head(source) {
         Ok(head) => head,

@@ -1,6 +1,6 @@
-use Rattle.std.proofs.Common.{◌++◌, Ok, refl, inr}
+use Rattle.std.proofs.Common.{◌++◌, Err, Ok, ap, refl, inr}
 use Rattle.requests.specs.RequestHeads.{SaysHead, head_view}
-use Rattle.web.proofs.HttpLemmas.{gives-more, next-read}
+use Rattle.web.proofs.HttpLemmas.{gives-more, limit-given, next-given, next-read, whole-given}
 use Rattle.web.proofs.http.reading.read_by.Goals as goal
 
 pub returns-in-Ok-read_request_head-clause-some : goal.returns-in-Ok-read_request_head-clause-some
@@ -25,3 +25,20 @@ returns-in-Ok-read_request_head-clause-none g c = λ is.
       inr (c.in-Ok.head.items, rest, head_view c.in-Ok-read_request_head.request, size, refl, whole, says, has, short),
       over,
     )
+
+pub returns-in-Err-TooLong-clause-begun : goal.returns-in-Err-TooLong-clause-begun
+returns-in-Err-TooLong-clause-begun g c =
+    let (bytes, given, full, lacks) = c.in-Err-TooLong.ensures.too_long (ap Err c.in-Err-TooLong.field-0-is) in
+    limit-given bytes (g.S.Source.handed_out c.args.source.now) (g.S.Source.handed_out c.read_head.new.source) full given
+
+pub returns-in-Err-clause-begun : goal.returns-in-Err-clause-begun
+returns-in-Err-clause-begun g c =
+    let (given, whole) = c.in-Ok.ensures.ok in
+    whole-given c.in-Ok.head.items (g.S.Source.handed_out c.args.source.now) (g.S.Source.handed_out c.read_head.new.source) whole given
+
+pub returns-in-Ok-read_request_head-clause-begun : goal.returns-in-Ok-read_request_head-clause-begun
+returns-in-Ok-read_request_head-clause-begun g c =
+    let (given, whole) = c.in-Ok.ensures.ok in
+    next-given c.read_rest.result _ c.in-Ok.head.items
+    (g.S.Source.handed_out c.args.source.now) (g.S.Source.handed_out c.read_head.new.source)
+    (g.S.Source.handed_out c.read_rest.new.source) whole given c.read_rest.ensures.some
