@@ -68,8 +68,7 @@ module _ {S : Type 0} (g : Ghosts S) where
       failed none_given none_written =
       let (bytes, text, given, responds, extent, written) = ok in
       let received : bytes ≡ given_new = sym (given ∙ ap (λ before. before ++ bytes) none_given) in
-      let sent : text ≡ written_new = sym (written ∙ ap (λ before. before ++ text) none_written) in
-      (
+      let sent : text ≡ written_new = sym (written ∙ ap (λ before. before ++ text) none_written) in (
         later,
         subst (λ b. RespondsTo g old day b written_new new) received (subst (λ t. RespondsTo g old day bytes t new) sent responds),
         subst (λ b. HasExtent day b written_new x) received (subst (λ t. HasExtent day bytes t x) sent extent),
