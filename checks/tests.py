@@ -32,7 +32,7 @@ VERDICT = re.compile(r"^test (\S+) \.\.\. (ok|FAILED)\n((?:[ \t].*\n)*)", re.M)
 # About how long the tests of a crate take one after the other, and those of a crate that is not named here.
 SECONDS = {
     "conformance": 263,
-    "failures": 2000,
+    "failures": 2600,
     "http_conformance": 128,
     "library_conformance": 50,
     "program_conformance": 207,

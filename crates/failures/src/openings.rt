@@ -159,6 +159,58 @@ fn refused_call_of_the_database_while_opened_and_closed(rt: HostRuntime) -> Resu
     fail_opening::<Refusing<Memory>>(&rt, rt.alloc(), false)
 }
 
+/// Makes a desk one of schema 1. None of these authorizations has more than one entry.
+const OLD: &str = "
+INSERT INTO auth SELECT holder, number, asn, family, lo, len, max, opens, ends
+    FROM claim JOIN entry USING (holder, number, asn);
+DROP INDEX holding_of;
+DROP TABLE entry;
+DROP TABLE claim;
+UPDATE meta SET value = 1;
+CREATE INDEX holding_of ON holding (holder);
+";
+
+/// The files of a desk of schema 1 that has all requests, closed.
+fn old_files(rt: &impl Abort, alloc: Global) -> Result<Files<Refusing<Memory>>, Fail> {
+    let mut conn = desk_after(rt, alloc, options(), REQUEST_COUNT)?.close();
+    conn.execute_batch(OLD)?;
+    match conn.close_files() {
+        Ok(files) => Ok(files),
+        Err((_, store)) => Ok(store.close()),
+    }
+}
+
+/// The file fails at each of its calls while a desk of schema 1 is opened, which moves it, and
+/// closed.
+fn fail_move<D: FailingFile + Drop>(
+    rt: &impl Abort,
+    alloc: Global,
+    is_log: bool,
+) -> Result<(), Fail> {
+    let found = old_files(rt, alloc)?;
+    fail_each_call::<D>(rt, alloc, Course::Lines, &found, is_log)
+}
+
+#[test]
+fn stop_of_the_log_while_moved(rt: HostRuntime) -> Result<(), Fail> {
+    fail_move::<Fuse<Memory>>(&rt, rt.alloc(), true)
+}
+
+#[test]
+fn stop_of_the_database_while_moved(rt: HostRuntime) -> Result<(), Fail> {
+    fail_move::<Fuse<Memory>>(&rt, rt.alloc(), false)
+}
+
+#[test]
+fn refused_call_of_the_log_while_moved(rt: HostRuntime) -> Result<(), Fail> {
+    fail_move::<Refusing<Memory>>(&rt, rt.alloc(), true)
+}
+
+#[test]
+fn refused_call_of_the_database_while_moved(rt: HostRuntime) -> Result<(), Fail> {
+    fail_move::<Refusing<Memory>>(&rt, rt.alloc(), false)
+}
+
 /// The file fails at each of its calls while a desk is made.
 fn fail_making<D: FailingFile + Drop>(
     rt: &impl Abort,
