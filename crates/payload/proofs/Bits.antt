@@ -1,9 +1,5 @@
 -- The bits of a prefix from some place on.
-use Rattle.std.proofs.Common.{◌≡◌, ℕ, zero, suc, ◌+◌, ◌-◌, ◌≤◌, ◌<◌, Bool, true, false, ◌==◌, [], ◌∷◌, length, refl, ap, ◌∙◌, arith, ◌↔◌, IsTrue}
-use Rattle.std.proofs.lemmas.Bool.{eq-eqb, ne_eqb, false≢true}
-use Rattle.addr.specs.Address.{bit_of}
-use Rattle.addr.specs.declared.prefix.Prefix.{Prefix}
-use Rattle.payload.specs.steps.Trie.{last_bits, bits_from}
+use Rattle.payload.proofs.Names.{◌≡◌, ℕ, zero, suc, ◌+◌, ◌-◌, ◌≤◌, ◌<◌, Bool, true, false, ◌==◌, [], ◌∷◌, length, refl, ap, ◌∙◌, arith, ◌↔◌, IsTrue, eq-eqb, ne_eqb, false≢true, bit_of, Prefix, last_bits, bits_from}
 
 pub is_one : (b : Bool) (n : ℕ) → IsTrue b ↔ (n ≡ 1) → (n == 1) ≡ b
 is_one true n is = eq-eqb n 1 (is.0 refl)

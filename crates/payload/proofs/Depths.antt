@@ -1,25 +1,5 @@
 -- The lengths at which a search has something to look at, as the nodes of a tree on a route's path.
-use Rattle.std.proofs.Common.{◌≡◌, ℕ, zero, suc, ◌+◌, ◌-◌, ◌*◌, ◌/◌, ◌%◌, ◌^◌, ◌≤◌, ◌<◌, Bool, true, false, not, ◌==◌, ◌&&◌, ◌||◌, nat_lt, if◌then◌else◌, List, [], ◌∷◌, length, filter, refl, sym, ap, ◌∙◌, subst, arith}
-use Rattle.std.specs.List.{All, list_any, range_with_len}
-use Rattle.std.proofs.Math.Bool.{and-false, and-true}
-use Rattle.std.proofs.Math.Nat.{div-div-eq-div-mul}
-use Rattle.std.proofs.lemmas.Bool.{and_parts, and_from, false_from_ne_true, le-leb, leb-true, lt-leb, eqb-true, eq-eqb}
-use Rattle.std.proofs.lemmas.List.Elements.{All-head, All-weaker}
-use Rattle.std.proofs.lemmas.List.Folds.{list_any_none}
-use Rattle.std.proofs.lemmas.Nat.{pow-add, div-add-mod', div-mul-add}
-use Rattle.addr.specs.Address.{bit_of, contains}
-use Rattle.addr.specs.Family.{width, family_eq}
-use Rattle.addr.specs.OriginValidation.{matches}
-use Rattle.addr.specs.declared.family.Family.{Family}
-use Rattle.addr.specs.declared.prefix.Prefix.{Prefix}
-use Rattle.addr.specs.declared.route.Route.{Route}
-use Rattle.addr.specs.declared.vrp.Vrp.{Vrp}
-use Rattle.addr.proofs.Equality.{family_itself, same_family}
-use Rattle.addr.proofs.PrefixOrderLemmas.{contains-ends}
-use Rattle.payload.specs.SearchDepths.{agrees, first_bits, is_matched_before}
-use Rattle.payload.specs.declared.originator.Originator.{Originator}
-use Rattle.payload.specs.steps.Tree.{Tree, Leaf, Fork, IsPruned, below, is_bare, nodes_on_path}
-use Rattle.payload.specs.steps.Trie.{authorizes, bits_from, half_first, half_vrps, node_vrps, originator_of, vrps_at, vrps_below}
+use Rattle.payload.proofs.Names.{◌≡◌, ℕ, zero, suc, ◌+◌, ◌-◌, ◌*◌, ◌/◌, ◌%◌, ◌^◌, ◌≤◌, ◌<◌, Bool, true, false, not, ◌==◌, ◌&&◌, ◌||◌, nat_lt, if◌then◌else◌, List, [], ◌∷◌, length, filter, refl, sym, ap, ◌∙◌, subst, arith, All, list_any, range_with_len, and-false, and-true, div-div-eq-div-mul, and_parts, and_from, false_from_ne_true, le-leb, leb-true, lt-leb, eqb-true, eq-eqb, All-head, All-weaker, list_any_none, pow-add, div-add-mod', div-mul-add, bit_of, contains, width, family_eq, matches, Family, Prefix, Route, Vrp, family_itself, same_family, contains-ends, agrees, first_bits, is_matched_before, Originator, Tree, Leaf, Fork, IsPruned, below, is_bare, nodes_on_path, authorizes, bits_from, half_first, half_vrps, node_vrps, originator_of, vrps_at, vrps_below}
 use Rattle.payload.proofs.Halves.{half, half-bit, contains-half, contains-trans, contains-longer, within-first}
 use Rattle.payload.proofs.TrieVrps.{HasLengths, contains-itself, node_vrps-cons, vrp_of, IsRound, any-node, any-parts, any-half, any-side, not-other, All-within}
 use Rattle.payload.proofs.TrieWalks.{walk}

@@ -1,20 +1,7 @@
 -- Fronts of lists of VRPs that rise.
-use Rattle.std.proofs.Common.{◌∙◌, ap, ◌≡◌, ℕ, ◌+◌, ◌-◌, ◌≤◌, ◌<◌, true, false, List, [], ◌∷◌, ◌++◌, take, drop, length, get_or, refl, sym, subst, length-append, arith, inl, inr, Ordering}
-use Rattle.std.specs.List.{All, AllWithin, slice_range}
-use Rattle.std.specs.List.Sorted.{IsPartitionPoint, IsPartitionedBy}
-use Rattle.std.specs.Ordering.{is_le, ordering_then}
-use Rattle.std.specs.declared.cmp.Ordering.TheVariants.{Less, Equal, Greater}
-use Rattle.std.proofs.lemmas.Bool.{both_ways, cases_Bool, cases_lt}
+use Rattle.payload.proofs.Names.{◌∙◌, ap, ◌≡◌, ℕ, ◌+◌, ◌-◌, ◌≤◌, ◌<◌, true, false, List, [], ◌∷◌, ◌++◌, take, drop, length, get_or, refl, sym, subst, arith, inl, inr, Ordering, All, AllWithin, slice_range, IsPartitionPoint, IsPartitionedBy, is_le, ordering_then, Less, Equal, Greater, both_ways, cases_Bool, cases_lt, get_or_read, take-append-drop, get_or_append_left, get_or-take, get_or-drop, get_or-append-add, get_or_at, length-take-le, length-drop, Prefix, Vrp, contains, contains-between, contains-at_most, AreRising, is_at_most, IsFrontUpTo, HasAllEnclosing, vrp_cmp, le-trans, prefix_order}
+use Rattle.std.proofs.Common.{length-append}
 use Rattle.std.proofs.lemmas.List.Edits.{get_or-between, length-between}
-use Rattle.std.proofs.lemmas.List.{get_or_read, take-append-drop, get_or_append_left, get_or-take, get_or-drop, get_or-append-add, get_or_at, length-take-le, length-drop}
-use Rattle.addr.specs.declared.prefix.Prefix.{Prefix}
-use Rattle.addr.specs.declared.vrp.Vrp.{Vrp}
-use Rattle.addr.specs.Address.{contains}
-use Rattle.addr.proofs.PrefixOrderLemmas.{contains-between, contains-at_most}
-use Rattle.payload.specs.Rising.{AreRising}
-use Rattle.payload.specs.steps.Search.{is_at_most, IsFrontUpTo, HasAllEnclosing}
-use Rattle.addr.specs.Order.{vrp_cmp}
-use Rattle.addr.proofs.OrderLemmas.{le-trans, prefix_order}
 
 pub rising-front : (xs ys : List Vrp) → AreRising (xs ++ ys) → AreRising xs
 rising-front xs ys rising i j d less within =

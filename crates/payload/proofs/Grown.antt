@@ -1,13 +1,6 @@
 -- Trees that have what they have at the end of a path of bits.
-use Rattle.std.proofs.Common.{◌≡◌, ℕ, suc, ◌+◌, ◌≤◌, ◌<◌, Bool, true, false, not, ◌&&◌, List, [], ◌∷◌, ◌++◌, length, take, drop, refl, sym, ap, ◌∙◌, subst, arith, inl, inr, Result, Ok, Err}
-use Rattle.std.specs.Prelude.{OnOk, OnErr}
-use Rattle.std.proofs.lemmas.List.{length-append, length-take-le, take-append-drop, take_all}
-use Rattle.std.proofs.lemmas.List.Elements.{All-cons, All-nil}
-use Rattle.std.proofs.lemmas.Bool.{cases_lt}
+use Rattle.payload.proofs.Names.{◌≡◌, ℕ, suc, ◌+◌, ◌≤◌, ◌<◌, Bool, true, false, not, ◌&&◌, List, [], ◌∷◌, ◌++◌, length, take, drop, refl, sym, ap, ◌∙◌, subst, arith, inl, inr, Result, Ok, Err, OnOk, OnErr, length-append, length-take-le, take-append-drop, take_all, All-cons, All-nil, cases_lt, Originator, common, Tree, Leaf, Fork, Top, tree, above, chain, grown, AreOriginators, IsInserted, IsRemoved, IsPruned, has, has_on_path, is_bare, is_place, nodes_on_path, same_tops}
 use mathlib.Core.Bool.{beq}
-use Rattle.payload.specs.declared.originator.Originator.{Originator}
-use Rattle.payload.specs.steps.Skipped.{common}
-use Rattle.payload.specs.steps.Tree.{Tree, Leaf, Fork, Top, tree, above, chain, grown, AreOriginators, IsInserted, IsRemoved, IsPruned, has, has_on_path, is_bare, is_place, nodes_on_path, same_tops}
 use Rattle.payload.proofs.Trees.{and-none, bare-none, changed-grown, changed-one, changed-zero, full-inserted, has-leaf, removed-leaf}
 use Rattle.payload.proofs.TrieWalks.{on-path-leaf}
 

@@ -1,17 +1,6 @@
 -- The two halves of a prefix, by the bit after its last.
-use Rattle.std.proofs.Common.{◌≡◌, ℕ, suc, ◌+◌, ◌-◌, ◌*◌, ◌/◌, ◌%◌, ◌^◌, ◌≤◌, ◌<◌, Bool, true, false, ◌==◌, List, [], ◌∷◌, length, refl, sym, ap, ◌∙◌, subst, arith, inl, inr}
-use Rattle.std.proofs.lemmas.Bool.{cases_lt, eq-eqb, ne_eqb}
-use Rattle.std.proofs.lemmas.List.{append-nil}
-use Rattle.std.proofs.lemmas.Nat.{pow_pos, pow-add, pow_below, div-add-mod', div-mul-add}
-use Rattle.std.proofs.Math.Nat.{mul-add, add-mul, add-mul-mod_self_right, mod-eq_of_lt}
-use Rattle.addr.specs.Family.{width}
-use Rattle.addr.specs.Address.{bit_of, contains, same_prefix}
-use Rattle.addr.specs.declared.prefix.Prefix.{Prefix}
-use Rattle.addr.proofs.AddressLemmas.{below_widest, multiple-at_most}
-use Rattle.addr.proofs.PrefixOrderLemmas.{block-within, contains-ends, ends-contains, first-size}
-use Rattle.payload.specs.steps.Skipped.{number_of}
-use Rattle.payload.specs.steps.Tree.{Top, Tree, above, grown, tree}
-use Rattle.payload.specs.steps.Trie.{half_first, half_vrps, vrps_at, vrps_below}
+use Rattle.payload.proofs.Names.{◌≡◌, ℕ, suc, ◌+◌, ◌-◌, ◌*◌, ◌/◌, ◌%◌, ◌^◌, ◌≤◌, ◌<◌, Bool, true, false, ◌==◌, List, [], ◌∷◌, length, refl, sym, ap, ◌∙◌, subst, arith, inl, inr, cases_lt, eq-eqb, ne_eqb, append-nil, pow_pos, pow-add, pow_below, div-add-mod', div-mul-add, mul-add, add-mul, add-mul-mod_self_right, width, bit_of, contains, same_prefix, Prefix, below_widest, multiple-at_most, block-within, contains-ends, ends-contains, first-size, number_of, Top, Tree, above, grown, tree, half_first, half_vrps, vrps_at, vrps_below}
+use Rattle.std.proofs.Math.Nat.{mod-eq_of_lt}
 
 -- how many addresses half of the prefix has
 abbrev pub half_size : Prefix → ℕ

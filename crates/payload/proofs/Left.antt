@@ -1,16 +1,5 @@
 -- A search that has looked at the VRPs from some place on.
-use Rattle.std.proofs.Common.{lit<, ◌≡◌, Bool, true, false, ◌&&◌, ◌||◌, nat_le, List, [], ◌∷◌, ◌++◌, get_or, sym, ap, ◌∙◌, subst}
-use Rattle.std.specs.List.{All, list_any}
-use Rattle.std.proofs.lemmas.Bool.{and_left}
-use Rattle.std.proofs.Math.Bool.{or-false, or-true, and-false}
-use Rattle.std.proofs.lemmas.List.Folds.{list_any-append, list_any_none}
-use Rattle.addr.specs.OriginValidation.{covers, matches, is_from}
-use Rattle.addr.specs.declared.route.Route.{Route}
-use Rattle.addr.specs.declared.vrp.Vrp.{Vrp}
-use Rattle.addr.specs.Order.{vrp_cmp}
-use Rattle.std.specs.declared.cmp.Ordering.TheVariants.{Less}
-use Rattle.payload.specs.Rising.{AreRising}
-use Rattle.payload.specs.steps.Search.{is_at_most, IsFrontUpTo, HasAllEnclosing, HasAllMatching}
+use Rattle.payload.proofs.Names.{lit<, ◌≡◌, Bool, true, false, ◌&&◌, ◌||◌, nat_le, List, [], ◌∷◌, ◌++◌, get_or, sym, ap, ◌∙◌, subst, All, list_any, and_left, or-false, or-true, and-false, list_any-append, list_any_none, covers, matches, is_from, Route, Vrp, vrp_cmp, Less, AreRising, is_at_most, IsFrontUpTo, HasAllEnclosing, HasAllMatching}
 use Rattle.payload.proofs.Fronts.{All-front, All-back, rising-before, rising-last, rising-front, enclosing-up_to}
 
 -- what is left to look at decides the state: of the VRPs already passed none matches the route, and some cover it or none

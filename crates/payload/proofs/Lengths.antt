@@ -1,21 +1,8 @@
 -- Lists of VRPs whose prefixes are no shorter than some length.
-use Rattle.std.proofs.Common.{◌≡◌, ℕ, ◌+◌, ◌≤◌, ◌<◌, List, [], ◌++◌, take, length, get_or, true, not, ◌&&◌, ◌||◌, refl, ap, subst, arith, inl, inr}
-use Rattle.std.specs.List.{All, list_any}
-use Rattle.std.proofs.lemmas.List.{take_all}
-use Rattle.std.proofs.lemmas.List.Elements.{All-more, All-weaker}
-use Rattle.std.proofs.lemmas.Bool.{cases_Bool}
-use Rattle.addr.specs.Address.{contains}
-use Rattle.addr.specs.declared.prefix.Prefix.{Prefix}
-use Rattle.payload.specs.steps.Search.{is_at_most, HasAllEnclosing}
+use Rattle.payload.proofs.Names.{◌≡◌, ℕ, ◌+◌, ◌≤◌, ◌<◌, List, [], ◌++◌, take, length, get_or, true, not, ◌&&◌, ◌||◌, refl, ap, subst, arith, inl, inr, All, list_any, take_all, All-more, All-weaker, cases_Bool, contains, Prefix, is_at_most, HasAllEnclosing, contains-between, contains-ends, Family, Vrp, vrp_order, All-inserted, All-removed, shortest_in, AreNoShorter}
 use Rattle.payload.proofs.Fronts.{All-front}
-use Rattle.addr.proofs.PrefixOrderLemmas.{contains-between, contains-ends}
-use Rattle.addr.specs.declared.family.Family.{Family}
-use Rattle.addr.specs.declared.vrp.Vrp.{Vrp}
-use Rattle.addr.proofs.OrderLemmas.{vrp_order}
 use Rattle.payload.proofs.Sets.{is_vrp}
-use Rattle.sorted_items.proofs.Places.{All-inserted, All-removed}
 use Rattle.payload.specs.declared.shortest.Shortest.{Shortest}
-use Rattle.payload.specs.steps.Shortest.{shortest_in, AreNoShorter}
 
 weaker : (s t : Shortest) (vrps : List Vrp) → ((f : Family) → shortest_in t f ≤ shortest_in s f) → AreNoShorter s vrps → AreNoShorter t vrps
 weaker s t vrps less all =

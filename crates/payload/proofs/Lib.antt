@@ -5,6 +5,7 @@ pub mod Grown
 pub mod Halves
 pub mod Left
 pub mod Lengths
+pub mod Names
 pub mod Places
 pub mod Prefixes
 pub mod Sets

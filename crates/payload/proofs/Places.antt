@@ -1,14 +1,6 @@
 -- Lists of VRPs that rise, by the order that the code compares by.
-use Rattle.std.proofs.Common.{◌≡◌, refl, not, ◌&&◌, ◌||◌, List, sym, ap, ◌∙◌, subst, Ordering}
-use Rattle.std.specs.List.{list_any}
-use Rattle.std.specs.List.Sorted.{IsStrictlySortedBy}
-use Rattle.std.specs.Ordering.{eq_by_cmp}
+use Rattle.payload.proofs.Names.{◌≡◌, refl, not, ◌&&◌, ◌||◌, List, sym, ap, ◌∙◌, subst, Ordering, list_any, IsStrictlySortedBy, eq_by_cmp, Vrp, vrp_cmp, derived_vrp_cmp, derived_vrp_order, AreRising, RiseBy}
 use Rattle.std.proofs.lemmas.Map.Keys.{Less-from_sorted}
-use Rattle.addr.specs.declared.vrp.Vrp.{Vrp}
-use Rattle.addr.specs.Order.{vrp_cmp}
-use Rattle.addr.proofs.OrderLemmas.{derived_vrp_cmp, derived_vrp_order}
-use Rattle.payload.specs.Rising.{AreRising}
-use Rattle.sorted_items.specs.Rising.{RiseBy}
 use Rattle.payload.specs.VrpSet as set
 use Rattle.payload.proofs.Sets.{is_vrp, contains-from_list, items-from_list, same_from_list}
 

@@ -1,15 +1,7 @@
 -- Sets of VRPs made from lists.
-use Rattle.std.proofs.Common.{T, zero, get_or, ◌<◌, ◌≡◌, ℕ, suc, Bool, true, false, cond, not, ◌&&◌, ◌||◌, Option, Some, None, is_some, List, [], ◌∷◌, map, length, refl, sym, ap, ◌∙◌, arith, Ordering, lit<}
-use Rattle.std.specs.Cmp.{Equal-is}
+use Rattle.payload.proofs.Names.{T, zero, get_or, ◌<◌, ◌≡◌, ℕ, suc, Bool, true, false, cond, not, ◌&&◌, ◌||◌, Option, Some, None, is_some, List, [], ◌∷◌, map, length, refl, sym, ap, ◌∙◌, arith, Ordering, lit<, Equal-is, list_any, eq_by_cmp, is_lt, Less, Equal, Greater, Vrp, AreRising, vrp_cmp, vrp_order}
 use Rattle.std.specs.FinMap as maps
 use Rattle.std.specs.FinMap.Entries.{below_all, by_order, is_sorted, put}
-use Rattle.std.specs.List.{list_any}
-use Rattle.std.specs.Ordering.{eq_by_cmp, is_lt}
-use Rattle.std.specs.declared.cmp.Ordering.TheVariants.{Less, Equal, Greater}
-use Rattle.addr.specs.declared.vrp.Vrp.{Vrp}
-use Rattle.payload.specs.Rising.{AreRising}
-use Rattle.addr.specs.Order.{vrp_cmp}
-use Rattle.addr.proofs.OrderLemmas.{vrp_order}
 use Rattle.payload.specs.VrpSet as set
 
 -- two VRPs are one

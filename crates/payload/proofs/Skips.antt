@@ -1,12 +1,5 @@
 -- The lowest bits of a number as a path.
-use Rattle.std.proofs.Common.{◌≡◌, ℕ, zero, suc, ◌+◌, ◌-◌, ◌*◌, ◌/◌, ◌%◌, ◌^◌, ◌≤◌, ◌<◌, Bool, ◌==◌, List, ◌∷◌, ◌++◌, length, take, drop, refl, sym, ap, ◌∙◌, arith}
-use Rattle.std.proofs.Math.Nat.{div-div-eq-div-mul, mod-lt}
-use Rattle.std.proofs.lemmas.List.{take_all}
-use Rattle.std.proofs.lemmas.Nat.{mod-pow-add, pow-add}
-use Rattle.addr.specs.Family.{width}
-use Rattle.addr.specs.declared.prefix.Prefix.{Prefix}
-use Rattle.payload.specs.steps.Skipped.{common, low_bits, number_of}
-use Rattle.payload.specs.steps.Trie.{bits_from, last_bits}
+use Rattle.payload.proofs.Names.{◌≡◌, ℕ, zero, suc, ◌+◌, ◌-◌, ◌*◌, ◌/◌, ◌%◌, ◌^◌, ◌≤◌, ◌<◌, Bool, ◌==◌, List, ◌∷◌, ◌++◌, length, take, drop, refl, sym, ap, ◌∙◌, arith, div-div-eq-div-mul, mod-lt, take_all, mod-pow-add, pow-add, width, Prefix, common, low_bits, number_of, bits_from, last_bits}
 use Rattle.payload.proofs.Bits.{length-bits_from}
 use Rattle.payload.proofs.Grown.{common-front, common-most}
 

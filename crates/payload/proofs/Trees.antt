@@ -1,17 +1,6 @@
 -- Trees, by what is at the end of each path.
-use Rattle.std.proofs.Common.{◌≡◌, ℕ, ◌≤◌, Bool, true, false, not, ◌&&◌, ◌||◌, List, [], ◌∷◌, ◌++◌, refl, sym, ap, ◌∙◌, subst, Result, Ok, Err}
-use Rattle.std.specs.Prelude.{OnOk, OnErr}
-use Rattle.std.specs.Cmp.{IsTotalOrder, nat_cmp_total, on_total, then_total}
+use Rattle.payload.proofs.Names.{◌≡◌, ℕ, ◌≤◌, Bool, true, false, not, ◌&&◌, ◌||◌, List, [], ◌∷◌, ◌++◌, refl, sym, ap, ◌∙◌, subst, Result, Ok, Err, OnOk, OnErr, IsTotalOrder, nat_cmp_total, on_total, then_total, list_any, eq_by_cmp, is_eq, Equal, tied_itself, both_equal, RiseBy, Originator, Tree, Leaf, Fork, Top, tree, AreOriginators, IsInserted, IsRemoved, grown, has, is_bare, is_place, chain, originator_cmp, same_originator, All-inserted, All-removed}
 use Rattle.std.specs.FinMap.{nat_cmp-IsAntisymmetric}
-use Rattle.std.specs.List.{list_any}
-use Rattle.std.specs.Ordering.{eq_by_cmp, is_eq}
-use Rattle.std.specs.declared.cmp.Ordering.TheVariants.{Equal}
-use Rattle.std.proofs.lemmas.Cmp.{tied_itself}
-use Rattle.addr.proofs.OrderLemmas.{both_equal}
-use Rattle.sorted_items.specs.Rising.{RiseBy}
-use Rattle.payload.specs.declared.originator.Originator.{Originator}
-use Rattle.payload.specs.steps.Tree.{Tree, Leaf, Fork, Top, tree, AreOriginators, IsInserted, IsRemoved, grown, has, is_bare, is_place, chain, originator_cmp, same_originator}
-use Rattle.sorted_items.proofs.Places.{All-inserted, All-removed}
 
 abbrev pub is_originator : Originator → Originator → Bool
 is_originator o q = eq_by_cmp originator_cmp o q

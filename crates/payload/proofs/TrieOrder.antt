@@ -1,26 +1,7 @@
 -- The VRPs of a tree rise.
-use Rattle.std.proofs.Common.{◌≡◌, suc, ◌<◌, true, false, List, [], ◌∷◌, ◌++◌, refl, sym, ap, ◌∙◌, subst, arith, inl, inr}
-use Rattle.std.specs.List.{All, AllPairs}
-use Rattle.std.specs.declared.cmp.Ordering.TheVariants.{Less, Equal}
-use Rattle.std.proofs.lemmas.Bool.{cases_lt}
-use Rattle.std.proofs.lemmas.Cmp.{tied_itself}
-use Rattle.std.proofs.lemmas.List.Elements.{All-append, All-head, All-tail}
+use Rattle.payload.proofs.Names.{◌≡◌, suc, ◌<◌, true, false, List, [], ◌∷◌, ◌++◌, refl, sym, ap, ◌∙◌, subst, arith, inl, inr, All, AllPairs, Less, Equal, cases_lt, tied_itself, All-append, All-head, All-tail, contains, width, family_cmp, prefix_cmp, vrp_cmp, Family, V4, V6, Prefix, Vrp, prefix_order, AreRising, RiseBy, Originator, Tree, Leaf, Fork, IsPruned, originator_cmp, half_vrps, node_vrps, vrps_at, cmp-less, cmp-equal, contains-ends}
 use Rattle.std.proofs.lemmas.List.Kept.{AllPairs-cons}
-use Rattle.addr.specs.Address.{contains}
-use Rattle.addr.specs.Family.{width}
-use Rattle.addr.specs.Order.{family_cmp, prefix_cmp, vrp_cmp}
-use Rattle.addr.specs.declared.family.Family.{Family}
-use Rattle.addr.specs.declared.family.Family.TheVariants.{V4, V6}
-use Rattle.addr.specs.declared.prefix.Prefix.{Prefix}
-use Rattle.addr.specs.declared.vrp.Vrp.{Vrp}
-use Rattle.addr.proofs.OrderLemmas.{prefix_order}
-use Rattle.payload.specs.Rising.{AreRising}
-use Rattle.sorted_items.specs.Rising.{RiseBy}
-use Rattle.payload.specs.declared.originator.Originator.{Originator}
-use Rattle.payload.specs.steps.Tree.{Tree, Leaf, Fork, IsPruned, originator_cmp}
-use Rattle.payload.specs.steps.Trie.{half_vrps, node_vrps, vrps_at}
 use Rattle.payload.proofs.Halves.{half, contains-half, contains-trans, contains-longer, within-first}
-use Rattle.addr.proofs.PrefixOrderLemmas.{cmp-less, cmp-equal, contains-ends}
 use Rattle.payload.proofs.TrieVrps.{All-half, HasLengths, node_vrps-cons, leaf-or-room, vrp_of, All-node}
 
 -- each item of the one list before each of the other

@@ -1,31 +1,8 @@
 -- The VRPs of a trie: they rise, what state they give a route, and at which lengths a search looks.
-use Rattle.std.proofs.Common.{◌≡◌, ℕ, suc, ◌+◌, ◌≤◌, ◌<◌, Bool, true, false, not, ◌==◌, ◌&&◌, ◌||◌, nat_lt, get_or, if◌then◌else◌, List, [], ◌∷◌, ◌++◌, length, take, drop, filter, refl, sym, ap, ◌∙◌, subst, inl, inr, arith}
-use Rattle.std.proofs.Math.Bool.{and-false, and-true, or-false}
-use Rattle.std.specs.List.{All, list_any, range_with_len}
-use Rattle.std.specs.declared.cmp.Ordering.TheVariants.{Less}
-use Rattle.std.proofs.lemmas.Bool.{cases_Bool, false_from_ne_true, false≢true, and_parts, lt-leb, ne_eqb}
-use Rattle.std.proofs.lemmas.List.{take-append-drop}
-use Rattle.std.proofs.lemmas.List.Elements.{All-weaker}
+use Rattle.payload.proofs.Names.{◌≡◌, ℕ, suc, ◌+◌, ◌≤◌, ◌<◌, Bool, true, false, not, ◌==◌, ◌&&◌, ◌||◌, nat_lt, get_or, if◌then◌else◌, List, [], ◌∷◌, ◌++◌, length, take, drop, filter, refl, sym, ap, ◌∙◌, subst, inl, inr, arith, and-false, and-true, or-false, All, list_any, range_with_len, Less, cases_Bool, false_from_ne_true, false≢true, and_parts, lt-leb, ne_eqb, take-append-drop, All-weaker, list_any-append, list_any_none, bit_of, contains, width, ValidationState, Valid, Invalid, NotFound, covers, matches, validation_state, vrp_cmp, Family, V4, V6, Prefix, Route, Vrp, same_family, contains-ends, AreRising, agrees, is_matched_before, is_reached, search_depths, Originator, Tree, Fork, IsPruned, below, has_on_path, nodes_on_path, authorizes, bits_from, half_vrps, joined_state, node_vrps, originator_of, state_among, state_below, trie_vrps, vrps_at, vrps_below, walked_state, whole}
 use Rattle.std.proofs.lemmas.List.FromFn.{length-range_with_len}
 use Rattle.std.proofs.lemmas.List.Sums.{count_by-le-length, length-filter}
-use Rattle.std.proofs.lemmas.List.Folds.{list_any-append, list_any_none}
-use Rattle.addr.specs.Address.{bit_of, contains}
-use Rattle.addr.specs.Family.{width}
-use Rattle.addr.specs.OriginValidation.{ValidationState, Valid, Invalid, NotFound, covers, matches, validation_state}
-use Rattle.addr.specs.Order.{vrp_cmp}
-use Rattle.addr.specs.declared.family.Family.{Family}
-use Rattle.addr.specs.declared.family.Family.TheVariants.{V4, V6}
-use Rattle.addr.specs.declared.prefix.Prefix.{Prefix}
-use Rattle.addr.specs.declared.route.Route.{Route}
-use Rattle.addr.specs.declared.vrp.Vrp.{Vrp}
-use Rattle.addr.proofs.Equality.{same_family}
-use Rattle.addr.proofs.PrefixOrderLemmas.{contains-ends}
-use Rattle.payload.specs.Rising.{AreRising}
-use Rattle.payload.specs.SearchDepths.{agrees, is_matched_before, is_reached, search_depths}
 use Rattle.payload.specs.VrpSet as set
-use Rattle.payload.specs.declared.originator.Originator.{Originator}
-use Rattle.payload.specs.steps.Tree.{Tree, Fork, IsPruned, below, has_on_path, nodes_on_path}
-use Rattle.payload.specs.steps.Trie.{authorizes, bits_from, half_vrps, joined_state, node_vrps, originator_of, state_among, state_below, trie_vrps, vrps_at, vrps_below, walked_state, whole}
 use Rattle.payload.proofs.Depths.{nodes-parts, nodes_below, passing, passing-below, passing-first, passing-same, is_searched}
 use Rattle.payload.proofs.Sets.{items-from_list}
 use Rattle.payload.proofs.TrieOrder.{pairs-append, vrps-rise}

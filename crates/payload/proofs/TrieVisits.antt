@@ -1,14 +1,5 @@
 -- What a sink took of the VRPs of a tree.
-use Rattle.std.proofs.Common.{◌≡◌, ℕ, ◌+◌, ◌≤◌, ◌<◌, List, [], ◌∷◌, ◌++◌, length, take, drop, get_or, sym, ap, ◌∙◌, subst, append_assoc, arith}
-use Rattle.std.specs.List.{All}
-use Rattle.std.proofs.lemmas.List.{length-append, take_all, take_more, take-append-drop}
-use Rattle.std.proofs.lemmas.List.Elements.{filter_map-append}
-use Rattle.addr.specs.Order.{same_vrp}
-use Rattle.addr.specs.declared.prefix.Prefix.{Prefix}
-use Rattle.addr.specs.declared.vrp.Vrp.{Vrp}
-use Rattle.payload.specs.Visit.{TookBeginning}
-use Rattle.payload.specs.declared.originator.Originator.{Originator}
-use Rattle.payload.specs.steps.Trie.{node_vrps, originator_of, vrp_at}
+use Rattle.payload.proofs.Names.{◌≡◌, ℕ, ◌+◌, ◌≤◌, ◌<◌, List, [], ◌∷◌, ◌++◌, length, take, drop, get_or, sym, ap, ◌∙◌, subst, append_assoc, arith, All, length-append, take_all, take_more, take-append-drop, filter_map-append, same_vrp, Prefix, Vrp, TookBeginning, Originator, node_vrps, originator_of, vrp_at}
 use Rattle.payload.proofs.TrieVrps.{HasLengths, node_vrps-cons, vrp_of}
 use Rattle.payload.proofs.Visits.{beginning-part, TookThen}
 

@@ -1,21 +1,7 @@
 -- The VRPs of a tree, and what tests say of them.
-use Rattle.std.proofs.Common.{◌≡◌, ◌+◌, ◌≤◌, ◌<◌, Bool, true, false, not, ◌==◌, ◌||◌, List, [], ◌∷◌, Some, refl, sym, ap, ◌∙◌, subst, arith, inl, inr, ◌⊎◌}
-use Rattle.std.proofs.Math.Bool.{or-false}
-use Rattle.std.specs.List.{All, list_any}
-use Rattle.std.proofs.lemmas.Bool.{false_from_ne_true}
-use Rattle.std.proofs.lemmas.List.Elements.{All-append, All-cons, All-head, All-nil, All-tail, All-weaker}
-use Rattle.std.proofs.lemmas.List.Folds.{list_any-append, list_any_none}
-use Rattle.addr.specs.Address.{bit_of, contains, last_of, same_prefix}
-use Rattle.addr.specs.Family.{width}
-use Rattle.addr.specs.Order.{same_vrp}
+use Rattle.payload.proofs.Names.{◌≡◌, ◌+◌, ◌≤◌, ◌<◌, Bool, true, false, not, ◌==◌, ◌||◌, List, [], ◌∷◌, Some, refl, sym, ap, ◌∙◌, subst, arith, inl, inr, ◌⊎◌, or-false, All, list_any, false_from_ne_true, All-append, All-cons, All-head, All-nil, All-tail, All-weaker, list_any-append, list_any_none, bit_of, contains, last_of, same_prefix, width, same_vrp, Prefix, Vrp, Originator, Tree, Leaf, Fork, IsPruned, below, half_vrps, node_vrps, originator_of, vrp_at, vrp_if, vrp_of_parts, vrps_at, vrps_below, ends-contains}
 use Rattle.addr.specs.PrefixText.{prefix_if, prefix_with}
-use Rattle.addr.specs.declared.prefix.Prefix.{Prefix}
-use Rattle.addr.specs.declared.vrp.Vrp.{Vrp}
-use Rattle.payload.specs.declared.originator.Originator.{Originator}
-use Rattle.payload.specs.steps.Tree.{Tree, Leaf, Fork, IsPruned, below}
-use Rattle.payload.specs.steps.Trie.{half_vrps, node_vrps, originator_of, vrp_at, vrp_if, vrp_of_parts, vrps_at, vrps_below}
 use Rattle.payload.proofs.Halves.{half, half-bit, contains-half, contains-trans, contains-longer}
-use Rattle.addr.proofs.PrefixOrderLemmas.{ends-contains}
 
 abbrev pub HasLengths : Prefix → Originator → Type 0
 HasLengths p o = (p.length ≤ o.max) × (o.max ≤ width p.family)

@@ -1,26 +1,7 @@
 -- What the walk down the bits of a prefix meets in a tree, as tests of the tree's VRPs.
-use Rattle.std.proofs.Common.{◌≡◌, ℕ, ◌+◌, ◌<◌, Bool, true, false, ◌==◌, ◌&&◌, ◌||◌, List, [], ◌∷◌, refl, sym, ap, ◌∙◌, subst, arith, inl, inr}
-use Rattle.std.specs.List.{list_any}
-use Rattle.std.specs.Ordering.{is_eq, nat_cmp, ordering_then}
-use Rattle.std.specs.declared.cmp.Ordering.TheVariants.{Equal}
-use Rattle.std.proofs.lemmas.Bool.{cases_Bool, cases_lt, and_parts, false_from_ne_true}
-use Rattle.std.proofs.lemmas.Cmp.{tied_itself}
-use Rattle.std.proofs.lemmas.List.Folds.{list_any_none}
-use Rattle.addr.specs.Address.{bit_of, contains}
-use Rattle.addr.specs.Family.{width}
-use Rattle.addr.specs.Order.{prefix_cmp}
-use Rattle.addr.specs.OriginValidation.{covers}
-use Rattle.addr.specs.declared.family.Family.{Family}
-use Rattle.addr.specs.declared.prefix.Prefix.{Prefix}
-use Rattle.addr.specs.declared.route.Route.{Route}
-use Rattle.addr.specs.declared.vrp.Vrp.{Vrp}
-use Rattle.addr.proofs.OrderLemmas.{prefix_order}
-use Rattle.payload.specs.declared.originator.Originator.{Originator}
-use Rattle.payload.specs.steps.Tree.{Tree, Leaf, Fork, IsPruned, below, has, has_on_path}
-use Rattle.payload.specs.steps.Trie.{bits_from, half_first, half_vrps, node_vrps, originator_of, vrps_at, vrps_below}
+use Rattle.payload.proofs.Names.{◌≡◌, ℕ, ◌+◌, ◌<◌, Bool, true, false, ◌==◌, ◌&&◌, ◌||◌, List, [], ◌∷◌, refl, sym, ap, ◌∙◌, subst, arith, inl, inr, list_any, is_eq, nat_cmp, ordering_then, Equal, cases_Bool, cases_lt, and_parts, false_from_ne_true, tied_itself, list_any_none, bit_of, contains, width, prefix_cmp, covers, Family, Prefix, Route, Vrp, prefix_order, Originator, Tree, Leaf, Fork, IsPruned, below, has, has_on_path, bits_from, half_first, half_vrps, node_vrps, originator_of, vrps_at, vrps_below, ends-contains}
 use Rattle.payload.proofs.Bits.{bits_from-end, next-bit}
 use Rattle.payload.proofs.Halves.{half, contains-same, half-contains}
-use Rattle.addr.proofs.PrefixOrderLemmas.{ends-contains}
 use Rattle.payload.proofs.Sets.{is_vrp, same_vrp-equal}
 use Rattle.payload.proofs.Trees.{has-leaf, is_originator}
 use Rattle.payload.proofs.TrieVrps.{contains-itself, leaf-or-room, IsRound, any-node, any-here, any-half}

@@ -1,24 +1,8 @@
 -- The set of a trie's two trees.
-use Rattle.std.proofs.Common.{lit<, ◌≡◌, ◌+◌, ◌-◌, ◌^◌, ◌≤◌, Bool, true, false, ◌||◌, List, [], ◌∷◌, ◌++◌, length, refl, sym, ap, ◌∙◌, subst, arith, inl, inr, ◌⊎◌}
-use Rattle.std.proofs.Math.Bool.{or-false}
-use Rattle.std.specs.List.{list_any}
-use Rattle.std.proofs.lemmas.Bool.{false_from_ne_true}
-use Rattle.std.proofs.lemmas.List.{append-nil}
-use Rattle.std.proofs.lemmas.List.Elements.{All-weaker}
-use Rattle.std.proofs.lemmas.List.Folds.{list_any-append, list_any_none}
-use Rattle.addr.specs.Address.{contains}
-use Rattle.addr.specs.Family.{width}
-use Rattle.addr.specs.declared.family.Family.{Family}
-use Rattle.addr.specs.declared.family.Family.TheVariants.{V4, V6}
-use Rattle.addr.specs.declared.prefix.Prefix.{Prefix}
-use Rattle.addr.specs.declared.vrp.Vrp.{Vrp}
+use Rattle.payload.proofs.Names.{lit<, ◌≡◌, ◌+◌, ◌-◌, ◌^◌, ◌≤◌, Bool, true, false, ◌||◌, List, [], ◌∷◌, ◌++◌, length, refl, sym, ap, ◌∙◌, subst, arith, inl, inr, ◌⊎◌, or-false, list_any, false_from_ne_true, append-nil, All-weaker, list_any-append, list_any_none, contains, width, Family, V4, V6, Prefix, Vrp, Originator, Tree, Leaf, IsPruned, has, is_place, chain, bits_from, originator_of, trie_vrps, vrps_at, vrps_below, whole, contains-ends, ends-contains}
 use Rattle.payload.specs.VrpSet as set
-use Rattle.payload.specs.declared.originator.Originator.{Originator}
-use Rattle.payload.specs.steps.Tree.{Tree, Leaf, IsPruned, has, is_place, chain}
-use Rattle.payload.specs.steps.Trie.{bits_from, originator_of, trie_vrps, vrps_at, vrps_below, whole}
 use Rattle.payload.proofs.Bits.{length-bits_from}
 use Rattle.payload.proofs.Halves.{half, contains-longer}
-use Rattle.addr.proofs.PrefixOrderLemmas.{contains-ends, ends-contains}
 use Rattle.payload.proofs.Grown.{pruned-chain}
 use Rattle.payload.proofs.Sets.{is_vrp, same_vrp-equal, contains-from_list}
 use Rattle.payload.proofs.Trees.{IsChanged, has-leaf, inserted-chain, place-itself}

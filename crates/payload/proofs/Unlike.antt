@@ -1,21 +1,6 @@
 -- VRPs that are between two of one prefix, and do not match a route.
-use Rattle.std.proofs.Common.{◌≡◌, ℕ, ◌+◌, ◌≤◌, ◌<◌, Bool, true, false, ◌&&◌, nat_le, List, take, drop, length, get_or, sym, ap, subst, arith, inl, inr, ◌⊎◌, Ordering}
-use Rattle.std.specs.List.{All}
-use Rattle.std.specs.List.Sorted.{IsPartitionPoint, IsPartitionedBy}
-use Rattle.std.specs.Ordering.{nat_cmp, ordering_then, is_lt}
-use Rattle.std.specs.declared.cmp.Ordering.TheVariants.{Less, Equal, Greater}
-use Rattle.std.proofs.lemmas.Bool.{cases_lt}
-use Rattle.std.proofs.lemmas.Bool.Decides.{nat_tests}
-use Rattle.std.proofs.Math.Bool.{and-false}
-use Rattle.std.proofs.lemmas.List.{take-append-drop, get_or-drop, length-drop}
-use Rattle.addr.specs.OriginValidation.{covers, matches, is_from}
-use Rattle.addr.specs.Order.{prefix_cmp, vrp_cmp}
-use Rattle.addr.proofs.OrderLemmas.{vrp_order, less_is}
+use Rattle.payload.proofs.Names.{◌≡◌, ℕ, ◌+◌, ◌≤◌, ◌<◌, Bool, true, false, ◌&&◌, nat_le, List, take, drop, length, get_or, sym, ap, subst, arith, inl, inr, ◌⊎◌, Ordering, All, IsPartitionPoint, IsPartitionedBy, nat_cmp, ordering_then, is_lt, Less, Equal, Greater, cases_lt, nat_tests, and-false, take-append-drop, get_or-drop, length-drop, covers, matches, is_from, prefix_cmp, vrp_cmp, vrp_order, less_is, Route, Vrp, AreRising, is_below, HasAllMatching}
 use Rattle.addr.specs.declared.asn.Asn.{Asn}
-use Rattle.addr.specs.declared.route.Route.{Route}
-use Rattle.addr.specs.declared.vrp.Vrp.{Vrp}
-use Rattle.payload.specs.Rising.{AreRising}
-use Rattle.payload.specs.steps.Search.{is_below, HasAllMatching}
 
 less-numbers : (a b l m : ℕ) → ordering_then (nat_cmp a b) (nat_cmp l m) ≡ Less → (a < b) ⊎ ((a ≡ b) × (l < m))
 less-numbers a b l m h = grind (arith, nat_tests)

@@ -1,8 +1,7 @@
-use Rattle.std.proofs.Common.{◌<◌, subst, sym}
+use Rattle.payload.proofs.Names.{◌<◌, subst, sym, same_family}
 use Rattle.payload.proofs.Fronts.{enclosing-from_front}
 use Rattle.payload.proofs.Lengths.{none-so_short}
 use Rattle.payload.proofs.Prefixes.{apart-before}
-use Rattle.addr.proofs.Equality.{same_family}
 use Rattle.payload.proofs.search.enclosing_both.Goals as goal
 
 pub common_bound-bound-requires-clause-order : goal.common_bound-bound-requires-clause-order

@@ -1,7 +1,5 @@
-use Rattle.std.proofs.Common.{rules}
-use Rattle.std.proofs.lemmas.List.Sorted.{IsPartitionPoint-from_clause}
+use Rattle.payload.proofs.Names.{rules, IsPartitionPoint-from_clause, is_below}
 use Rattle.payload.proofs.Unlike.{rising-below, front-below}
-use Rattle.payload.specs.steps.Search.{is_below}
 use Rattle.payload.proofs.search.past_unlike.Goals as goal
 
 pub returns-in-Some : goal.returns-in-Some

@@ -1,7 +1,5 @@
-use Rattle.std.proofs.Common.{rules}
-use Rattle.std.proofs.lemmas.List.Sorted.{IsPartitionPoint-from_clause}
+use Rattle.payload.proofs.Names.{rules, IsPartitionPoint-from_clause, is_at_most}
 use Rattle.payload.proofs.Fronts.{rising-partitioned, front-up_to}
-use Rattle.payload.specs.steps.Search.{is_at_most}
 use Rattle.payload.proofs.search.up_to.Goals as goal
 
 pub returns : goal.returns

@@ -1,8 +1,5 @@
-use Rattle.std.proofs.Common.{◌≡◌, true, rules, sym, subst, arith}
-use Rattle.std.proofs.lemmas.List.Sorted.{IsPartitionPoint-from_clause}
+use Rattle.payload.proofs.Names.{◌≡◌, true, rules, sym, subst, arith, IsPartitionPoint-from_clause, AllWithin, is_at_most}
 use Rattle.payload.proofs.Fronts.{after-onwards, upto-before, range-partitioned, front-in_range}
-use Rattle.std.specs.List.{AllWithin}
-use Rattle.payload.specs.steps.Search.{is_at_most}
 use Rattle.payload.proofs.search.up_to_from_end.Goals as goal
 use Rattle.payload.proofs.search.up_to_from_end.Goals.{then-loop-step-test+else-not-is_up_to, else-loop-step-test}
 

@@ -1,5 +1,4 @@
-use Rattle.std.proofs.Common.{length}
-use Rattle.payload.specs.steps.Shortest.{AreNoShorter}
+use Rattle.payload.proofs.Names.{length, AreNoShorter}
 use Rattle.payload.proofs.Left.{IsLeft}
 use Rattle.payload.proofs.search.validity.Given as goal
 

@@ -1,10 +1,4 @@
-use Rattle.std.proofs.Common.{rules, true, false, refl, sym, ap, ◌∙◌, subst, arith}
-use Rattle.addr.specs.Family.{width}
-use Rattle.payload.specs.ValidityState.{state_of}
-use Rattle.payload.specs.steps.Branch.{top_of}
-use Rattle.payload.specs.steps.Shrinks.{shrinks}
-use Rattle.payload.specs.steps.Tree.{IsPruned, subtree, tree}
-use Rattle.payload.specs.steps.Trie.{state_among, vrps_at}
+use Rattle.payload.proofs.Names.{rules, true, false, refl, sym, ap, ◌∙◌, subst, arith, width, state_of, top_of, shrinks, IsPruned, subtree, tree, state_among, vrps_at}
 use Rattle.payload.proofs.Bits.{is_one}
 use Rattle.payload.proofs.Grown.{pruned-past}
 use Rattle.payload.proofs.Halves.{contains-longer}

@@ -1,9 +1,4 @@
-use Rattle.std.proofs.Common.{rules, ◌<◌, ◌∙◌, length, false, sym, arith}
-use Rattle.std.proofs.lemmas.Bool.{ne_eqb}
-use Rattle.payload.specs.steps.Shrinks.{shrinks}
-use Rattle.payload.specs.steps.Branch.{top_of}
-use Rattle.payload.specs.steps.Skipped.{common}
-use Rattle.payload.specs.steps.Trie.{bits_from, originator_of}
+use Rattle.payload.proofs.Names.{rules, ◌<◌, ◌∙◌, length, false, sym, arith, ne_eqb, shrinks, top_of, common, bits_from, originator_of}
 use Rattle.payload.proofs.Grown.{common-least, has-apart, has-grown, pruned-past}
 use Rattle.payload.proofs.Bits.{bits_from-next}
 use Rattle.payload.proofs.Trees.{has-leaf}

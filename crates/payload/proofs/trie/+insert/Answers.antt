@@ -1,12 +1,4 @@
-use Rattle.std.proofs.Common.{rules, ◌+◌, length, IfOk, false, true, not, ◌||◌, ◌≡◌, ◌≤◌, refl, sym, ap, ◌∙◌, subst, arith}
-use Rattle.std.proofs.lemmas.List.{length-take-le}
-use Rattle.std.specs.Prelude.{OnErr}
-use Rattle.std.proofs.lemmas.Result.{on_ok_weaker}
-use Rattle.addr.specs.Family.{width}
-use Rattle.payload.specs.steps.Branch.{top_of}
-use Rattle.payload.specs.steps.Shrinks.{shrinks}
-use Rattle.payload.specs.steps.Tree.{grown, weight, Leaf, IsPruned, is_bare, tree}
-use Rattle.payload.specs.steps.Trie.{bits_from, originator_of}
+use Rattle.payload.proofs.Names.{rules, ◌+◌, length, IfOk, false, true, not, ◌||◌, ◌≡◌, ◌≤◌, refl, sym, ap, ◌∙◌, subst, arith, length-take-le, OnErr, on_ok_weaker, width, top_of, shrinks, grown, weight, Leaf, IsPruned, is_bare, tree, bits_from, originator_of}
 use Rattle.payload.proofs.Grown.{has-apart, has-grown, pruned-after, pruned-chain, pruned-past}
 use Rattle.payload.proofs.Skips.{common-some}
 use Rattle.payload.proofs.Bits.{bits_from-next, length-bits_from}

@@ -1,8 +1,4 @@
-use Rattle.std.proofs.Common.{◌+◌, true, false, sym, ◌∙◌, arith}
-use Rattle.payload.specs.steps.Branch.{top_of}
-use Rattle.payload.specs.steps.Trie.{authorizes, bits_from}
-use Rattle.payload.specs.ValidityState.{state_of}
-use Rattle.payload.specs.steps.Tree.{subtree}
+use Rattle.payload.proofs.Names.{◌+◌, true, false, sym, ◌∙◌, arith, top_of, authorizes, bits_from, state_of, subtree}
 use Rattle.payload.proofs.Grown.{nodes-apart, nodes-grown}
 use Rattle.payload.proofs.TrieStates.{walked-apart, walked-grown, nodes-next, walked-leaf, walked-next}
 use Rattle.payload.proofs.Bits.{bits_from-next}

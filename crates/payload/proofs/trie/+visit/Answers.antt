@@ -1,11 +1,4 @@
-use Rattle.std.proofs.Common.{rules, refl, subst, sym, ◌∙◌}
-use Rattle.std.specs.List.{All}
-use Rattle.std.proofs.lemmas.Result.{on_err_weaker}
-use Rattle.addr.specs.Family.{width}
-use Rattle.payload.specs.steps.Tree.{IsPruned, grown, tree}
-use Rattle.payload.specs.steps.Shrinks.{shrinks}
-use Rattle.payload.specs.steps.Trie.{vrps_at}
-use Rattle.payload.specs.steps.Branch.{top_of}
+use Rattle.payload.proofs.Names.{rules, refl, subst, sym, ◌∙◌, All, on_err_weaker, width, IsPruned, grown, tree, shrinks, vrps_at, top_of}
 use Rattle.payload.proofs.Grown.{pruned-past}
 use Rattle.payload.proofs.Halves.{above-half}
 use Rattle.payload.proofs.TrieVisits.{node-beginning, node-took, node-took_all}

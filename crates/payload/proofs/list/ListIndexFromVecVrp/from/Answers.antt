@@ -1,5 +1,4 @@
-use Rattle.std.proofs.Common.{subst}
-use Rattle.payload.specs.steps.Shortest.{AreNoShorter}
+use Rattle.payload.proofs.Names.{subst, AreNoShorter}
 use Rattle.payload.proofs.Places.{rising-from_sorted, same-members}
 use Rattle.payload.proofs.list.ListIndexFromVecVrp.from.Goals as goal
 

@@ -1,5 +1,4 @@
-use Rattle.std.proofs.Common.{ap, ◌∙◌}
-use Rattle.addr.specs.OriginValidation.{validation_state}
+use Rattle.payload.proofs.Names.{ap, ◌∙◌, validation_state}
 use Rattle.payload.proofs.Places.{listed}
 use Rattle.payload.proofs.list.ListIndexPayloadIndex.validity.Goals as goal
 

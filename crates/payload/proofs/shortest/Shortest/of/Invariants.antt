@@ -1,5 +1,4 @@
-use Rattle.std.proofs.Common.{take}
-use Rattle.payload.specs.steps.Shortest.{AreNoShorter}
+use Rattle.payload.proofs.Names.{take, AreNoShorter}
 use Rattle.payload.proofs.shortest.Shortest.of.Given as goal
 
 abbrev pub invariant-loop-vrp : goal.invariant-loop-vrp

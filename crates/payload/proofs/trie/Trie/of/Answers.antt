@@ -1,7 +1,4 @@
-use Rattle.std.proofs.Common.{◌+◌, ◌||◌, sym, ap, ◌∙◌, take, slice_index_or, arith}
-use Rattle.std.proofs.Math.Bool.{or_comm}
-use Rattle.std.specs.List.{list_any}
-use Rattle.std.proofs.lemmas.List.Folds.{list_any_more}
+use Rattle.payload.proofs.Names.{◌+◌, ◌||◌, sym, ap, ◌∙◌, take, slice_index_or, arith, or_comm, list_any, list_any_more}
 use Rattle.payload.proofs.Sets.{is_vrp, members-insert}
 use Rattle.payload.proofs.trie.Trie.of.Goals as goal
 

@@ -1,7 +1,4 @@
-use Rattle.std.proofs.Common.{filter, sym, ap, ◌∙◌}
-use Rattle.addr.specs.OriginValidation.{NotFound, validation_state}
-use Rattle.payload.specs.steps.Tree.{tree}
-use Rattle.payload.specs.steps.Trie.{state_among, vrps_at, whole}
+use Rattle.payload.proofs.Names.{filter, sym, ap, ◌∙◌, NotFound, validation_state, tree, state_among, vrps_at, whole}
 use Rattle.payload.proofs.TrieValidity.{among-four, among-six, trie-items}
 use Rattle.payload.proofs.trie.Trie.validity_among.Goals as goal
 

@@ -1,8 +1,4 @@
-use Rattle.std.proofs.Common.{length, sym, ap, ◌∙◌, arith}
-use Rattle.addr.specs.OriginValidation.{validation_state}
-use Rattle.payload.specs.SearchDepths.{search_depths}
-use Rattle.payload.specs.steps.Tree.{tree}
-use Rattle.payload.specs.steps.Trie.{trie_vrps}
+use Rattle.payload.proofs.Names.{length, sym, ap, ◌∙◌, arith, validation_state, search_depths, tree, trie_vrps}
 use Rattle.payload.proofs.TrieValidity.{depths-four, depths-six, search_depths-most, state-four, state-six, trie-items}
 use Rattle.payload.proofs.trie.Trie.validity_counted.Goals as goal
 

@@ -1,5 +1,4 @@
-use Rattle.std.proofs.Common.{◌∙◌}
-use Rattle.payload.specs.steps.Tree.{tree}
+use Rattle.payload.proofs.Names.{◌∙◌, tree}
 use Rattle.payload.proofs.Tries.{contains-in_four, contains-in_six}
 use Rattle.payload.proofs.trie.TriePayloadIndex.contains.Goals as goal
 

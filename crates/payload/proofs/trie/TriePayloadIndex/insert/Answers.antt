@@ -1,9 +1,4 @@
-use Rattle.std.proofs.Common.{◌≡◌, false, not, ◌||◌, refl, subst, IfOk}
-use Rattle.std.specs.Prelude.{OnErr}
-use Rattle.std.proofs.lemmas.Result.{on_ok_weaker}
-use Rattle.addr.specs.Family.{width}
-use Rattle.payload.specs.steps.Tree.{IsPruned, tree}
-use Rattle.payload.specs.steps.Trie.{trie_vrps}
+use Rattle.payload.proofs.Names.{◌≡◌, false, not, ◌||◌, refl, subst, IfOk, OnErr, on_ok_weaker, width, IsPruned, tree, trie_vrps}
 use Rattle.payload.proofs.Sets.{members-insert}
 use Rattle.payload.proofs.Tries.{changed-four, changed-six, contains-in_four, contains-in_six}
 use Rattle.payload.proofs.trie.TriePayloadIndex.insert.Goals as goal

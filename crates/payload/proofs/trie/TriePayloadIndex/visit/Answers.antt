@@ -1,9 +1,4 @@
-use Rattle.std.proofs.Common.{subst}
-use Rattle.std.proofs.lemmas.Result.{on_err_weaker, on_ok_weaker}
-use Rattle.addr.specs.declared.family.Family.TheVariants.{V4, V6}
-use Rattle.payload.specs.Visit.{TookBeginning}
-use Rattle.payload.specs.steps.Tree.{tree}
-use Rattle.payload.specs.steps.Trie.{vrps_at, whole}
+use Rattle.payload.proofs.Names.{subst, on_err_weaker, on_ok_weaker, V4, V6, TookBeginning, tree, vrps_at, whole}
 use Rattle.payload.proofs.TrieValidity.{trie-items}
 use Rattle.payload.proofs.Visits.{beginning-later, beginning-longer, on-err}
 use Rattle.payload.proofs.trie.TriePayloadIndex.visit.Goals as goal

@@ -1,9 +1,6 @@
-use Rattle.std.proofs.Common.{rules, ◌≡◌, true, false, refl, sym, ap, ◌∙◌}
+use Rattle.payload.proofs.Names.{rules, ◌≡◌, true, false, refl, sym, ap, ◌∙◌, Valid, state_of, joined_state}
 use denote.Enum.Bare.{same_true}
 use Rattle.payload.specs.contracts.validity.Validity.{the_type}
-use Rattle.addr.specs.OriginValidation.{Valid}
-use Rattle.payload.specs.ValidityState.{state_of}
-use Rattle.payload.specs.steps.Trie.{joined_state}
 use Rattle.payload.proofs.TrieValidity.{among-more, among-part, among-same, joined-none}
 use Rattle.payload.proofs.trie.among.with_originators.Goals as goal
 use Rattle.payload.proofs.trie.among.with_originators.Goals.{in-Valid, in_default, then-passes, else-passes}

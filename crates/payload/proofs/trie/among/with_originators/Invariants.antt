@@ -1,6 +1,4 @@
-use Rattle.std.proofs.Common.{◌≡◌, take}
-use Rattle.payload.specs.ValidityState.{state_of}
-use Rattle.payload.specs.steps.Trie.{node_vrps, state_among}
+use Rattle.payload.proofs.Names.{◌≡◌, take, state_of, node_vrps, state_among}
 use Rattle.payload.proofs.trie.among.with_originators.Given as goal
 
 -- the state by the originators so far

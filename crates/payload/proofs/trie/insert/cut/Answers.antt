@@ -1,6 +1,4 @@
-use Rattle.std.proofs.Common.{◌≡◌, true, false, ap, ◌∙◌}
-use Rattle.payload.specs.steps.Branch.{top_of}
-use Rattle.payload.specs.steps.Tree.{bare, grown, tree}
+use Rattle.payload.proofs.Names.{◌≡◌, true, false, ap, ◌∙◌, top_of, bare, grown, tree}
 use Rattle.payload.proofs.Grown.{grown-cut}
 use Rattle.payload.proofs.trie.insert.cut.Goals as goal
 

@@ -1,7 +1,4 @@
-use Rattle.std.proofs.Common.{◌<◌, length, sym, ap, arith}
-use Rattle.std.proofs.lemmas.Bool.Decides.{nat_tests}
-use Rattle.payload.specs.ValidityState.{state_of}
-use Rattle.payload.specs.steps.Trie.{state_below}
+use Rattle.payload.proofs.Names.{◌<◌, length, sym, ap, arith, nat_tests, state_of, state_below}
 use Rattle.payload.proofs.TrieStates.{some-here}
 use Rattle.payload.proofs.trie.validity.unmatched.Goals as goal
 

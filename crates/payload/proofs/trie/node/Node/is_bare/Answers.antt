@@ -1,6 +1,4 @@
-use Rattle.std.proofs.Common.{sym, ◌∙◌}
-use Rattle.std.proofs.lemmas.Bool.{ne_eqb}
-use Rattle.payload.specs.steps.Branch.{top_of}
+use Rattle.payload.proofs.Names.{sym, ◌∙◌, ne_eqb, top_of}
 use Rattle.payload.proofs.Grown.{full-grown}
 use Rattle.payload.proofs.trie.node.Node.is_bare.Goals as goal
 

@@ -1,6 +1,4 @@
-use Rattle.std.proofs.Common.{◌≡◌, ◌+◌, ◌≤◌, drop}
-use Rattle.payload.specs.steps.Skipped.{common}
-use Rattle.payload.specs.steps.Trie.{bits_from}
+use Rattle.payload.proofs.Names.{◌≡◌, ◌+◌, ◌≤◌, drop, common, bits_from}
 use Rattle.payload.proofs.trie.skipped.Skipped.shared.Given as goal
 
 -- the bits before this one are in common
