@@ -1,9 +1,8 @@
 //! The desk, and how it handles requests.
 ghost use Rattle.std.specs.Prelude.{◌≡◌, ◌≢◌, true, false, None, [], ◌∷◌, Err, IfOk, IfErr, OnOk, OnErr};
 ghost use Rattle.std.specs.List.{list_any};
-ghost use Rattle.registry.specs.Answer.{AnswersNumber};
+ghost use Rattle.registry.specs.Answer.{AnswersList, AnswersNumber};
 ghost use Rattle.registry.specs.History.{History};
-ghost use Rattle.registry.specs.Rows.{rows_if_any, RowsIfAny};
 ghost use Rattle.registry.specs.Verdict.{auth_of_number};
 ghost use Rattle.sqlite.specs.Held.{state};
 ghost use Rattle.sqlite.specs.State.{HasCleanDisk};
@@ -273,15 +272,15 @@ impl<S: Alter> Desk<S> {
         let _kept = &self.kept;
     }
 
-    /// The rows of the holder; `None` if it is not registered.
-    fn load(&mut self, holder: &Name) -> Result<Option<HolderRows>, StoreFault>
+    /// The grants and the authorizations of the holder, as rows with nothing else.
+    fn load_listed(&mut self, holder: &Name) -> Result<HolderRows, StoreFault>
         ensures read { IsRead S.Store self.old.store self.new.store }
         ensures same { self.new.kept ≡ self.old.kept }
-        ensures rows { IfOk result (λ rows. OfRows S.Store self.old self.new (λ history.
-            RowsIfAny history holder.now (rows_if_any rows))) }
+        ensures rows { IfOk result (λ part. OfRows S.Store self.old self.new (λ history.
+            AnswersList history holder.now part.grants.items part.auths.items)) }
     {
-        store::laws::rows_of_a_history();
-        self.store.load_holder(self.alloc, holder)
+        store::laws::list_of_a_history();
+        self.store.load_listed(self.alloc, holder)
     }
 
     /// The grants of the holder and its authorization that has the number, as rows with nothing

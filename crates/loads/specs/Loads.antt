@@ -87,6 +87,11 @@ pub record AreNumbered (n : ℕ) (rows : Option Rows) (part : HolderRows) : Type
   pub grants : AreGrants rows part.grants.items
   pub auths : AreInOrder (λ (x : Auth). x.number) (filter (λ x. x.number == n) (auths_held rows)) part.auths.items
 
+-- what is loaded of a holder for a list: the grants and the authorizations, each by rising number
+pub record AreListed (rows : Option Rows) (part : HolderRows) : Type 0 where
+  pub grants : AreGrants rows part.grants.items
+  pub auths : AreInOrder (λ (x : Auth). x.number) (auths_held rows) part.auths.items
+
 -- what is loaded of a holder and its counters: the grants, by rising number, and the counters, as rows exactly where it is
 -- registered
 pub record AreCounted (rows : Option Rows) (part : Option HolderRows) : Type 0 where

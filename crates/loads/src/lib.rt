@@ -14,5 +14,6 @@ pub use answers::{
 };
 pub use exceptions::load_files;
 pub use load::{
-    count_auths, is_registered, load_auths_numbered, load_numbered, load_rows, load_runs, load_vrps,
+    count_auths, is_registered, load_auths_numbered, load_listed, load_numbered, load_rows,
+    load_runs, load_vrps,
 };

@@ -12,7 +12,7 @@ ghost use Rattle.registry.specs.declared.authorization.Auth.{Auth};
 ghost use Rattle.registry.specs.Rows.{Rows};
 ghost use Rattle.registry.specs.RowsOfAll.{IsGivenOn};
 ghost use Rattle.registry.specs.Values.{FitIfAny};
-ghost use Rattle.loads.specs.Loads.{HaveSame, AreGrants, AreHoldings, AreInOrder, AreLoaded, AreNumbered, AllGiveOn, IsOf, IsOfAll, IsOpenWith, auths_held};
+ghost use Rattle.loads.specs.Loads.{HaveSame, AreGrants, AreHoldings, AreInOrder, AreListed, AreLoaded, AreNumbered, AllGiveOn, IsOf, IsOfAll, IsOpenWith, auths_held};
 ghost use Rattle.tables.specs.Tables.{OverDesk};
 ghost use Rattle.tables.specs.TablesHold.{items_if_any};
 ghost use Rattle.transactions.specs.Queries.{IsAsked, IsClean, IsReadyToAsk};
@@ -271,6 +271,31 @@ pub fn load_numbered<S: Alter>(
 {
     let grants = load_grants(conn, alloc, holder)?;
     let auths = load_auths_numbered(conn, alloc, holder, number)?;
+    Ok(HolderRows {
+        holdings: Holdings::new(alloc),
+        grants,
+        auths,
+        granted: 0,
+        created: 0,
+    })
+}
+
+/// The grants and the authorizations of the holder, as rows with nothing else; neither if it is not
+/// registered.
+pub fn load_listed<S: Alter>(
+    conn: &mut Connection<S>,
+    alloc: Global,
+    holder: &Name,
+) -> Result<HolderRows, StoreFault>
+    requires { IsReadyToAsk S.Store conn.old }
+    ensures asked { IsAsked S.Store conn.old conn.new result }
+    ensures found { IsClean S.Store conn.new → IfOk result (λ part.
+        IsOf (λ rows. AreListed rows part) holder.now (state S.Store conn.old)) }
+    ensures schema { IsClean S.Store conn.new → result ≡ Err StoreFault.Schema
+        → IsOpenWith (λ all. ¬ FitIfAny (all.of_holder holder.now)) (state S.Store conn.old) }
+{
+    let grants = load_grants(conn, alloc, holder)?;
+    let auths = load_auths(conn, alloc, holder)?;
     Ok(HolderRows {
         holdings: Holdings::new(alloc),
         grants,

@@ -16,7 +16,7 @@ use Rattle.registry.specs.declared.command.Command.TheVariants.{Register, Delega
 use Rattle.registry.specs.declared.grant.Granted.{Granted}
 use Rattle.registry.specs.declared.rows.Answers.{Answers}
 use Rattle.registry.specs.declared.rows.HolderRows.{HolderRows}
-use Rattle.registry.specs.Answer.{holder_of, is_transfer, AnswersCreate, AnswersDelegate, AnswersNumber, AreFacts, IsMadeIfAny, ReportsTaken, RowsOfNamed}
+use Rattle.registry.specs.Answer.{holder_of, is_transfer, AnswersCreate, AnswersDelegate, AnswersList, AnswersNumber, AreFacts, IsMadeIfAny, ReportsTaken, RowsOfNamed}
 use Rattle.registry.specs.History.{History, is_registered}
 use Rattle.registry.specs.Resources.{is_held_by, IsFree}
 use Rattle.registry.specs.RoaPrefixes.{AreInNumber}
@@ -94,6 +94,12 @@ pub numbered-are : (charter : Charter) (history : History) (h : List ℕ) (n : �
     → AnswersNumber history h n (grants_if_any rows) (auth_of_number n (auths_if_any rows))
 numbered-are charter history h n None legal are = answers-unregistered charter history h n legal are
 numbered-are charter history h n (Some r) legal are = answers-rows history h n (rows_of r) r.grants.items (auth_of_number n r.auths.items) are.1 refl refl
+
+pub listed-are : (charter : Charter) (history : History) (h : List ℕ) (rows : Option HolderRows) → IsLegal charter history → RowsIfAny history h (rows_if_any rows) → AnswersList history h (grants_if_any rows) (auths_if_any rows)
+listed-are charter history h None legal are =
+    let nothing = has_nothing charter history h legal are in
+    record { grants = sym nothing.grants; auths = subst (λ terms. Keeps (HeldSinceMade history h) terms []) (sym nothing.terms) tt }
+listed-are charter history h (Some r) legal are = record { grants = are.1.grants; auths = are.1.auths }
 
 -- all that a create of the terms is judged on, at a holder that is not registered
 pub create-unregistered : (charter : Charter) (history : History) (h : List ℕ) (terms : AuthTerms) → IsLegal charter history → is_registered history h ≡ false

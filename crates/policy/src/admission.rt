@@ -5,13 +5,12 @@ ghost use Rattle.std.specs.List.{list_all, list_any};
 ghost use Rattle.registry.specs.declared.limits.TheConstants.{MOST_GRANTS, MOST_AUTHORIZATIONS, LAST_NUMBER};
 ghost use Rattle.addr.specs.Address.{Address};
 ghost use Rattle.addr.specs.Spans.{span_covers, spans_have};
-ghost use Rattle.charters.specs.declared.charter.Charter.{Charter as CharterValue};
 ghost use Rattle.registry.specs.History.{History, is_registered};
 ghost use Rattle.registry.specs.Resources.{HoldsPrefix};
 ghost use Rattle.registry.specs.Terms.{grant_terms, HoldsEntries, are_shared, gives_some, is_entry, share_vrp};
 ghost use Rattle.registry.specs.RoaPrefixes.{with_maxes};
 ghost use Rattle.registry.specs.Permission.{has_access, is_permitted_terms};
-ghost use Rattle.registry.specs.Answer.{AnswersNumber, OfRows};
+ghost use Rattle.registry.specs.Answer.{AnswersNumber};
 ghost use Rattle.registry.specs.Verdict.{is_steward, HasAccessTo};
 ghost use Rattle.registry.specs.Rows.{Rows, rows_of, rows_if_any, RowsOf, RowsIfAny, grants_if_any, auths_if_any};
 ghost use Rattle.registry.specs.PartOfRows.{AreInRuns};
@@ -100,28 +99,6 @@ pub(crate) fn require_access(
         × (rule ≡ Rule.Grant)) }
 {
     require(has_access(grants, day, caller, access), Rule::Grant)
-}
-
-/// The rows if one of their grants gives the caller the access, whatever its scope; otherwise the
-/// rule `grant`.
-pub(crate) fn rows_with_access<'a>(
-    rows: Option<&'a HolderRows>,
-    day: Day,
-    caller: &Name,
-    access: Access,
-) -> Result<&'a HolderRows, Rule>
-    ensures { (charter : CharterValue) → OfRows charter (rows_if_any (option_copied rows.entry))
-        (λ history h. MatchResult result
-        (λ r. (has_access (grant_terms history h) day caller.now access ≡ true)
-        × (is_registered history h ≡ true) × RowsOf history h (rows_of r.now))
-        (λ rule. (has_access (grant_terms history h) day caller.now access ≡ false)
-        × (rule ≡ Rule.Grant))) }
-{
-    if has_access(grants_of(rows), day, caller, access) {
-        rows.ok_or(Rule::Grant)
-    } else {
-        Err(Rule::Grant)
-    }
 }
 
 /// Whether every address of the prefix is held by the holder of the rows.

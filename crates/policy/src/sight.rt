@@ -6,10 +6,10 @@ ghost use Rattle.registry.specs.History.{History};
 ghost use Rattle.registry.specs.Permission.{is_permitted_terms};
 ghost use Rattle.registry.specs.Rows.{rows_if_any, grants_if_any, auths_if_any};
 ghost use Rattle.registry.specs.Verdict.{ShowVerdict, auth_of_number};
-ghost use Rattle.registry.specs.Answer.{AnswersNumber, OfRows, IsShown, IsListed, IsListRefusal};
+ghost use Rattle.registry.specs.Answer.{AnswersList, AnswersNumber, OfRows, IsShown, IsListed, IsListRefusal};
 
 use crate::admission::{
-    auths_of, found_with_access, grants_of, is_permitted_terms, require_access, rows_with_access,
+    auths_of, found_with_access, grants_of, is_permitted_terms, require_access,
 };
 use crate::{Access, Auth, Granted, HolderRows, Refusal, Rule};
 use addr::{Day, Name};
@@ -70,18 +70,26 @@ fn permitted_auths(
     Ok(seen)
 }
 
-/// The active authorizations that the caller may see on the day, by rising number.
+/// The active authorizations that the caller may see on the day, by rising number. Of the rows it
+/// reads the grants and the authorizations.
 pub fn see_all(
     alloc: Global,
     rows: Option<&HolderRows>,
     day: Day,
     caller: &Name,
 ) -> Result<Vec<Auth>, Refusal>
-    ensures { (charter : CharterValue) → OfRows charter (rows_if_any (option_copied rows.entry))
+    ensures rows { (charter : CharterValue) → OfRows charter (rows_if_any (option_copied rows.entry))
         (λ history h. MatchResult result
         (λ seen. IsListed history h day caller.now seen.items)
         (λ refusal. IsListRefusal history h day caller.now refusal)) }
+    ensures part { (history : History) (h : List ℕ)
+        → AnswersList history h (grants_if_any (option_copied rows.entry))
+        (auths_if_any (option_copied rows.entry))
+        → MatchResult result
+        (λ seen. IsListed history h day caller.now seen.items)
+        (λ refusal. IsListRefusal history h day caller.now refusal) }
 {
-    let rows = rows_with_access(rows, day, caller, Access::Look)?;
-    Ok(permitted_auths(alloc, &rows.auths, &rows.grants, day, caller)?)
+    let grants = grants_of(rows);
+    require_access(grants, day, caller, Access::Look)?;
+    Ok(permitted_auths(alloc, auths_of(rows), grants, day, caller)?)
 }

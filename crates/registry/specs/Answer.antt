@@ -29,7 +29,7 @@ use Rattle.registry.specs.HypotheticalHistory.{HypotheticalHistory, IsChangeDeni
 use Rattle.registry.specs.Import.{ImportGrows, IsImportDenied}
 use Rattle.registry.specs.Resources.{resource_holder, is_held_by, IsFree}
 use Rattle.registry.specs.RoaPrefixes.{with_maxes}
-use Rattle.registry.specs.Terms.{HoldsEntries, gives_some, share_vrp, grant_terms, grants_made, authorizations_made, OfActive}
+use Rattle.registry.specs.Terms.{AreActive, HoldsEntries, gives_some, share_vrp, grant_terms, grants_made, authorizations_made, OfActive}
 use Rattle.registry.specs.Permission.{is_permitted_terms}
 use Rattle.registry.specs.Verdict.{Verdict, ShowVerdict, ListVerdict, IsLegal, auth_of_number, maxes_fit}
 use Rattle.registry.specs.Rows.{Rows, rows_of, rows_if_any, grants_if_any, auths_if_any, RowsOf, RowsIfAny, Carries}
@@ -199,6 +199,11 @@ IsShown history h day caller n x =
 pub record AnswersNumber (history : History) (h : List ℕ) (n : ℕ) (granted : List Granted) (found : Option Auth) : Type 0 where
   pub grants : granted ≡ grant_terms history h
   pub auth : OfActive history h (λ active. auth_of_number n active ≡ found)
+
+-- what a list is judged on: the grants and the active authorizations are those of the history
+pub record AnswersList (history : History) (h : List ℕ) (granted : List Granted) (listed : List Auth) : Type 0 where
+  pub grants : granted ≡ grant_terms history h
+  pub auths : AreActive history h listed
 
 -- the runs have the addresses that the holder holds, and no others
 abbrev pub HasRuns : History → List ℕ → List Span → Type 0

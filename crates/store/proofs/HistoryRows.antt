@@ -19,7 +19,7 @@ use Rattle.addr.specs.declared.prefix.Prefix.{Prefix}
 use Rattle.addr.specs.declared.span.Span.{Span}
 use Rattle.addr.proofs.RunLemmas.{maximal_apart}
 use Rattle.charters.specs.declared.charter.Charter.{Charter}
-use Rattle.registry.specs.Answer.{AnswersCreate, AnswersDelegate, AnswersNumber, HasRuns, IsMadeIfAny, SharesWithNone}
+use Rattle.registry.specs.Answer.{AnswersCreate, AnswersDelegate, AnswersList, AnswersNumber, HasRuns, IsMadeIfAny, SharesWithNone}
 use Rattle.registry.specs.declared.authorization.Auth.{Auth}
 use Rattle.registry.specs.declared.authorization.AuthTerms.{AuthTerms}
 use Rattle.registry.specs.declared.command.Command.{Command}
@@ -46,7 +46,7 @@ use Rattle.tables.specs.TablesHold.{items_if_any}
 use Rattle.loads.specs.declared.answers.Loaded.{Loaded}
 use Rattle.loads.specs.Loads.{AreCounted, AreGrants, AreInOrder, AreNumbered, AreRunsApart, HasRun, HaveSame, IsForCreate, IsForDelegate, MeetsSome, auths_held, created_if_any, some_gives}
 use Rattle.loads.proofs.Giving.{taken_iff}
-use Rattle.store.specs.Laws.{LoadsFactsOfHistories, LoadsNumberOfHistories, LoadsPartsOfHistories, LoadsRowsOfHistories}
+use Rattle.store.specs.Laws.{LoadsFactsOfHistories, LoadsListsOfHistories, LoadsNumberOfHistories, LoadsPartsOfHistories, LoadsRowsOfHistories}
 
 module _ {X : Type 0} (number : X → ℕ) where
   -- the numbers rise, from above one number up to another
@@ -233,6 +233,17 @@ find_kept p (x ∷ xs) = go (find_kept p xs) (p x) refl
     go : find p (filter p xs) ≡ find p xs → (b : Bool) → p x ≡ b → find p (cond b (x ∷ filter p xs) (filter p xs)) ≡ cond b (Some x) (find p xs)
     go rest true is = cond-true _ _ _ is
     go rest false is = rest
+
+pub loads_list : LoadsListsOfHistories
+loads_list charter history h rows part legal of are =
+    let xs = auths_held rows in
+    let active = (is_held charter history h rows legal of).auths in
+    let rise = auths-rise 0 xs (authorizations_made history h) (active-numbered history h xs active) in
+    let same = in_order_same (λ (x : Auth). x.number) xs part.auths.items (rise-ascending (λ (x : Auth). x.number) 0 xs (authorizations_made history h) rise) are.auths in
+    record {
+      grants = granted_loaded charter history h rows part.grants.items legal of are.grants;
+      auths = subst (AreActive history h) (sym same) active;
+    }
 
 pub loads_number : LoadsNumberOfHistories
 loads_number charter history h n rows part legal of are =

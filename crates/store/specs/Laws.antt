@@ -10,7 +10,7 @@ use Rattle.sqlite.specs.Held.{Held, state}
 use Rattle.sqlite.specs.Steps.{over_memory}
 use Rattle.charters.specs.declared.charter.Charter.{Charter}
 use Rattle.registry.specs.declared.rows.HolderRows.{HolderRows}
-use Rattle.registry.specs.Answer.{AnswersNumber, AreFacts}
+use Rattle.registry.specs.Answer.{AnswersList, AnswersNumber, AreFacts}
 use Rattle.registry.specs.declared.command.Command.{Command}
 use Rattle.registry.specs.declared.command.Proposed.{Proposed}
 use Rattle.registry.specs.History.{History}
@@ -27,7 +27,7 @@ use Rattle.database.specs.Opening.{IsOfAnotherSchema}
 use Rattle.database.specs.OldTablesRead.{OldTablesRead}
 use Rattle.database.specs.TablesRead.{TablesRead}
 use Rattle.loads.specs.declared.answers.Loaded.{Loaded}
-use Rattle.loads.specs.Loads.{AreLoaded, AreNumbered, IsLoadedFor, AllGiveOn}
+use Rattle.loads.specs.Loads.{AreListed, AreLoaded, AreNumbered, IsLoadedFor, AllGiveOn}
 use Rattle.store.specs.PartLoaded.{IsForChanges}
 use Rattle.store.specs.declared.part.Part.{Part}
 use Rattle.store.specs.StoreRows.{AreInRange, StoreView, connection_state, Holds}
@@ -45,6 +45,13 @@ LoadsNumberOfHistories =
     (charter : Charter) (history : History) (h : List ℕ) (n : ℕ) (rows : Option Rows) (part : HolderRows)
     → IsLegal charter history → RowsIfAny history h rows → AreNumbered n rows part
     → AnswersNumber history h n part.grants.items (auth_of_number n part.auths.items)
+
+-- So are the grants and the authorizations that are loaded of a holder what a list is judged on.
+abbrev pub LoadsListsOfHistories : Type 0
+LoadsListsOfHistories =
+    (charter : Charter) (history : History) (h : List ℕ) (rows : Option Rows) (part : HolderRows)
+    → IsLegal charter history → RowsIfAny history h rows → AreListed rows part
+    → AnswersList history h part.grants.items part.auths.items
 
 -- So is what is loaded for a command.
 abbrev pub LoadsFactsOfHistories : Type 0

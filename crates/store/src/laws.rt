@@ -1,6 +1,7 @@
 //! Theorems, stated as contracts of functions whose bodies at most call other theorems.
 ghost use Rattle.store.specs.Laws.{AuthsOfHistoriesGive, FilesOfHistoriesFit, HistoriesRead};
-ghost use Rattle.store.specs.Laws.{LoadsFactsOfHistories, LoadsNumberOfHistories};
+ghost use Rattle.store.specs.Laws.{LoadsFactsOfHistories, LoadsListsOfHistories};
+ghost use Rattle.store.specs.Laws.{LoadsNumberOfHistories};
 ghost use Rattle.store.specs.Laws.{LoadsPartsOfHistories, LoadsRowsOfHistories, RowsOfHistoriesFit, RowsThatReadFit};
 ghost use Rattle.store.specs.Laws.{MemoryHoldsRows, MemoryIsHonest, MemoryStaysOpen};
 ghost use Rattle.store.specs.Laws.{OldHistoriesRead, OldTablesThatReadAreOurs, RowsInRangeGive};
@@ -17,6 +18,12 @@ pub fn rows_of_a_history()
 /// that are loaded of a holder are those of that history.
 pub fn number_of_a_history()
     ensures { LoadsNumberOfHistories }
+{}
+
+/// If the tables hold the rows of a legal history, the grants and the authorizations that are
+/// loaded of a holder for a list are those of that history.
+pub fn list_of_a_history()
+    ensures { LoadsListsOfHistories }
 {}
 
 /// If the tables hold the rows of a legal history, what is loaded for a command is what the rules

@@ -16,7 +16,7 @@ use database::{make_tables, open_tables};
 use edits::make_change;
 use loads::{
     Loaded, is_registered, load_files, load_for_amend, load_for_create, load_for_delegate,
-    load_grants_counted, load_numbered, load_rows, load_vrps, some_overlap,
+    load_grants_counted, load_listed, load_numbered, load_rows, load_vrps, some_overlap,
 };
 use registry::{Answers, Change, Charter, Command, HolderRows, Proposed};
 use slurm::Slurm;
@@ -194,7 +194,7 @@ impl<S: Alter> Store<S> {
     ghost use Rattle.store.specs.Given.{GivenOnce};
     ghost use Rattle.store.specs.PartLoaded.{IsForChanges};
     ghost use Rattle.loads.specs.Loads.{AllGiveOn, AreCounted, AreFilesOf, AreLoaded};
-    ghost use Rattle.loads.specs.Loads.{AreNumbered, IsLoadedFor};
+    ghost use Rattle.loads.specs.Loads.{AreListed, AreNumbered, IsLoadedFor};
     ghost use Rattle.store.specs.StoreRows.{connection_state, Holds, IsRead, NamedFit, OfHeldRows};
     ghost use Rattle.transactions.specs.Databases.{IsDeskWhileOpen};
     ghost use Rattle.store.specs.StoreRows.{IfClean, HoldsAfter, MayLeave, LeavesOnly};
@@ -238,6 +238,18 @@ impl<S: Alter> Store<S> {
             → OfHeldRows S.Store self.old (λ rows. ¬ FitIfAny (rows.of_holder holder.now))) }
     {
         load_numbered(&mut self.conn, alloc, holder, number)
+    }
+
+    /// The grants and the authorizations of the holder, as rows with nothing else; neither if it is
+    /// not registered.
+    pub fn load_listed(&mut self, alloc: Global, holder: &Name) -> Result<HolderRows, StoreFault>
+        ensures read { IsRead S.Store self.old self.new }
+        ensures found { IfClean S.Store self.new (IfOk result (λ part.
+            OfHeldRows S.Store self.old (λ rows. AreListed (rows.of_holder holder.now) part))) }
+        ensures schema { IfClean S.Store self.new (result ≡ Err StoreFault.Schema
+            → OfHeldRows S.Store self.old (λ rows. ¬ FitIfAny (rows.of_holder holder.now))) }
+    {
+        load_listed(&mut self.conn, alloc, holder)
     }
 
     /// Whether the holder is registered.

@@ -121,8 +121,8 @@ impl<S: Alter> Desk<S> {
             AnswersList history holder.now day caller.now reply)) }
         ensures never_done { IfOk result (λ reply. is_accepted reply ≡ false) }
     {
-        let rows = self.load(holder)?;
-        match policy::see_all(self.alloc, rows.as_ref(), day, caller) {
+        let rows = self.load_listed(holder)?;
+        match policy::see_all(self.alloc, Some(&rows), day, caller) {
             Ok(auths) => Ok(Reply::Listed(auths)),
             Err(refusal) => Ok(Reply::from(refusal)),
         }
