@@ -138,7 +138,8 @@ fn collect_table<T: InTable, S: Alter>(
         → ¬ AllByRecursion (ShowsSome T.cells T.fits)
         (shown_in T.tree T.places (state S.Store conn.old).now) }
 {
-    let collected: Collected<T> = take_each(conn, T::select_all(), Collected::none(alloc))?;
+    let none: Collected<T> = Collected::none(alloc);
+    let collected = take_each(conn, T::select_all(), &[], none)?;
     let Some(values) = collected.into_values() else {
         return Err(StoreFault::Schema);
     };

@@ -1,14 +1,13 @@
 -- The authorizations of all holders that are in force on a day.
-use Rattle.std.proofs.Common.{◌≡◌, ◌↔◌, ℕ, pos, true, false, ◌&&◌, List, [], ◌∷◌, map, filter, drop, Some, Contains, Result, IfOk, IsTrue, nat_le, int_cmp, is_eq, Ordering, Less, Equal, Greater, refl, sym, ap, subst, ◌∙◌, arith, IsPermutation}
+use Rattle.std.proofs.Common.{◌≡◌, ◌↔◌, ℕ, pos, true, false, ◌&&◌, List, [], ◌∷◌, ◌++◌, map, filter, drop, Some, Contains, nat_le, int_cmp, is_eq, Ordering, Less, Equal, Greater, refl, sym, ap, ap₂, subst, ◌∙◌, arith, IsPermutation}
 use Rattle.std.specs.Ordering.{ordering_then}
 use Rattle.std.proofs.lemmas.Bool.{and_parts, and_from, leb-true, le-leb}
 use Rattle.std.proofs.lemmas.Cmp.{tied_itself}
 use Rattle.std.proofs.lemmas.Int.{ints}
 use Rattle.std.proofs.lemmas.List.Sorted.{IsPermutation-sym, IsPermutation-map, list_any-IsPermutation}
-use Rattle.std.proofs.lemmas.Result.{IfOk-weaker}
-use Rattle.sqlite.specs.declared.error.Error.{Error}
+use Rattle.std.proofs.lemmas.List.{map-append}
 use Rattle.sqlite.specs.Effect.{Database, IsDatabase, Reads}
-use Rattle.sqlite.specs.State.{State, Shown}
+use Rattle.sqlite.specs.State.{State}
 use Rattle.sqlite_value.specs.declared.keys.Key.{Key}
 use Rattle.sqlite_value.specs.declared.value.Value.TheVariants.{Null, Text}
 use Rattle.sqlite_value.specs.Order.{Row, column, value_cmp}
@@ -31,7 +30,9 @@ use Rattle.tables.specs.declared.claim.TheConstants.{SELECT_CLAIMS_IN_FORCE}
 use Rattle.tables.specs.declared.entry.EntryRow.{EntryRow}
 use Rattle.tables.specs.declared.entry.TheConstants.{SELECT_PAYLOADS}
 use Rattle.tables.specs.Authorizations.{claim_of}
-use Rattle.tables.specs.Cells.{number_cell, claim_row, entry_row}
+use Rattle.tables.specs.declared.groups.OfHolder.{OfHolder}
+use Rattle.tables.specs.Cells.{number_cell, claim_cells, claim_row, entry_row, named_cells}
+use Rattle.tables.specs.Decode.{first_columns}
 use Rattle.tables.specs.Groups.{claim_entry}
 use Rattle.tables.specs.Tables.{claim, entry, desk_tables, contents, IsTree}
 use Rattle.tables.specs.TablesHold.{HoldsPart, claim_part, entry_part}
@@ -42,12 +43,12 @@ use Rattle.tables.proofs.Selecting.{picks, permuted, sorted}
 use Rattle.tables.proofs.SomeRow.{has_permuted, of_some, in_table, has_entry_row, entry_row_of}
 use Rattle.tables.proofs.Texts.{upwards}
 use Rattle.transactions.specs.Laws.{payload_columns, ClaimsDiffer}
-use Rattle.transactions.specs.steps.Statements.{AnswersSelect}
+use Rattle.transactions.specs.steps.Statements.{AnswersSelect, AnswersWith}
 use Rattle.tables.proofs.Columns.{shown_at, shown_columns}
-use Rattle.transactions.proofs.QueryLemmas.{reads_desk}
-use Rattle.loads.specs.steps.InForce.{claim_columns, entry_columns, payload_of, claim_key, payload_key, key_order, is_claimed, ClaimsRise, is_open_on, claims_on, is_claimed_on, FindsClaims, FindsPayloads, FindsInForce, IsPayloadOn, of_claims}
+use Rattle.loads.specs.declared.across.ClaimKey.{ClaimKey}
+use Rattle.loads.specs.steps.InForce.{claim_columns, entry_columns, payload_of, claim_key, key_cells, payload_key, key_order, is_claimed, ClaimsRise, is_open_on, keys_on, is_claimed_on, FindsClaims, FindsPayloads, FindsInForce, IsPayloadOn, of_claims}
 use Rattle.loads.specs.Loads.{IsOfAll}
-use Rattle.loads.proofs.Claimed.{key_total}
+use Rattle.loads.proofs.Claimed.{key_total, keys_rise}
 use Rattle.loads.proofs.Finding.{of_contents}
 
 -- ---- the claims
@@ -65,26 +66,33 @@ columns_alone day (v ∷ r) = refl
 ranked : (x y : Row) → ordering_then (value_cmp (column x 4) (column y 4)) (ordering_then (value_cmp (column x 0) (column y 0)) Equal) ≡ key_order (claim_key x) (claim_key y)
 ranked x y = ap (ordering_then (value_cmp (column x 4) (column y 4))) (then-Equal _)
 
-module _ (day : ℕ) (old new : State) (has : IsTrue old.is_open → old.now.schema.tables ≡ desk_tables) where
+-- a claim more is taken
+pub one_key_more : (claims now : List ClaimKey) (rows : List Row) (row : Row) (x : OfHolder Claim) → map key_cells claims ≡ map claim_key rows → first_columns 5 row ≡ named_cells claim_cells x
+    → now ≡ claims ++ record { holder = x.holder; number = x.row.number } ∷ [] → map key_cells now ≡ map claim_key (rows ++ row ∷ [])
+one_key_more claims now rows row x was shown more =
+    ap (map key_cells) more ∙ map-append key_cells claims _ ∙ ap₂ ◌++◌ was (ap (λ c. claim_key c ∷ []) (sym shown)) ∙ sym (map-append claim_key rows (row ∷ []))
+
+-- what is shown of the claims in force
+abbrev claims_on : ℕ → Database → List Row
+claims_on day db = map claim_columns (filter (is_open_on day) (contents (db.trees claim.tree)))
+
+module _ (day : ℕ) (db : Database) (claims : List ClaimKey) (rows : List Row) (taken : map key_cells claims ≡ map claim_key rows) (answered : AnswersWith SELECT_CLAIMS_IN_FORCE.now (number_cell day ∷ []) db rows) where
   abbrev params : Row
   params = number_cell day ∷ []
 
-  finds_claims : (rows : List Row) → Shown SELECT_CLAIMS_IN_FORCE.now params old new rows → FindsClaims day old.now rows
-  finds_claims rows shown =
-      let read = reads_desk claims_in_force_is params old new rows has shown in
-      let same = of_contents (λ r. eval_all (shown_at claim_places) (params ∷ r ∷ [])) claim_columns (picks params claims_in_force_tests) (is_open_on day) (shown_columns claim_places params) (columns_alone day) (old.now.trees claim.tree) in
-      subst (λ l. IsPermutation l rows) same (permuted claim.tree claims_in_force_tests (shown_at claim_places) claim_order old.now.trees params rows (read.answer Null))
+  pub finds_claims : FindsClaims day db claims
+  finds_claims =
+      let read = subst (λ (k : Command). Reads k db params rows) (claims_in_force_is.is db.schema) answered in
+      let same = of_contents (λ r. eval_all (shown_at claim_places) (params ∷ r ∷ [])) claim_columns (picks params claims_in_force_tests) (is_open_on day) (shown_columns claim_places params) (columns_alone day) (db.trees claim.tree) in
+      let found = subst (λ l. IsPermutation l rows) same (permuted claim.tree claims_in_force_tests (shown_at claim_places) claim_order db.trees params rows (read.answer Null)) in
+      subst (λ l. IsPermutation l (map key_cells claims)) (map-map claim_key claim_columns _)
+      (subst (IsPermutation (map claim_key (claims_on day db))) (sym taken) (IsPermutation-map claim_key _ _ found))
 
-  claims_rise : (rows : List Row) → Shown SELECT_CLAIMS_IN_FORCE.now params old new rows → ClaimsRise rows
-  claims_rise rows shown =
-      let read = reads_desk claims_in_force_is params old new rows has shown in
-      sorted claim.tree claims_in_force_tests (shown_at claim_places) claim_order old.now.trees params rows (4 ∷ 0 ∷ []) (λ c d. key_order (claim_key c) (claim_key d)) (λ r. refl) ranked (read.answer Null)
-
-  pub all_claims : {X : Type 0} (items : X → List Row) (r : Result X Error) (values : Row) → values ≡ params → IfOk r (λ x. Shown SELECT_CLAIMS_IN_FORCE.now values old new (items x)) → IfOk r (λ x. FindsClaims day old.now (items x))
-  all_claims items r values is shown = IfOk-weaker r _ _ (λ x h. finds_claims (items x) (subst (λ p. Shown SELECT_CLAIMS_IN_FORCE.now p old new (items x)) is h)) shown
-
-  pub claims_in_order : {X : Type 0} (items : X → List Row) (r : Result X Error) (values : Row) → values ≡ params → IfOk r (λ x. Shown SELECT_CLAIMS_IN_FORCE.now values old new (items x)) → IfOk r (λ x. ClaimsRise (items x))
-  claims_in_order items r values is shown = IfOk-weaker r _ _ (λ x h. claims_rise (items x) (subst (λ p. Shown SELECT_CLAIMS_IN_FORCE.now p old new (items x)) is h)) shown
+  pub claims_rise : ClaimsRise claims
+  claims_rise =
+      let read = subst (λ (k : Command). Reads k db params rows) (claims_in_force_is.is db.schema) answered in
+      keys_rise claims rows taken
+      (sorted claim.tree claims_in_force_tests (shown_at claim_places) claim_order db.trees params rows (4 ∷ 0 ∷ []) (λ c d. key_order (claim_key c) (claim_key d)) (λ r. refl) ranked (read.answer Null))
 
 -- ---- the payloads
 
@@ -100,16 +108,17 @@ finds_payloads db rows answered =
     subst (λ l. IsPermutation l rows) (same ∙ ap (map entry_columns) every) (permuted entry.tree [] (shown_at entry_places) [] db.trees [] rows answer)
 
 -- the payloads that are of one of the claims are those of the entries whose claims are in force
-claimed_found : (day : ℕ) (db : Database) (claims payloads : List Row) → FindsClaims day db claims → FindsPayloads db payloads → FindsInForce day db (of_claims claims payloads)
+claimed_found : (day : ℕ) (db : Database) (claims : List ClaimKey) (payloads : List Row) → FindsClaims day db claims → FindsPayloads db payloads → FindsInForce day db (of_claims claims payloads)
 claimed_found day db claims payloads found of_entries =
     let table = contents (db.trees entry.tree) in
-    let same : filter (is_claimed claims) (map entry_columns table) ≡ map entry_columns (filter (is_claimed_on day db) table) =
-    filter-map (is_claimed claims) entry_columns table
-    ∙ (λ i. map entry_columns (filter (λ c. sym (list_any-IsPermutation (λ d. is_eq (key_order (claim_key d) (payload_key (entry_columns c)))) (claims_on day db) claims found) i) table)) in
-    let shown = IsPermutation-map payload_of _ _ (IsPermutation-filter (is_claimed claims) _ _ of_entries) in
-    subst (λ l. IsPermutation l (map payload_of (filter (is_claimed claims) payloads))) (ap (map payload_of) same ∙ map-map payload_of entry_columns _) shown
+    let keys = map key_cells claims in
+    let same : filter (is_claimed keys) (map entry_columns table) ≡ map entry_columns (filter (is_claimed_on day db) table) =
+    filter-map (is_claimed keys) entry_columns table
+    ∙ (λ i. map entry_columns (filter (λ c. sym (list_any-IsPermutation (λ k. is_eq (key_order k (payload_key (entry_columns c)))) (keys_on day db) keys found) i) table)) in
+    let shown = IsPermutation-map payload_of _ _ (IsPermutation-filter (is_claimed keys) _ _ of_entries) in
+    subst (λ l. IsPermutation l (map payload_of (filter (is_claimed keys) payloads))) (ap (map payload_of) same ∙ map-map payload_of entry_columns _) shown
 
-pub taken_found : (day : ℕ) (db : Database) (claims payloads : List Row) → FindsClaims day db claims → AnswersSelect SELECT_PAYLOADS.now db payloads → FindsInForce day db (of_claims claims payloads)
+pub taken_found : (day : ℕ) (db : Database) (claims : List ClaimKey) (payloads : List Row) → FindsClaims day db claims → AnswersSelect SELECT_PAYLOADS.now db payloads → FindsInForce day db (of_claims claims payloads)
 taken_found day db claims payloads found answered = claimed_found day db claims payloads found (finds_payloads db payloads answered)
 
 -- ---- what they are of the typed rows
@@ -134,7 +143,7 @@ number_is m n is = let same : is_eq (int_cmp (pos m) (pos n)) ≡ true = sym (ap
 
 -- a claim and an entry, as they are shown, that have the same holder and number
 abbrev HaveOneKey : Row → Row → Type 0
-HaveOneKey c d = is_eq (key_order (claim_key (claim_columns c)) (payload_key (entry_columns d))) ≡ true
+HaveOneKey c d = is_eq (key_order (number_columns c) (payload_key (entry_columns d))) ≡ true
 
 one_key : (k h : List ℕ) (c : Claim) (d : EntryRow) → HaveOneKey (claim_row k c) (entry_row h d) → (k ≡ h) × (c.number ≡ d.number)
 one_key k h c d is =
@@ -163,10 +172,10 @@ module _ (day : ℕ) (all : AllRows) (db : Database) (rows : List Row) (holds_cl
   is_open : (h : List ℕ) (r : Rows) (x : Auth) (e : RoaPrefix) → all.of_holder h ≡ Some r → Has r.auths x → is_claimed_on day db (entry_row h (claim_entry (claim_of x) e)) ≡ true → is_open_on day (claim_row h (claim_of x)) ≡ true
   is_open h r x e of in_r claimed =
       let row = entry_row h (claim_entry (claim_of x) e) in
-      let (c, has, key) = some_has (λ c. is_eq (key_order (claim_key c) (payload_key (entry_columns row)))) (claims_on day db) claimed in
-      let (d, kept, shows) = has_mapped claim_columns (filter (is_open_on day) claims) c has in
+      let (k, has, key) = some_has (λ k. is_eq (key_order k (payload_key (entry_columns row)))) (keys_on day db) claimed in
+      let (d, kept, shows) = has_mapped number_columns (filter (is_open_on day) claims) k has in
       let (there, opened) = has_filtered (is_open_on day) claims d kept in
-      let key_of_d : HaveOneKey d row = subst (λ b. is_eq (key_order (claim_key b) (payload_key (entry_columns row))) ≡ true) shows key in
+      let key_of_d : HaveOneKey d row = subst (λ k. is_eq (key_order k (payload_key (entry_columns row))) ≡ true) shows key in
       subst (λ b. is_open_on day b ≡ true) (one_claim d there h r x e of in_r key_of_d) opened
 
   is_in_force : (v : Row) → Contains rows v → IsPayloadOn all day v
@@ -187,8 +196,8 @@ module _ (day : ℕ) (all : AllRows) (db : Database) (rows : List Row) (holds_cl
       let kept = in_table entry_part all.of_holder entries holds_entries row h r of (has_entry_row h r x e own (has_contained x.entries e in_x)) in
       let held = in_table claim_part all.of_holder claims holds_claims its h r of (mapped_has (λ z. claim_row h (claim_of z)) r.auths x own) in
       let opened = has_kept (is_open_on day) claims its held (open_is day h (claim_of x) ∙ and_from _ _ (le-leb _ _ from) (le-leb _ _ until)) in
-      let on = mapped_has claim_columns (filter (is_open_on day) claims) its opened in
-      let claimed = some_from (λ c. is_eq (key_order (claim_key c) (payload_key (entry_columns row)))) (claims_on day db) (claim_columns its) on (ap is_eq (tied_itself key_total (Text h ∷ number_cell x.number ∷ []))) in
+      let on = mapped_has number_columns (filter (is_open_on day) claims) its opened in
+      let claimed = some_from (λ k. is_eq (key_order k (payload_key (entry_columns row)))) (keys_on day db) (number_columns its) on (ap is_eq (tied_itself key_total (Text h ∷ number_cell x.number ∷ []))) in
       let picked = has_kept (is_claimed_on day db) entries row kept claimed in
       subst (Contains rows) (sym is) (contains_had rows _ (has_permuted _ _ (payload_columns row) found (mapped_has payload_columns (filter (is_claimed_on day db) entries) row picked)))
 

@@ -9,17 +9,18 @@ ghost use Rattle.registry.specs.Values.{VrpFits};
 ghost use Rattle.tables.specs.Cells.{family_number, number_cell, vrp_cells};
 ghost use Rattle.tables.specs.Decode.{ShowsNone};
 ghost use Rattle.transactions.specs.Queries.{IsAsked, IsClean, IsReadyToAsk};
-ghost use Rattle.loads.specs.steps.InForce.{ClaimsRise, FindsClaims, FindsInForce, ShowVrps, claim_key, is_claimed, key_order, of_claims, payload_key, payload_of};
+ghost use Rattle.loads.specs.steps.InForce.{ClaimsRise, FindsClaims, FindsInForce, ShowVrps, claim_key, is_claimed, key_cells, key_order, of_claims, payload_key, payload_of};
 ghost use Rattle.loads.specs.Loads.{IsOfAll, MeetsSome};
 
-use addr::{Day, Family, Prefix, Vrp};
+use addr::{Day, Family, Name, Prefix, Vrp};
 use sqlite::types::{ToSql, ValueRef};
 use sqlite::{Alter, Connection, Error, Row};
 use sqlite_value::order::compare;
-use std::alloc::Global;
+use std::alloc::{AllocError, Global};
 use std::cmp::Ordering;
 use tables::{
-    FromRow, SELECT_CLAIMS_IN_FORCE, SELECT_OVERLAP, SELECT_PAYLOADS, address_bytes, family_number,
+    Claim, FromRow, OfHolder, SELECT_CLAIMS_IN_FORCE, SELECT_OVERLAP, SELECT_PAYLOADS,
+    address_bytes, family_number,
 };
 use transactions::{StoreFault, TakeRow, ask, take_each};
 
@@ -59,15 +60,69 @@ pub fn some_overlap<S: Alter>(conn: &mut Connection<S>, prefix: &Prefix) -> Resu
     Ok(!found.is_empty())
 }
 
+/// The holder and the number of a claim.
+#[derive(Clone, Copy)]
+pub(crate) struct ClaimKey {
+    holder: Name,
+    number: u32,
+}
+
+/// The keys of the claims so far.
+#[derive(Drop)]
+struct Claims {
+    keys: Vec<ClaimKey>,
+}
+
+impl Claims {
+    /// The keys of no claims.
+    fn none(alloc: Global) -> Claims
+        ensures { result.keys.items ≡ [] }
+    {
+        Claims {
+            keys: Vec::new(alloc),
+        }
+    }
+}
+
+impl TakeRow for Claims {
+    ghost took = { λ _ rows now. map key_cells now.keys.items ≡ map claim_key rows };
+
+    fn take(mut self, row: &Row) -> Result<Claims, StoreFault> {
+        // An opening refuses a desk with a row that shows no claim.
+        let Some(claim) = OfHolder::<Claim>::in_row(row) else {
+            return Err(StoreFault::Database);
+        };
+        let key = ClaimKey {
+            holder: claim.holder,
+            number: claim.row.number,
+        };
+        let Ok(()) = self.keys.push(key) else {
+            return Err(StoreFault::Database);
+        };
+        Ok(self)
+    }
+}
+
 /// The claims of all holders that are in force on the day, by rising holder and number.
-fn claims_in_force<S: Alter>(conn: &mut Connection<S>, day: Day) -> Result<Vec<Row>, Error>
+fn claims_in_force<S: Alter>(
+    conn: &mut Connection<S>,
+    alloc: Global,
+    day: Day,
+) -> Result<Vec<ClaimKey>, StoreFault>
     requires { IsReadyToAsk S.Store conn.old }
     ensures asked { IsAsked S.Store conn.old conn.new result }
-    ensures found { IsClean S.Store conn.new → IfOk result (λ rows.
-        FindsClaims day (state S.Store conn.old).now rows.items) }
-    ensures rising { IsClean S.Store conn.new → IfOk result (λ rows. ClaimsRise rows.items) }
+    ensures found { IsClean S.Store conn.new → IfOk result (λ claims.
+        FindsClaims day (state S.Store conn.old).now claims.items) }
+    ensures rising { IsClean S.Store conn.new → IfOk result (λ claims. ClaimsRise claims.items) }
+    ensures no_schema { result ≢ Err StoreFault.Schema }
 {
-    ask(conn, SELECT_CLAIMS_IN_FORCE, &day_values(day))
+    let taken = take_each(
+        conn,
+        SELECT_CLAIMS_IN_FORCE,
+        &day_values(day),
+        Claims::none(alloc),
+    )?;
+    Ok(taken.keys)
 }
 
 /// The value in a column, and NULL past the end.
@@ -78,16 +133,17 @@ pub(crate) fn cell(row: &Row, at: usize) -> ValueRef<'_>
 }
 
 /// How the holder and the number of a claim compare to those of the claim of a payload.
-fn compare_keys(claim: &Row, payload: &Row) -> Ordering
-    ensures { result ≡ key_order (claim_key claim.now) (payload_key payload.now) }
+fn compare_keys(claim: &ClaimKey, payload: &Row) -> Ordering
+    ensures { result ≡ key_order (key_cells claim.now) (payload_key payload.now) }
 {
-    let holders = compare(cell(claim, 4), cell(payload, 5));
-    holders.then(compare(cell(claim, 0), cell(payload, 6)))
+    let holders = compare(claim.holder.as_str().to_sql(), cell(payload, 5));
+    holders.then(compare(claim.number.to_sql(), cell(payload, 6)))
 }
 
 /// Whether the payload is of one of the claims.
-fn is_claimed(claims: &[Row], payload: &Row) -> bool
-    ensures { ClaimsRise claims.now → result ≡ is_claimed claims.now payload.now }
+fn is_claimed(claims: &[ClaimKey], payload: &Row) -> bool
+    ensures { ClaimsRise claims.now
+        → result ≡ is_claimed (map key_cells claims.now) payload.now }
 {
     claims
         .binary_search_by(|claim| compare_keys(claim, payload))
@@ -97,7 +153,7 @@ fn is_claimed(claims: &[Row], payload: &Row) -> bool
 /// The claims in force, and the VRPs of their payloads so far, up to the first that shows none.
 #[derive(Drop)]
 pub(crate) struct InForce {
-    claims: Vec<Row>,
+    claims: Vec<ClaimKey>,
     vrps: Vec<Vrp>,
     is_read: bool,
 }
@@ -123,17 +179,18 @@ fn with_vrp(mut taken: InForce, payload: &Row) -> Result<InForce, StoreFault>
 }
 
 impl InForce {
-    /// The VRPs of no payloads.
-    fn none(alloc: Global, claims: Vec<Row>) -> InForce
-        ensures claims { result.claims ≡ claims }
-        ensures vrps { result.vrps.items ≡ [] }
-        ensures is_read { result.is_read ≡ true }
+    /// The VRPs of no payloads, with room for one of each claim.
+    fn none(alloc: Global, claims: Vec<ClaimKey>) -> Result<InForce, AllocError>
+        ensures claims { IfOk result (λ none. none.claims ≡ claims) }
+        ensures vrps { IfOk result (λ none. none.vrps.items ≡ []) }
+        ensures is_read { IfOk result (λ none. none.is_read ≡ true) }
     {
-        InForce {
+        let vrps = Vec::with_capacity(alloc, claims.len())?;
+        Ok(InForce {
             claims,
-            vrps: Vec::new(alloc),
+            vrps,
             is_read: true,
-        }
+        })
     }
 
     /// The VRPs, if each payload of a claim in force showed one.
@@ -176,6 +233,7 @@ pub(crate) fn take_in_force<S: Alter>(
         × ShowVrps rows taken.vrps.items taken.is_read) }
     ensures no_schema { result ≢ Err StoreFault.Schema }
 {
-    let claims = claims_in_force(conn, day)?;
-    take_each(conn, SELECT_PAYLOADS, InForce::none(alloc, claims))
+    let claims = claims_in_force(conn, alloc, day)?;
+    let none = InForce::none(alloc, claims)?;
+    take_each(conn, SELECT_PAYLOADS, &[], none)
 }

@@ -9,7 +9,7 @@ ghost use Rattle.sqlite_value.specs.Order.{Row as Cells};
 ghost use Rattle.tables.specs.Tables.{OverDesk};
 ghost use Rattle.transactions.specs.Statements.{IfAnswered, IsReady, WhenClean};
 ghost use Rattle.transactions.specs.Queries.{IsAsked, IsClean, IsReadyToAsk, IsAskedInside};
-ghost use Rattle.transactions.specs.steps.Statements.{AnswersSelect};
+ghost use Rattle.transactions.specs.steps.Statements.{AnswersWith};
 
 use crate::fault::StoreFault;
 use sqlite::types::ValueRef;
@@ -69,13 +69,14 @@ pub trait TakeRow: Drop {
 fn take_rows<S: Alter, T: TakeRow>(
     conn: &mut Connection<S>,
     sql: &str,
+    values: &[ValueRef<'_>],
     taker: T,
 ) -> Result<T, StoreFault>
     requires plain { IsClean S.Store conn.old → IsPlain (understood conn.old.schema sql.now) }
     requires begun { T.took taker [] taker }
     ensures mode { conn.old.in_transaction ≡ false → conn.new.in_transaction ≡ false }
     ensures taken { IsClean S.Store conn.new → IfOk result (λ now. (rows : List Cells)
-        × Shown sql.now [] (state S.Store conn.old) (state S.Store conn.new) rows
+        × Shown sql.now (bound values.now) (state S.Store conn.old) (state S.Store conn.new) rows
         × T.took taker rows now) }
     ensures kept { IsClean S.Store conn.new → OnErr result
         (IsUnchanged (state S.Store conn.old) (state S.Store conn.new)
@@ -84,7 +85,7 @@ fn take_rows<S: Alter, T: TakeRow>(
     ensures no_schema { result ≢ Err StoreFault.Schema }
 {
     let mut now = taker;
-    let mut rows = conn.query(sql, &[])?;
+    let mut rows = conn.query(sql, values)?;
     'rows: for _ in 0..u64::MAX {
         let Some(row) = rows.next()? else {
             return Ok(now);
@@ -99,6 +100,7 @@ fn take_rows<S: Alter, T: TakeRow>(
 pub fn take_each<S: Alter, T: TakeRow>(
     conn: &mut Connection<S>,
     sql: &str,
+    values: &[ValueRef<'_>],
     taker: T,
 ) -> Result<T, StoreFault>
     requires ready { IsReadyToAsk S.Store conn.old }
@@ -107,11 +109,12 @@ pub fn take_each<S: Alter, T: TakeRow>(
     requires begun { T.took taker [] taker }
     ensures asked { IsAsked S.Store conn.old conn.new result }
     ensures taken { IsClean S.Store conn.new → IfOk result (λ now. (rows : List Cells)
-        × AnswersSelect sql.now (state S.Store conn.old).now rows × T.took taker rows now) }
+        × AnswersWith sql.now (bound values.now) (state S.Store conn.old).now rows
+        × T.took taker rows now) }
     ensures no_schema { result ≢ Err StoreFault.Schema }
 {
     // For the proof: its contract says that outside a transaction all that is shown is committed.
     let _idle = conn.is_autocommit();
     conn.prepare(sql)?;
-    take_rows(conn, sql, taker)
+    take_rows(conn, sql, values, taker)
 }

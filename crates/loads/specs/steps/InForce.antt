@@ -1,11 +1,12 @@
--- Steps of reading: the authorizations of all holders that are in force on a day. Their claims are queried, and of the
--- payloads of all entries those of such a claim are taken, one at a time.
+-- Steps of reading: the authorizations of all holders that are in force on a day. The keys of their claims are taken
+-- one at a time, and then of the payloads of all entries those of such a claim.
 use Rattle.std.specs.Prelude.{◌≡◌, ℕ, ◌≤◌, Bool, true, false, ◌&&◌, List, [], ◌∷◌, ◌++◌, map, filter, Contains, Some, IsPermutation, IsSorted}
 use Rattle.std.specs.List.{list_any}
 use Rattle.std.specs.declared.cmp.Ordering.{Ordering}
 use Rattle.std.specs.Ordering.{is_eq, then_cmp}
 use Rattle.sqlite.specs.Effect.{Database}
 use Rattle.sqlite_value.specs.declared.keys.Collation.TheVariants.{Binary}
+use Rattle.sqlite_value.specs.declared.value.Value.TheVariants.{Text}
 use Rattle.sqlite_value.specs.Order.{Row, column}
 use Rattle.sqlite_sql.specs.declared.ops.CompareOp.TheVariants.{Le, Ge}
 use Rattle.sqlite_sql.specs.declared.ops.BinaryOp.TheVariants.{Compare}
@@ -20,7 +21,8 @@ use Rattle.registry.specs.Values.{VrpFits}
 use Rattle.tables.specs.Cells.{number_cell, prefix_cells, vrp_cells}
 use Rattle.tables.specs.Decode.{ShowsNone, first_columns}
 use Rattle.tables.specs.Tables.{claim, entry, columns, contents}
-use Rattle.transactions.specs.Laws.{payload_columns}
+use Rattle.transactions.specs.Laws.{number_columns, payload_columns}
+use Rattle.loads.specs.declared.across.ClaimKey.{ClaimKey}
 use Rattle.loads.specs.steps.Queries.{by_column}
 
 -- ---- what the two queries show
@@ -44,16 +46,19 @@ claim_key = columns (4 ∷ 0 ∷ [])
 abbrev pub payload_key : Row → Row
 payload_key = columns (5 ∷ 6 ∷ [])
 
+abbrev pub key_cells : ClaimKey → Row
+key_cells k = Text k.holder ∷ number_cell k.number ∷ []
+
 -- by the holder, then by the number
 abbrev pub key_order : Row → Row → Ordering
 key_order = then_cmp (by_column 0) (by_column 1)
 
-abbrev pub ClaimsRise : List Row → Type 0
-ClaimsRise = IsSorted (λ c d. key_order (claim_key c) (claim_key d))
+abbrev pub ClaimsRise : List ClaimKey → Type 0
+ClaimsRise = IsSorted (λ c d. key_order (key_cells c) (key_cells d))
 
--- one of the claims has the holder and the number of the payload
+-- one of the keys is the holder and the number of the payload
 abbrev pub is_claimed : List Row → Row → Bool
-is_claimed claims row = list_any (λ c. is_eq (key_order (claim_key c) (payload_key row))) claims
+is_claimed keys row = list_any (λ k. is_eq (key_order k (payload_key row))) keys
 
 -- ---- the rows of the tables
 
@@ -63,18 +68,19 @@ is_open_on day c =
     is_true (binary (Compare Le Binary) (column c 3) (number_cell day))
     && (is_true (binary (Compare Ge Binary) (column c 4) (number_cell day)) && true)
 
-abbrev pub claims_on : ℕ → Database → List Row
-claims_on day db = map claim_columns (filter (is_open_on day) (contents (db.trees claim.tree)))
+-- the keys of those
+abbrev pub keys_on : ℕ → Database → List Row
+keys_on day db = map number_columns (filter (is_open_on day) (contents (db.trees claim.tree)))
 
-abbrev pub FindsClaims : ℕ → Database → List Row → Type 0
-FindsClaims day db rows = IsPermutation (claims_on day db) rows
+abbrev pub FindsClaims : ℕ → Database → List ClaimKey → Type 0
+FindsClaims day db claims = IsPermutation (keys_on day db) (map key_cells claims)
 
 abbrev pub FindsPayloads : Database → List Row → Type 0
 FindsPayloads db rows = IsPermutation (map entry_columns (contents (db.trees entry.tree))) rows
 
 -- the row of an entry whose claim is in force on the day
 abbrev pub is_claimed_on : ℕ → Database → Row → Bool
-is_claimed_on day db c = is_claimed (claims_on day db) (entry_columns c)
+is_claimed_on day db c = is_claimed (keys_on day db) (entry_columns c)
 
 abbrev pub FindsInForce : ℕ → Database → List Row → Type 0
 FindsInForce day db rows =
@@ -83,8 +89,8 @@ FindsInForce day db rows =
 -- ---- payloads that are taken one at a time
 
 -- the payloads that are of one of the claims
-abbrev pub of_claims : List Row → List Row → List Row
-of_claims claims rows = map payload_of (filter (is_claimed claims) rows)
+abbrev pub of_claims : List ClaimKey → List Row → List Row
+of_claims claims rows = map payload_of (filter (is_claimed (map key_cells claims)) rows)
 
 -- each payload shows a VRP, and these are they, or some payload shows none
 pub record ShowVrps (payloads : List Row) (vrps : List Vrp) (is_read : Bool) : Type 0 where

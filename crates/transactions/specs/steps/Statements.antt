@@ -15,6 +15,9 @@ pub record PutsRows (tree : ℕ) (rows : List Row) (old new : State) : Type 0 wh
   pub sound : IsDatabase old.now → IsDatabase new.now
   pub edits : Edits tree (λ table. rows ++ table) old.now new.now
 
--- over the tables of a desk the text, which has no parameter, answers these rows
+-- over the tables of a desk the text answers these rows, with these parameters, and with none
+abbrev pub AnswersWith : List ℕ → Row → Database → List Row → Type 0
+AnswersWith sql params db rows = Reads (command_of (understood (desk_beside db.schema) sql)) db params rows
+
 abbrev pub AnswersSelect : List ℕ → Database → List Row → Type 0
-AnswersSelect sql db rows = Reads (command_of (understood (desk_beside db.schema) sql)) db [] rows
+AnswersSelect sql = AnswersWith sql []

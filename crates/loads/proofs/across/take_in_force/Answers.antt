@@ -4,10 +4,10 @@ use Rattle.std.specs.Global.{Vec}
 use Rattle.sqlite.specs.Effect.{Database}
 use Rattle.sqlite.specs.Held.{state}
 use Rattle.sqlite.specs.State.{HasCleanDisk}
-use Rattle.sqlite_value.specs.Order.{Row}
 use Rattle.tables.specs.declared.entry.TheConstants.{SELECT_PAYLOADS}
 use Rattle.tables.proofs.ClaimTexts.{payloads_is}
 use Rattle.transactions.specs.steps.Statements.{AnswersSelect}
+use Rattle.loads.specs.declared.across.ClaimKey.{ClaimKey}
 use Rattle.loads.specs.steps.InForce.{of_claims, ClaimsRise, ShowVrps}
 use Rattle.loads.proofs.InForce.{taken_found}
 use Rattle.loads.proofs.across.take_in_force.Goals as goal
@@ -24,10 +24,10 @@ returns-clause-taken g c clean =
     let mid : HasCleanDisk (state g.S.Store c.claims_in_force.new.conn) = omega (arith, clean, c.take_each.ensures.asked.survives.clean) in
     let claims = c.in_ok-claims.claims.items in
     let same = (c.in_ok-claims.ensures.asked.same mid).0.now_is in
-    let own = ap (λ (v : Vec Row). v.items) c.none.ensures.claims in
+    let own = ap (λ (v : Vec ClaimKey). v.items) c.in_ok-none.ensures.claims in
     let rise = subst ClaimsRise (sym own) (c.in_ok-claims.ensures.rising mid) in
     IfOk-weaker c.take_each.result _ _ (λ taken it. (
       of_claims claims it.0,
       taken_found c.args.day old.now claims it.0 (c.in_ok-claims.ensures.found mid) (subst (λ (db : Database). AnswersSelect SELECT_PAYLOADS.now db it.0) same it.1),
-      subst (λ (l : List Row). ShowVrps (of_claims l it.0) taken.vrps.items taken.is_read) own (it.2.1 rise),
+      subst (λ (l : List ClaimKey). ShowVrps (of_claims l it.0) taken.vrps.items taken.is_read) own (it.2.1 rise),
     )) (c.take_each.ensures.taken clean)

@@ -1,7 +1,8 @@
-use Rattle.std.proofs.Common.{◌≡◌, false, List, []}
+use Rattle.std.proofs.Common.{◌≡◌, false, List}
 use Rattle.sqlite.specs.State.{HasCleanDisk, IsUnchanged, Survives}
 use Rattle.sqlite.specs.Held.{state}
 use Rattle.sqlite.specs.Given.{HasGiven}
+use Rattle.sqlite.specs.Values.{bound}
 use Rattle.sqlite_value.specs.Order.{Row}
 use Rattle.transactions.proofs.query.take_rows.Given as goal
 
@@ -12,4 +13,4 @@ invariant-rows g l =
     (l.rows.conn.ghost_name ≡ l.initial.rows.conn.ghost_name)
     × (l.fn.conn.in_transaction ≡ false → l.rows.conn.now.in_transaction ≡ false)
     × Survives old now (λ _. ⊥)
-    × ((given : List Row) × g.T.TakeRow.took l.fn.taker given l.now × (HasCleanDisk now → HasGiven g.S.Store l.sql [] l.rows.conn.now given × IsUnchanged old now))
+    × ((given : List Row) × g.T.TakeRow.took l.fn.taker given l.now × (HasCleanDisk now → HasGiven g.S.Store l.sql (bound l.values) l.rows.conn.now given × IsUnchanged old now))
