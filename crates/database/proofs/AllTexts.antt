@@ -8,6 +8,7 @@ use Rattle.sqlite_trees.proofs.ListLemmas.{all_of, filter_all}
 use Rattle.sqlite_sql.specs.Term.{col, eval, eval_all}
 use Rattle.sqlite_schema.specs.declared.command.Command.{Command}
 use Rattle.sqlite_schema.specs.declared.command.Command.TheVariants.{Select}
+use Rattle.sqlite.specs.Given.{IsPlain}
 use Rattle.sqlite.specs.Listing.{understood}
 use Rattle.sqlite_tied.specs.Compute.{everything}
 use Rattle.tables.specs.declared.auth.TheConstants.{SELECT_ALL_AUTHS}
@@ -20,11 +21,13 @@ use Rattle.tables.specs.declared.holding.TheConstants.{SELECT_ALL_SPANS}
 use Rattle.tables.specs.declared.meta.TheConstants.{SELECT_SCHEMA}
 use Rattle.tables.specs.declared.operator.TheConstants.{SELECT_ALL_OPERATORS}
 use Rattle.tables.specs.declared.pool.TheConstants.{SELECT_ALL_PREFIXES}
+use Rattle.tables.specs.Tables.{OverDesk}
 use Rattle.tables.proofs.ClaimTexts.{all_claims_is, all_entries_is}
 use Rattle.tables.proofs.Selecting.{from_table, no_limit, picks, permuted}
 use Rattle.tables.proofs.Columns.{shown_at, shown_columns}
 use Rattle.tables.proofs.ExceptionTexts.{all_exceptions_is}
 use Rattle.tables.proofs.Texts.{Means, upwards}
+use Rattle.database.specs.declared.reading.TheConstants.{COUNT_CLAIMS, COUNT_ENTRIES}
 use Rattle.database.specs.steps.Numbered.{columns_and_rowid, SelectsAll}
 use Rattle.transactions.specs.steps.Statements.{AnswersSelect}
 use Rattle.database.specs.steps.Opened.{claim_places, entry_places}
@@ -104,3 +107,11 @@ selects_claim = selects_all 17 claim_places _ SELECT_ALL_CLAIMS.now all_claims_i
 
 pub selects_entry : SelectsAll 7 19 entry_places SELECT_ALL_ENTRIES.now
 selects_entry = selects_all 19 entry_places _ SELECT_ALL_ENTRIES.now all_entries_is
+
+pub counts_claims : OverDesk (λ s. IsPlain (understood s COUNT_CLAIMS.now))
+unfolding understood everything
+counts_claims = λ s. (refl, refl)
+
+pub counts_entries : OverDesk (λ s. IsPlain (understood s COUNT_ENTRIES.now))
+unfolding understood everything
+counts_entries = λ s. (refl, refl)

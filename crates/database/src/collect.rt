@@ -64,14 +64,24 @@ fn with_value<T: FromRow>(
     })
 }
 
+/// No values, with room for so many. If there is no such room, the vector grows later.
+fn no_values<T>(alloc: Global, count: usize) -> Vec<T>
+    ensures { result.items ≡ [] }
+{
+    match Vec::with_capacity(alloc, count) {
+        Ok(values) => values,
+        Err(_) => Vec::new(alloc),
+    }
+}
+
 impl<T: FromRow> Collected<T> {
-    /// The values of no rows.
-    pub(crate) fn none(alloc: Global) -> Collected<T>
+    /// The values of no rows, with room for so many.
+    pub(crate) fn none(alloc: Global, count: usize) -> Collected<T>
         ensures { Collects T.cells T.fits T.width [] result.values.items result.last
             result.is_read }
     {
         Collected {
-            values: Vec::new(alloc),
+            values: no_values(alloc, count),
             last: None,
             is_read: true,
         }

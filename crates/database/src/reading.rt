@@ -24,10 +24,11 @@ ghost use Rattle.database.specs.steps.Opened.{HasNumber, ShowsNumber, number_row
 ghost use Rattle.transactions.specs.Queries.{IsAsked, IsAskedOnce, IsClean, IsReadyToAsk, IsAskedInside, ObeysSchema};
 
 use crate::collect::Collected;
-use crate::rise::rise;
+use crate::rise::{last_value, rise};
 use addr::{Name, Prefix, Span};
 use moving::shows_old_schema;
 use registry::{Charter, Granted, RoaPrefixes};
+use sqlite::types::ValueRef;
 use sqlite::{Alter, Connection, Row, Transaction};
 use std::alloc::Global;
 use std::cmp::Ordering;
@@ -37,7 +38,7 @@ use tables::{
     SELECT_ALL_HOLDERS, SELECT_ALL_OPERATORS, SELECT_ALL_PREFIXES, SELECT_ALL_SPANS, SELECT_SCHEMA,
     first_entries, shows_schema,
 };
-use transactions::{StoreFault, ask_inside, group_files, read_all, take_each};
+use transactions::{StoreFault, ask, ask_inside, group_files, read_all, take_each};
 
 /// A value that each row of one table shows.
 trait InTable: FromRow {
@@ -59,7 +60,17 @@ trait InOrder: InTable {
 
     fn order(&self, other: &Self) -> Ordering
         ensures { result ≡ order self.now other.now };
+
+    /// The query of the number of rows.
+    fn count_all() -> &'static str
+        ensures { OverDesk (λ s. IsPlain (understood s result.now)) };
 }
+
+/// Counts the rows of the table `claim`.
+const COUNT_CLAIMS: &str = "SELECT COUNT(*) FROM claim";
+
+/// Counts the rows of the table `entry`.
+const COUNT_ENTRIES: &str = "SELECT COUNT(*) FROM entry";
 
 /// All rows that a query of numbered rows answers.
 fn ask_all<S: Alter>(tx: &mut Transaction<'_, S>, sql: &str) -> Result<Vec<Row>, StoreFault>
@@ -122,8 +133,24 @@ fn read_in_order<T: InOrder, S: Alter>(
     Ok(values)
 }
 
-/// The values of all rows of a table, outside a transaction. It holds one row at a time.
-fn collect_table<T: InTable, S: Alter>(
+/// The number that a query of one number answers, or 0. It decides only for how many values room is
+/// made at once, so no clause says which number it is.
+fn ask_number<S: Alter>(conn: &mut Connection<S>, sql: &str) -> Result<usize, StoreFault>
+    requires ready { IsReadyToAsk S.Store conn.old }
+    requires plain { OverDesk (λ s. IsPlain (understood s sql.now)) }
+    ensures asked { IsAsked S.Store conn.old conn.new result }
+    ensures no_schema { result ≢ Err StoreFault.Schema }
+{
+    let rows = ask(conn, sql, &[])?;
+    let Some(ValueRef::Int(number)) = rows.first().map(last_value) else {
+        return Ok(0);
+    };
+    Ok(usize::try_from(number).unwrap_or(0))
+}
+
+/// The values of all rows of a table, outside a transaction. It holds one row at a time, and makes
+/// the vector of the values at once: one that grows is held twice while it is moved.
+fn collect_table<T: InOrder, S: Alter>(
     conn: &mut Connection<S>,
     alloc: Global,
 ) -> Result<Vec<T>, StoreFault>
@@ -138,7 +165,8 @@ fn collect_table<T: InTable, S: Alter>(
         → ¬ AllByRecursion (ShowsSome T.cells T.fits)
         (shown_in T.tree T.places (state S.Store conn.old).now) }
 {
-    let none: Collected<T> = Collected::none(alloc);
+    let count = ask_number(conn, T::count_all())?;
+    let none: Collected<T> = Collected::none(alloc, count);
     let collected = take_each(conn, T::select_all(), &[], none)?;
     let Some(values) = collected.into_values() else {
         return Err(StoreFault::Schema);
@@ -258,6 +286,10 @@ impl InOrder for OfHolder<Claim> {
         let holders = self.holder.cmp(&other.holder);
         holders.then(self.row.number.cmp(&other.row.number))
     }
+
+    fn count_all() -> &'static str {
+        COUNT_CLAIMS
+    }
 }
 
 impl InOrder for OfHolder<EntryRow> {
@@ -270,6 +302,10 @@ impl InOrder for OfHolder<EntryRow> {
         let numbers = self.row.number.cmp(&other.row.number);
         let prefixes = self.row.entry.prefix.cmp(&other.row.entry.prefix);
         holders.then(numbers.then(prefixes))
+    }
+
+    fn count_all() -> &'static str {
+        COUNT_ENTRIES
     }
 }
 
