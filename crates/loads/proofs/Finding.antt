@@ -7,19 +7,25 @@ use Rattle.std.proofs.lemmas.List.Elements.{filter-append}
 use Rattle.std.proofs.lemmas.List.Sorted.{IsPermutation-trans, IsPermutation-map}
 use Rattle.sqlite.specs.Effect.{Database, Reads}
 use Rattle.sqlite_value.specs.declared.keys.Key.{Key}
-use Rattle.sqlite_value.specs.declared.value.Value.TheVariants.{Null, Text}
+use Rattle.sqlite_value.specs.declared.keys.Collation.TheVariants.{Binary}
+use Rattle.sqlite_value.specs.declared.value.Value.TheVariants.{Null, Text, Blob}
 use Rattle.sqlite_value.specs.Order.{Row, column, value_cmp}
 use Rattle.sqlite_value.proofs.OrderLemmas.{then-Equal}
 use Rattle.sqlite_trees.specs.Tree.{Trees}
 use Rattle.sqlite_trees.proofs.ListLemmas.{IsPermutation-filter, all-map, all_of, filter_all, filter_none, filter-map, map-flat_map, map-map}
+use Rattle.sqlite_sql.specs.declared.ops.CompareOp.TheVariants.{Le}
+use Rattle.sqlite_sql.specs.declared.ops.BinaryOp.TheVariants.{Compare}
+use Rattle.sqlite_sql.specs.Ops.{binary, is_true}
 use Rattle.sqlite_sql.specs.Term.{Term, eval_all}
 use Rattle.sqlite_sql.specs.Query.{IsAnswer, key_cmp}
 use Rattle.sqlite_sql.specs.Program.{overlay}
 use Rattle.sqlite_schema.specs.declared.command.Command.{Command}
 use Rattle.sqlite_schema.specs.declared.command.Command.TheVariants.{Select}
+use Rattle.addr.specs.Address.{last_of}
 use Rattle.addr.specs.Family.{family_eq}
 use Rattle.addr.specs.declared.asn.Asn.{Asn}
-use Rattle.addr.proofs.AddressLemmas.{first_below}
+use Rattle.addr.specs.declared.prefix.Prefix.{Prefix}
+use Rattle.addr.proofs.AddressLemmas.{below_widest, first_below}
 use Rattle.charters.specs.CharterSets.{CharterSets}
 use Rattle.registry.specs.declared.authorization.Auth.{Auth}
 use Rattle.registry.specs.declared.authorization.RoaPrefix.{RoaPrefix}
@@ -34,15 +40,16 @@ use Rattle.tables.specs.Groups.{claim_entry}
 use Rattle.tables.specs.declared.claim.Claim.{Claim}
 use Rattle.tables.specs.declared.entry.EntryRow.{EntryRow}
 use Rattle.tables.specs.declared.claim.TheConstants.{SELECT_HOLDER_CLAIMS, SELECT_NUMBERED_CLAIM}
-use Rattle.tables.specs.declared.entry.TheConstants.{SELECT_GIVEN_ENTRIES, SELECT_HOLDER_ENTRIES, SELECT_NUMBERED_ENTRIES}
+use Rattle.tables.specs.declared.entry.TheConstants.{SELECT_ENTRIES_UP_TO, SELECT_GIVEN_ENTRIES, SELECT_HOLDER_ENTRIES, SELECT_NUMBERED_ENTRIES}
 use Rattle.tables.specs.declared.granted.TheConstants.{SELECT_HOLDER_GRANTS}
 use Rattle.tables.specs.declared.holder.TheConstants.{SELECT_COUNTERS}
 use Rattle.tables.specs.declared.holding.TheConstants.{SELECT_HOLDER_SPANS}
 use Rattle.tables.proofs.CellLemmas.{is_bytes, is_number_cell, number_of_number, same_address, same_family_number}
 use Rattle.tables.proofs.ReadLemmas.{are_whole}
 use Rattle.tables.proofs.TreeRows.{filter_twice}
-use Rattle.loads.specs.Loads.{entries_given, gives_entry}
+use Rattle.loads.specs.Loads.{begins_up_to, entries_given, entries_up_to, gives_entry}
 use Rattle.loads.specs.steps.Queries.{by_column, AreAnswered, Selects, SelectsWith}
+use Rattle.loads.proofs.Overlapping.{address_le, last_fits}
 use Rattle.tables.proofs.Selecting.{from_table, no_limit, picks, permuted, sorted}
 use Rattle.tables.proofs.Columns.{column_after, shown_at, shown_columns, grant_places, grant_shown}
 use Rattle.tables.proofs.Testing.{equals_blob, equals_int, equals_text, holder_test}
@@ -50,7 +57,7 @@ use Rattle.sqlite_typed.proofs.TestLemmas.{last_term}
 use Rattle.tables.proofs.GroupCells.{by_entry}
 use Rattle.tables.proofs.PartLemmas.{names}
 use Rattle.tables.proofs.CellsOnce.{cells_of_counters, counters_of_rows, one_counters, one_span, one_grant, one_claim, one_entry_row}
-use Rattle.tables.proofs.ClaimTexts.{of_number_tests, given_tests, claims_is, entries_is, given_entries_is, numbered_claim_is, numbered_entries_is}
+use Rattle.tables.proofs.ClaimTexts.{of_number_tests, given_tests, up_to_tests, claims_is, entries_is, entries_up_to_is, given_entries_is, numbered_claim_is, numbered_entries_is}
 use Rattle.tables.proofs.Texts.{Means, equals, upwards, counters_is, spans_is, grants_is}
 
 -- what is shown of the rows that pass, where both read the columns alone
@@ -317,6 +324,49 @@ module _ (h : List ℕ) (n : ℕ) where
     shows = entries_shown;
   })
 
+-- ---- queries of entries that pass a test
+
+-- what is shown of the rows of a holder's entries that pass
+entries_tested : (h : List ℕ) (tests : Row → Bool) (passes : EntryRow → Bool) → ((r : EntryRow) → tests (entry_row h r) ≡ passes r) → (o : Option Rows)
+    → map (columns entry_places) (filter tests (part_rows entry_part h o)) ≡ map entry_cells (items_if_any (λ (r : Rows). filter passes (flat_map entry_rows_of r.auths)) o)
+entries_tested h tests passes same None = refl
+entries_tested h tests passes same (Some r) =
+    let rows = flat_map entry_rows_of r.auths in
+    ap (λ l. map (columns entry_places) (filter tests l)) (sym (map-flat_map (entry_row h) entry_rows_of r.auths))
+    ∙ ap (map (columns entry_places)) (filter-map tests (entry_row h) rows ∙ (λ i. map (entry_row h) (filter (λ x. same x i) rows)))
+    ∙ map-map (columns entry_places) (entry_row h) (filter passes rows)
+
+-- ---- the query of the entries that begin at or before an address
+
+module _ (h : List ℕ) (p : Prefix) where
+  abbrev pub up_to_params : Row
+  up_to_params = Text h ∷ number_cell (family_number p.family) ∷ Blob (address_bytes (last_of p)) ∷ []
+
+  abbrev is_up_to : Row → Bool
+  is_up_to c = is_number_cell (family_number p.family) (column c 3) && is_true (binary (Compare Le Binary) (column c 4) (Blob (address_bytes (last_of p))))
+
+  up_to_passes : (r : Row) → picks up_to_params up_to_tests r ≡ (names 0 h (drop 1 r) && is_up_to (drop 1 r))
+  up_to_passes r =
+      ap₂ ◌&&◌ (equals_text (column r 1) h ∙ ap (is_name_of h) (column_after r 0))
+      (ap₂ ◌&&◌ (equals_int (column r 4) (pos (family_number p.family)) ∙ ap (is_number_cell (family_number p.family)) (column_after r 3))
+      (last_term (ap (λ v. is_true (binary (Compare Le Binary) v (Blob (address_bytes (last_of p))))) (column_after r 4))))
+
+  up_to_row : (r : EntryRow) → is_up_to (entry_row h r) ≡ begins_up_to p r
+  up_to_row r =
+      let q = r.entry.prefix in
+      ap₂ ◌&&◌ (same_family_number q.family p.family)
+      (address_le q.first (last_of p) (below_widest q.family q.first (first_below q)) (last_fits p))
+
+  pub selects_up_to : SelectsWith entry_cells 6 (entries_up_to p) by_entry SELECT_ENTRIES_UP_TO.now h up_to_params
+  selects_up_to = selects_with _ _ _ _ entries_query (entries_up_to p) _ h up_to_params (record {
+    tests = up_to_tests;
+    means = entries_up_to_is;
+    keeps = filter is_up_to;
+    permutes = IsPermutation-filter is_up_to;
+    picked = rows_picked h up_to_params up_to_tests is_up_to up_to_passes entry_places;
+    shows = entries_tested h is_up_to (begins_up_to p) up_to_row;
+  })
+
 -- ---- the query of the entries that give a VRP
 
 -- five tests one after the other, of which the second to the fourth are those of a prefix
@@ -353,14 +403,6 @@ module _ (h : List ℕ) (asn : Asn) (e : RoaPrefix) where
       (ap₂ ◌&&◌ (number_of_number p.length e.prefix.length) (number_of_number r.entry.max e.max)))
       ∙ prefix_first (family_eq p.family e.prefix.family) (p.first == e.prefix.first) (p.length == e.prefix.length) (r.entry.max == e.max))
 
-  given_shown : (o : Option Rows) → map (columns entry_places) (filter is_given (part_rows entry_part h o)) ≡ map entry_cells (items_if_any (entries_given asn e) o)
-  given_shown None = refl
-  given_shown (Some r) =
-      let rows = flat_map entry_rows_of r.auths in
-      ap (λ l. map (columns entry_places) (filter is_given l)) (sym (map-flat_map (entry_row h) entry_rows_of r.auths))
-      ∙ ap (map (columns entry_places)) (filter-map is_given (entry_row h) rows ∙ (λ i. map (entry_row h) (filter (λ x. given_row x i) rows)))
-      ∙ map-map (columns entry_places) (entry_row h) (filter (gives_entry asn e) rows)
-
   pub selects_given : SelectsWith entry_cells 6 (entries_given asn e) by_entry SELECT_GIVEN_ENTRIES.now h given_params
   selects_given = selects_with _ _ _ _ entries_query (entries_given asn e) _ h given_params (record {
     tests = given_tests;
@@ -368,5 +410,5 @@ module _ (h : List ℕ) (asn : Asn) (e : RoaPrefix) where
     keeps = filter is_given;
     permutes = IsPermutation-filter is_given;
     picked = rows_picked h given_params given_tests is_given given_passes entry_places;
-    shows = given_shown;
+    shows = entries_tested h is_given (gives_entry asn e) given_row;
   })

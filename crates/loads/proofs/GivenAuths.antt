@@ -29,13 +29,13 @@ use Rattle.loads.proofs.Loading.{entries_fit}
 
 -- ---- tests of lists
 
-any_kept : {X : Type 0} (p q : X → Bool) (xs : List X) → list_any p (filter q xs) ≡ list_any (λ x. p x && q x) xs
+pub any_kept : {X : Type 0} (p q : X → Bool) (xs : List X) → list_any p (filter q xs) ≡ list_any (λ x. p x && q x) xs
 any_kept p q [] = refl
 any_kept p q (x ∷ xs) =
     elim (q x) as (λ b. list_any p (cond b (x ∷ filter q xs) (filter q xs)) ≡ ((p x && b) || list_any (λ y. p y && q y) xs))
     [ true ↦ ap₂ ◌||◌ (sym (and-true (p x))) (any_kept p q xs) | false ↦ any_kept p q xs ∙ ap (λ b. b || list_any (λ y. p y && q y) xs) (sym (and-false (p x))) ]
 
-any_each : {X Y : Type 0} (p : Y → Bool) (f : X → List Y) (xs : List X) → list_any p (flat_map f xs) ≡ list_any (λ x. list_any p (f x)) xs
+pub any_each : {X Y : Type 0} (p : Y → Bool) (f : X → List Y) (xs : List X) → list_any p (flat_map f xs) ≡ list_any (λ x. list_any p (f x)) xs
 any_each p f [] = refl
 any_each p f (x ∷ xs) = list_any-append p (f x) (flat_map f xs) ∙ ap (λ b. list_any p (f x) || b) (any_each p f xs)
 
@@ -43,7 +43,7 @@ any_never : {X : Type 0} (xs : List X) → list_any (λ _. false) xs ≡ false
 any_never [] = refl
 any_never (x ∷ xs) = any_never xs
 
-any_and : {X : Type 0} (b : Bool) (p : X → Bool) (xs : List X) → list_any (λ x. b && p x) xs ≡ (b && list_any p xs)
+pub any_and : {X : Type 0} (b : Bool) (p : X → Bool) (xs : List X) → list_any (λ x. b && p x) xs ≡ (b && list_any p xs)
 any_and true p xs = refl
 any_and false p xs = any_never xs
 
@@ -82,9 +82,10 @@ gives_out_of such asn e o given same = sym (list_any-IsPermutation (λ (r : Entr
         ∙ any_each (λ (x : EntryRow). such x.number && gives_entry asn e x) entry_rows_of r.auths
         ∙ (λ i. list_any (λ y. row_gives such asn e y i) r.auths)
 
-pub given_fit : (asn : Asn) (e : RoaPrefix) (o : Option Rows) → FitIfAny o → All EntryRowFits (items_if_any (entries_given asn e) o)
-given_fit asn e None fit = All-nil EntryRowFits
-given_fit asn e (Some r) fit = All-from_recursion EntryRowFits (entries_given asn e r) (all-filter EntryRowFits (gives_entry asn e) _ (recursion_from_All EntryRowFits (flat_map entry_rows_of r.auths) (entries_fit (Some r) fit)))
+-- entries that pass a test fit
+pub tested_fit : (passes : EntryRow → Bool) (o : Option Rows) → FitIfAny o → All EntryRowFits (items_if_any (λ (r : Rows). filter passes (flat_map entry_rows_of r.auths)) o)
+tested_fit passes None fit = All-nil EntryRowFits
+tested_fit passes (Some r) fit = All-from_recursion EntryRowFits (filter passes (flat_map entry_rows_of r.auths)) (all-filter EntryRowFits passes _ (recursion_from_All EntryRowFits (flat_map entry_rows_of r.auths) (entries_fit (Some r) fit)))
 
 -- ---- entry by entry
 

@@ -48,6 +48,9 @@ address_le a b low high = at_blobs false Le (address_bytes a) (address_bytes b) 
 address_ge : (a b : ℕ) → a < 2 ^ 128 → b < 2 ^ 128 → is_true (binary (Compare Ge Binary) (Blob (address_bytes a)) (Blob (address_bytes b))) ≡ nat_le b a
 address_ge a b low high = at_blobs false Ge (address_bytes a) (address_bytes b) ∙ ap is_le (addresses_in_order b a high low) ∙ le_is b a
 
+pub last_fits : (p : Prefix) → last_of p < 2 ^ 128
+last_fits p = below_widest p.family (last_of p) (omega (arith, p.in_family, pow_pos (width p.family - p.length)))
+
 -- ---- runs that share an address with a prefix
 
 abbrev pub run_params : Prefix → Row
@@ -63,12 +66,11 @@ columns_alone p (v ∷ r) = refl
 
 overlaps_run : (p : Prefix) (h : List ℕ) (s : Span) → overlaps p (holding_row h s) ≡ span_meets s p
 overlaps_run p h s =
-    let ends : last_of p < 2 ^ 128 = below_widest p.family (last_of p) (omega (arith, p.in_family, pow_pos (width p.family - p.length))) in
     let begins : p.first < 2 ^ 128 = below_widest p.family p.first (first_below p) in
     let high : s.hi < 2 ^ 128 = below_widest s.family s.hi s.in_family in
     let low : s.lo < 2 ^ 128 = omega (arith, s.ordered, high) in
     then_term (at_ints false Eq (pos (family_number s.family)) (pos (family_number p.family)) ∙ family_tested s.family p.family)
-    (then_term (address_le s.lo (last_of p) low ends) (last_term (address_ge s.hi p.first high begins)))
+    (then_term (address_le s.lo (last_of p) low (last_fits p)) (last_term (address_ge s.hi p.first high begins)))
 
 not_zero : (m : ℕ) → (suc m == 0) ≡ false
 not_zero m = grind (arith, nat_tests)

@@ -3,7 +3,8 @@ use Rattle.std.specs.Prelude.{◌≡◌, ◌≤◌, ◌==◌, ◌&&◌, ◌↔�
 use Rattle.std.specs.List.{list_any}
 use Rattle.std.specs.Ordering.{nat_cmp}
 use Rattle.sqlite.specs.State.{State}
-use Rattle.addr.specs.Address.{Address}
+use Rattle.addr.specs.Address.{Address, last_of}
+use Rattle.addr.specs.Family.{family_eq}
 use Rattle.addr.specs.Spans.{span_has, span_meets, spans_have, AreApart, AreMaximal}
 use Rattle.addr.specs.declared.asn.Asn.{Asn}
 use Rattle.addr.specs.declared.prefix.Prefix.{Prefix}
@@ -140,6 +141,14 @@ gives_entry asn e r = (r.asn.0 == asn.0) && is_entry e.prefix e.max r.entry
 -- the entries of a holder's authorizations that give it so
 abbrev pub entries_given : Asn → RoaPrefix → Rows → List EntryRow
 entries_given asn e r = filter (gives_entry asn e) (flat_map entry_rows_of r.auths)
+
+-- the entry of a row begins at or before the last address of the prefix, in its family
+abbrev pub begins_up_to : Prefix → EntryRow → Bool
+begins_up_to p r = family_eq r.entry.prefix.family p.family && nat_le r.entry.prefix.first (last_of p)
+
+-- the entries of a holder's authorizations that do
+abbrev pub entries_up_to : Prefix → Rows → List EntryRow
+entries_up_to p r = filter (begins_up_to p) (flat_map entry_rows_of r.auths)
 
 -- every address of the entries lies in one of the runs
 abbrev pub AreHeld : List Span → List RoaPrefix → Type 0

@@ -9,7 +9,7 @@ ghost use Rattle.registry.specs.Values.{FitIfAny};
 ghost use Rattle.registry.specs.Verdict.{maxes_fit};
 ghost use Rattle.tables.specs.TablesHold.{items_if_any};
 ghost use Rattle.transactions.specs.Queries.{IsAsked, IsClean, IsReadyToAsk};
-ghost use Rattle.loads.specs.Loads.{AreAnswers, AreCounted, AreHeld, IsForAmend, IsForCreate, IsForDelegate, IsOf, IsOfAll, IsOpenWith, IsToldWhereApart, auths_held, created_if_any, entries_given, is_other, some_gives};
+ghost use Rattle.loads.specs.Loads.{AreAnswers, AreCounted, AreHeld, IsForAmend, IsForCreate, IsForDelegate, IsOf, IsOfAll, IsOpenWith, IsToldWhereApart, auths_held, created_if_any, entries_given, entries_up_to, is_other, some_gives};
 
 use crate::below::{is_held, is_taken};
 use crate::load::{load_counters, load_grants, load_holdings, load_numbered, load_selected};
@@ -20,8 +20,8 @@ use registry::{
 use sqlite::{Alter, Connection, Error};
 use std::alloc::Global;
 use tables::{
-    Counters, EntryRow, SELECT_GIVEN_ENTRIES, SELECT_THOUSANDTH_CLAIM, address_bytes, given_values,
-    name_values,
+    Counters, EntryRow, SELECT_ENTRIES_UP_TO, SELECT_GIVEN_ENTRIES, SELECT_THOUSANDTH_CLAIM,
+    address_bytes, given_values, name_values, up_to_values,
 };
 use transactions::{StoreFault, ask};
 
@@ -91,6 +91,29 @@ pub fn load_for_delegate<S: Alter>(
             ..Answers::NONE
         },
     })
+}
+
+// ---- for a transfer and a reclaim
+
+/// The entries of the holder's authorizations that begin at or before the last address of the
+/// prefix, in its family. All that share an address with the prefix are among them.
+pub fn load_entries_up_to<S: Alter>(
+    conn: &mut Connection<S>,
+    alloc: Global,
+    holder: &Name,
+    prefix: &Prefix,
+) -> Result<Vec<EntryRow>, StoreFault>
+    requires { IsReadyToAsk S.Store conn.old }
+    ensures asked { IsAsked S.Store conn.old conn.new result }
+    ensures found { IsClean S.Store conn.new → IfOk result (λ entries.
+        IsOf (λ rows. IsPermutation (items_if_any (entries_up_to prefix.now) rows) entries.items)
+        holder.now (state S.Store conn.old)) }
+    ensures schema { IsClean S.Store conn.new → result ≡ Err StoreFault.Schema
+        → IsOpenWith (λ all. ¬ FitIfAny (all.of_holder holder.now)) (state S.Store conn.old) }
+{
+    let last = address_bytes(prefix.last());
+    let values = up_to_values(holder, prefix.family, &last);
+    load_selected(conn, alloc, SELECT_ENTRIES_UP_TO, &values)
 }
 
 // ---- whether a VRP is given

@@ -150,7 +150,7 @@ pub fn load_runs<S: Alter>(
 }
 
 /// The addresses of the holder, as rows with nothing else, if it is registered.
-pub(crate) fn load_holdings<S: Alter>(
+pub fn load_holdings<S: Alter>(
     conn: &mut Connection<S>,
     alloc: Global,
     holder: &Name,

@@ -11,7 +11,7 @@ use Rattle.sqlite.specs.Listing.{understood}
 use Rattle.sqlite_tied.specs.Compute.{everything}
 use Rattle.registry.specs.declared.limits.TheConstants.{MOST_AUTHORIZATIONS}
 use Rattle.tables.specs.declared.claim.TheConstants.{INSERT_CLAIM, UPDATE_CLAIM, DELETE_CLAIM, SELECT_HOLDER_CLAIMS, SELECT_NUMBERED_CLAIM, SELECT_THOUSANDTH_CLAIM, SELECT_ALL_CLAIMS, SELECT_CLAIMS_IN_FORCE}
-use Rattle.tables.specs.declared.entry.TheConstants.{INSERT_ENTRY, DELETE_ENTRIES, SELECT_HOLDER_ENTRIES, SELECT_NUMBERED_ENTRIES, SELECT_GIVEN_ENTRIES, SELECT_ALL_ENTRIES, SELECT_PAYLOADS}
+use Rattle.tables.specs.declared.entry.TheConstants.{INSERT_ENTRY, DELETE_ENTRIES, SELECT_HOLDER_ENTRIES, SELECT_NUMBERED_ENTRIES, SELECT_GIVEN_ENTRIES, SELECT_ENTRIES_UP_TO, SELECT_ALL_ENTRIES, SELECT_PAYLOADS}
 use Rattle.tables.proofs.Selecting.{from_table, no_limit}
 use Rattle.tables.proofs.Texts.{Means, equals, upwards, put_terms}
 
@@ -71,6 +71,14 @@ given_tests = equals 1 0 ∷ equals 3 1 ∷ equals 4 2 ∷ equals 5 3 ∷ equals
 pub given_entries_is : Means SELECT_GIVEN_ENTRIES.now (Select (record { lets = []; body = from_table 19 given_tests (col 1 2 ∷ col 1 3 ∷ col 1 4 ∷ col 1 5 ∷ col 1 6 ∷ col 1 7 ∷ []) (upwards 2 ∷ upwards 4 ∷ upwards 5 ∷ upwards 6 ∷ []) no_limit }) (codes "number" ∷ codes "asn" ∷ codes "family" ∷ codes "lo" ∷ codes "len" ∷ codes "max" ∷ []))
 unfolding understood everything
 given_entries_is = record { is = λ s. refl; plain = λ s. (refl, refl); unlisted = λ s. refl }
+
+-- an entry is of the holder ?1 and of the family ?2, and begins at or before ?3
+abbrev pub up_to_tests : List Term
+up_to_tests = equals 1 0 ∷ equals 4 1 ∷ op2 (Compare Le Binary) (col 1 5) (col 0 2) ∷ []
+
+pub entries_up_to_is : Means SELECT_ENTRIES_UP_TO.now (Select (record { lets = []; body = from_table 19 up_to_tests (col 1 2 ∷ col 1 3 ∷ col 1 4 ∷ col 1 5 ∷ col 1 6 ∷ col 1 7 ∷ []) (upwards 2 ∷ upwards 4 ∷ upwards 5 ∷ upwards 6 ∷ []) no_limit }) (codes "number" ∷ codes "asn" ∷ codes "family" ∷ codes "lo" ∷ codes "len" ∷ codes "max" ∷ []))
+unfolding understood everything
+entries_up_to_is = record { is = λ s. refl; plain = λ s. (refl, refl); unlisted = λ s. refl }
 
 pub all_claims_is : Means SELECT_ALL_CLAIMS.now (Select (record { lets = []; body = from_table 17 [] (col 1 2 ∷ col 1 3 ∷ col 1 4 ∷ col 1 5 ∷ col 1 1 ∷ col 1 0 ∷ []) (upwards 0 ∷ []) no_limit }) (codes "number" ∷ codes "asn" ∷ codes "opens" ∷ codes "ends" ∷ codes "holder" ∷ codes "rowid" ∷ []))
 unfolding understood everything

@@ -1,10 +1,10 @@
 //! The table `entry`, of which each row is the name of a holder and an entry of an authorization of
 //! it: a prefix with its maxLength (RFC 9582 section 4.3.2).
-ghost use Rattle.std.specs.Prelude.{◌≡◌, ◌∷◌};
+ghost use Rattle.std.specs.Prelude.{◌≡◌, ◌∷◌, []};
 ghost use Rattle.sqlite.specs.Values.{bound};
 ghost use Rattle.registry.specs.Values.{VrpFits};
-ghost use Rattle.sqlite_value.specs.declared.value.Value.TheVariants.{Text};
-ghost use Rattle.tables.specs.Cells.{address_bytes, entry_cells, entry_row, given_cells, vrp_cells};
+ghost use Rattle.sqlite_value.specs.declared.value.Value.TheVariants.{Blob, Text};
+ghost use Rattle.tables.specs.Cells.{address_bytes, entry_cells, entry_row, family_number, given_cells, number_cell, vrp_cells};
 ghost use Rattle.tables.specs.Decode.{EntryRowFits};
 ghost use Rattle.tables.specs.Groups.{claim_entry};
 
@@ -14,7 +14,7 @@ use crate::claim::Claim;
 use crate::decode::{
     cell, decode_asn, decode_max_length, decode_number, decode_prefix, decode_vrp,
 };
-use addr::{Asn, Name, Vrp};
+use addr::{Asn, Family, Name, Vrp};
 use registry::RoaPrefix;
 use sqlite::Row;
 use sqlite::types::{ToSql, ValueRef};
@@ -49,6 +49,11 @@ pub const SELECT_NUMBERED_ENTRIES: &str = "\
 pub const SELECT_GIVEN_ENTRIES: &str = "\
     SELECT number, asn, family, lo, len, max FROM entry WHERE holder = ?1 AND asn = ?2 \
     AND family = ?3 AND lo = ?4 AND len = ?5 AND max = ?6 ORDER BY number, family, lo, len";
+
+/// The entries of a holder's authorizations, of one family, that begin at or before `?3`.
+pub const SELECT_ENTRIES_UP_TO: &str = "\
+    SELECT number, asn, family, lo, len, max FROM entry WHERE holder = ?1 AND family = ?2 \
+    AND lo <= ?3 ORDER BY number, family, lo, len";
 
 /// All entries, the names of their holders, and their rowids.
 pub const SELECT_ALL_ENTRIES: &str = "\
@@ -112,6 +117,18 @@ pub fn given_values<'a>(
         first.to_sql(),
         u32::from(entry.prefix.length).to_sql(),
         u32::from(entry.max).to_sql(),
+    ]
+}
+
+/// The name of a holder, a family, and the bytes of an address.
+pub fn up_to_values<'a>(holder: &'a Name, family: Family, last: &'a [u8]) -> [ValueRef<'a>; 3]
+    ensures { bound result
+        ≡ Text holder.now ∷ number_cell (family_number family) ∷ Blob last.now ∷ [] }
+{
+    [
+        holder.as_str().to_sql(),
+        family_number(family).to_sql(),
+        last.to_sql(),
     ]
 }
 

@@ -30,9 +30,9 @@ pub use claim::{
 };
 pub use decode::cell;
 pub use entry::{
-    CREATE_ENTRY, DELETE_ENTRIES, EntryRow, INSERT_ENTRY, SELECT_ALL_ENTRIES, SELECT_GIVEN_ENTRIES,
-    SELECT_HOLDER_ENTRIES, SELECT_NUMBERED_ENTRIES, SELECT_PAYLOADS, entry_row_of, entry_values,
-    given_values,
+    CREATE_ENTRY, DELETE_ENTRIES, EntryRow, INSERT_ENTRY, SELECT_ALL_ENTRIES, SELECT_ENTRIES_UP_TO,
+    SELECT_GIVEN_ENTRIES, SELECT_HOLDER_ENTRIES, SELECT_NUMBERED_ENTRIES, SELECT_PAYLOADS,
+    entry_row_of, entry_values, given_values, up_to_values,
 };
 pub use exception::{
     CREATE_SLURM, DELETE_EXCEPTIONS, Exception, ExceptionRow, INSERT_EXCEPTION,

@@ -2,9 +2,9 @@ use Rattle.sqlite.specs.Held.{state}
 use Rattle.tables.specs.Decode.{EntryRowFits}
 use Rattle.tables.proofs.ClaimTexts.{given_entries_is}
 use Rattle.tables.proofs.GroupCells.{by_entry}
-use Rattle.loads.specs.Loads.{entries_given}
+use Rattle.loads.specs.Loads.{entries_given, gives_entry}
 use Rattle.loads.proofs.Finding.{given_params, selects_given}
-use Rattle.loads.proofs.GivenAuths.{given_fit}
+use Rattle.loads.proofs.GivenAuths.{tested_fit}
 use Rattle.loads.proofs.Loading.{never_fit_first}
 use Rattle.loads.proofs.answers.load_given.Goals as goal
 
@@ -19,5 +19,5 @@ returns-clause-found g c =
 pub returns-clause-schema : goal.returns-clause-schema
 returns-clause-schema g c clean is =
     let a = c.args in
-    never_fit_first EntryRowFits (entries_given a.asn a.entry.now) (given_fit a.asn a.entry.now) a.holder.now (state g.S.Store a.conn.now)
+    never_fit_first EntryRowFits (entries_given a.asn a.entry.now) (tested_fit (gives_entry a.asn a.entry.now)) a.holder.now (state g.S.Store a.conn.now)
     (c.load_selected.ensures.schema a.holder.now (given_params a.holder.now a.asn a.entry.now) (entries_given a.asn a.entry.now) by_entry c.given_values-values.ensures (selects_given a.holder.now a.asn a.entry.now) clean is)
