@@ -1,7 +1,6 @@
 -- What is kept of a day follows a change of the rows.
 use Rattle.std.proofs.Common.{◌≡◌, ◌⊎◌, inl, inr, ◌↔◌, ℕ, Bool, true, false, ◌||◌, List, [], ◌∷◌, Option, Some, None, Result, Ok, Err, refl, sym, ap, arith, ◌∙◌, ◌==◌, ◌≤◌, if◌then◌else◌, filter, length, subst, Contains}
 use Rattle.std.specs.Global.{Vec}
-use Rattle.std.specs.List.{list_any}
 use Rattle.std.specs.Prelude.{Any, IfSome, IsSomeAnd, OnErr, OnOk, IsPermutation, is_ok, is_err, option_map}
 use Rattle.std.proofs.lemmas.Bool.{false_from_ne_true, false≢true, true≢false}
 use Rattle.addr.specs.Address.{last_of, Address}
@@ -50,7 +49,7 @@ use Rattle.slurm.specs.SlurmSets.{union}
 use Rattle.store.specs.Given.{GivenOnce}
 use Rattle.loads.specs.declared.answers.Loaded.{Loaded}
 use Rattle.loads.specs.Loads.{auths_held, AreCounted, AreHeld, AreLoaded, AreNumbered, IsLoadedFor}
-use Rattle.desk.proofs.GivenEdits.{edits_given_by_enough, ending_keeps_once, enough_amended, enough_created, enough_loaded, enough_of_any, enough_withdrawn}
+use Rattle.desk.proofs.GivenEdits.{edits_given_by_enough, ending_keeps_once, enough_amended, enough_created, enough_loaded, enough_lost, enough_of_any, enough_of_runs, enough_withdrawn}
 use Rattle.desk.specs.DayAfter.{has_made_none, DayAfterCommand, DropsForGain, PutsOn, StaysUnless}
 use Rattle.desk.specs.Prepared.{day_of}
 use Rattle.desk.specs.declared.reply.Reply.{Reply}
@@ -165,33 +164,33 @@ amended_enough x n was None same none = absurd none
 amended_enough x n was (Some p) same are =
     enough_amended x was p.auths.items (subst (λ (m : ℕ). IsPermutation (filter (λ (y : Auth). y.number == m) (auths_held was)) p.auths.items) (sym same) are.auths.0)
 
-enough_for_edit : (command : Command) (edit : Edit) (loaded : Loaded) (rows : AllRows) → IsEditOf command edit → AreRuled command loaded.rows loaded.answers → IsLoadedFor command rows loaded
+enough_for_edit : (command : Command) (holder : List ℕ) (edit : Edit) (loaded : Loaded) (rows : AllRows) → IsEditOf command edit
+    → AreRuled command loaded.rows loaded.answers (Holders (record { holder = holder; edit = edit }) None) → IsLoadedFor command rows loaded
     → IfSome (holder_of command) (λ h. AreEnough edit (auths_of rows h) (listed (option_map (λ (p : HolderRows). p.auths) loaded.rows)))
-enough_for_edit (Register h) edit loaded rows is ruled are = enough_loaded edit (rows.of_holder h) loaded.rows (not_counted (rows.of_holder h) loaded.rows ruled are)
-enough_for_edit (Delegate h p) (Hold removed added gone) loaded rows none ruled are =
-    enough_of_any (Hold removed added gone) _ _ (λ n. ap (λ (ns : List ℕ). list_any (λ m. n == m) ns) none) (λ xs. refl)
-enough_for_edit (Reclaim h p) edit loaded rows is ruled are = enough_loaded edit (rows.of_holder h) loaded.rows are
-enough_for_edit (Grant h terms) (GrantEdit g) loaded rows is ruled are = enough_of_any (GrantEdit g) _ _ (λ n. refl) (λ xs. refl)
-enough_for_edit (Revoke h n) edit loaded rows is ruled are = rw is (enough_of_any (RevokeEdit n) _ _ (λ m. refl) (λ xs. refl))
-enough_for_edit (Create h terms) edit loaded rows is ruled are =
+enough_for_edit (Register h) holder edit loaded rows is ruled are = enough_loaded edit (rows.of_holder h) loaded.rows (not_counted (rows.of_holder h) loaded.rows ruled are)
+enough_for_edit (Delegate h p) holder edit loaded rows none ruled are = enough_of_runs edit _ _ none
+enough_for_edit (Reclaim h p) holder edit loaded rows is ruled are = enough_lost p edit (rows.of_holder h) loaded.rows are ruled
+enough_for_edit (Grant h terms) holder (GrantEdit g) loaded rows is ruled are = enough_of_any (GrantEdit g) _ _ (λ n. refl) (λ xs. refl)
+enough_for_edit (Revoke h n) holder edit loaded rows is ruled are = rw is (enough_of_any (RevokeEdit n) _ _ (λ m. refl) (λ xs. refl))
+enough_for_edit (Create h terms) holder edit loaded rows is ruled are =
     created_enough h terms edit (rows.of_holder h) loaded.rows terms.entries is ruled.1 (are.answers.holds.0 ruled.0) are.counted
-enough_for_edit (Amend h n maxes until) (AmendEdit x) loaded rows is ruled are = amended_enough x n (rows.of_holder h) loaded.rows is.1 are.numbered
-enough_for_edit (Withdraw h n) edit loaded rows is ruled are = rw is (withdrawn_enough n (rows.of_holder h) loaded.rows are)
-enough_for_edit (Import h listed) edit loaded rows is ruled are = enough_loaded edit (rows.of_holder h) loaded.rows are
-enough_for_edit command edit loaded rows is ruled are = absurd is
+enough_for_edit (Amend h n maxes until) holder (AmendEdit x) loaded rows is ruled are = amended_enough x n (rows.of_holder h) loaded.rows is.1 are.numbered
+enough_for_edit (Withdraw h n) holder edit loaded rows is ruled are = rw is (withdrawn_enough n (rows.of_holder h) loaded.rows are)
+enough_for_edit (Import h listed) holder edit loaded rows is ruled are = enough_loaded edit (rows.of_holder h) loaded.rows are
+enough_for_edit command holder edit loaded rows is ruled are = absurd is
 
 -- of what is loaded for a command, the authorizations are enough to follow its change
-pub enough_for : (command : Command) (change : Change) (loaded : Loaded) (rows : AllRows) → HasEditsOf command change → AreRuled command loaded.rows loaded.answers → IsLoadedFor command rows loaded
+pub enough_for : (command : Command) (change : Change) (loaded : Loaded) (rows : AllRows) → HasEditsOf command change → AreRuled command loaded.rows loaded.answers change → IsLoadedFor command rows loaded
     → AreEnoughFor change (option_map (λ (p : HolderRows). p.auths) loaded.rows) (option_map (λ (p : HolderRows). p.auths) loaded.taker) rows
 enough_for (Transfer p giver taker) (Holders first (Some second)) loaded rows edits ruled are = (
-  enough_loaded first.edit (rows.of_holder first.holder) loaded.rows (rw edits.0 are.0),
-  enough_loaded second.edit (rows.of_holder second.holder) loaded.taker (rw edits.2 are.1),
+  enough_lost p first.edit (rows.of_holder first.holder) loaded.rows (rw edits.0 are.0) ruled,
+  enough_of_runs second.edit _ _ edits.3,
 )
 enough_for command (Exceptions files) loaded rows edits ruled are = tt
 enough_for (Transfer p giver taker) (Holders first None) loaded rows edits ruled are = absurd edits.1
 enough_for command (Holders first None) loaded rows edits ruled are =
     subst (λ (h : Option (List ℕ)). IfSome h (λ n. AreEnough first.edit (auths_of rows n) (listed (option_map (λ (p : HolderRows). p.auths) loaded.rows)))) edits.0
-    (enough_for_edit command first.edit loaded rows edits.1 ruled are)
+    (enough_for_edit command first.holder first.edit loaded rows edits.1 ruled are)
 enough_for command (Holders first (Some second)) loaded rows edits ruled are = absurd edits
 
 -- ---- the day that is kept

@@ -1,24 +1,28 @@
 -- What an edit of a holder's rows does to the VRPs that are given.
-use Rattle.std.proofs.Common.{◌≡◌, ℕ, Bool, true, false, ◌==◌, List, [], ◌∷◌, Option, Some, None, Contains, filter, ◌↔◌, inl, inr, refl, sym, ap, subst, ◌∙◌, IsPermutation}
+use Rattle.std.proofs.Common.{◌≡◌, ℕ, Bool, true, false, ◌==◌, List, [], ◌∷◌, Option, Some, None, Contains, map, filter, ◌↔◌, inl, inr, refl, sym, ap, subst, ◌∙◌, IsPermutation}
 use Rattle.std.specs.Prelude.{option_map, if◌then◌else◌}
-use Rattle.std.proofs.lemmas.Bool.{true≢false}
+use Rattle.std.specs.List.{list_any}
+use Rattle.std.proofs.lemmas.Bool.{eqb-true, false≢true, true≢false}
 use Rattle.std.proofs.lemmas.Map.Views.{any-filter_same}
 use Rattle.std.proofs.lemmas.List.Sorted.{Contains-permutation, IsPermutation-sym, list_any-IsPermutation}
+use Rattle.sqlite_rules.proofs.ListLemmas.{contains_had, has_filtered, some_has}
+use Rattle.addr.specs.declared.prefix.Prefix.{Prefix}
 use Rattle.addr.specs.declared.vrp.Vrp.{Vrp}
 use Rattle.registry.specs.declared.authorization.Auth.{Auth}
 use Rattle.registry.specs.declared.change.Change.TheVariants.{Holders}
 use Rattle.registry.specs.declared.change.Edit.{Edit}
-use Rattle.registry.specs.declared.change.Edit.TheVariants.{Create, Amend, Withdraw}
+use Rattle.registry.specs.declared.change.Edit.TheVariants.{Hold, Create, Amend, Withdraw}
 use Rattle.registry.specs.declared.change.HolderChange.{HolderChange}
 use Rattle.registry.specs.declared.rows.HolderRows.{HolderRows}
 use Rattle.registry.specs.History.{same_name}
-use Rattle.registry.specs.Rows.{Rows, edited, edited_if_any}
+use Rattle.registry.specs.Rows.{Rows, auths_if_any, edited, edited_if_any}
 use Rattle.registry.specs.RowsOfAll.{AllRows, IsGivenOn, changed_rows}
-use Rattle.registry.specs.Terms.{IsVrpOf}
+use Rattle.registry.specs.Terms.{IsVrpOf, terms_overlap}
 use Rattle.registry.proofs.Names.{same_name-same, same_name-true}
 use Rattle.store.specs.Given.{GivenOnce}
-use Rattle.loads.specs.Loads.{auths_held, AreLoaded}
-use Rattle.registry.specs.Edits.{begun, ended, ends}
+use Rattle.tables.proofs.TreeRows.{list_any-map}
+use Rattle.loads.specs.Loads.{auths_held, AreLoaded, AreOverlapping, IsForLoss}
+use Rattle.registry.specs.Edits.{begun, ended, ends, IsHoldEnding, IsHoldEndingNone}
 use Rattle.desk.specs.steps.EditsGiven.{auths_of, ended_if_any, begun_if_any, AreEnough, HaveSameAuths, IsGivenAfter, EditsGiven, EditsGivenByEnough, EditsNothing, EndingKeepsOnce}
 use Rattle.desk.specs.steps.Following.{listed}
 use Rattle.kept.specs.Giving.{AreGivingOn}
@@ -194,6 +198,44 @@ enough_amended y (Some r) ys same =
           (rw (any-filter_same p p true (λ z is. is) r.auths) (λ is. is, λ is. is)),
     )
 
+-- ---- those that share an address with a prefix
+
+-- an edit that ends numbers of these ends of the others none: nobody else has one of their numbers
+module _ (p : Prefix) (edit : Edit) (xs ys : List Auth) (are : AreOverlapping p xs ys) (is : (n : ℕ) → ends edit n ≡ list_any (λ m. n == m) (map (λ (y : Auth). y.number) (filter (λ y. terms_overlap y p) ys))) where
+  abbrev passes : Auth → Bool
+  passes x = terms_overlap x p
+
+  abbrev is_over : Auth → Bool
+  is_over x = ends edit x.number
+
+  among : (x : Auth) → Contains xs x → is_over x ≡ true → Contains ys x
+  among x there over =
+      let some = sym (list_any-map (λ m. x.number == m) (λ (y : Auth). y.number) (filter passes ys)) ∙ sym (is x.number) ∙ over in
+      let (y, has, number) = some_has (λ (y : Auth). x.number == y.number) (filter passes ys) some in
+      let in_ys = contains_had ys y (has_filtered passes ys y has).0 in
+      subst (Contains ys) (sym (are.once x y there in_ys (eqb-true _ _ number))) in_ys
+
+  ended_alike : HaveSameAuths (filter is_over xs) (filter is_over ys)
+  ended_alike x = (
+    λ there. let it = (in_filter is_over xs x).0 there in (in_filter is_over ys x).1 (among x it.0 it.1, it.1),
+    λ there.
+        let it = (in_filter is_over ys x).0 there in
+        let kept = Contains-permutation ys (filter passes xs) x (IsPermutation-sym (filter passes xs) ys are.order.0) it.0 in
+        (in_filter is_over xs x).1 (((in_filter passes xs x).0 kept).0, it.1),
+  )
+
+-- those that share an address with the prefix are enough where the edit ends these
+pub enough_lost : (p : Prefix) (edit : Edit) (was : Option Rows) (part : Option HolderRows) → IsForLoss p was part → IsHoldEnding (map (λ (y : Auth). y.number) (filter (λ y. terms_overlap y p) (auths_if_any part))) edit
+    → AreEnough edit (option_map (λ (r : Rows). r.auths) was) (listed (option_map (λ (r : HolderRows). r.auths) part))
+enough_lost p (Hold removed added gone) None None are is = (λ x. (λ there. there, λ there. there), λ x. (λ there. there, λ there. there))
+enough_lost p (Hold removed added gone) None (Some part) are is = absurd (true≢false are.holdings.registered)
+enough_lost p (Hold removed added gone) (Some r) None are is = absurd (false≢true are.holdings.registered)
+enough_lost p (Hold removed added gone) (Some r) (Some part) are is = (
+  ended_alike p (Hold removed added gone) r.auths part.auths.items are.auths (λ n. ap (λ (ns : List ℕ). list_any (λ m. n == m) ns) is),
+  λ x. (λ there. there, λ there. there),
+)
+enough_lost p edit was part are is = absurd is
+
 -- ---- whichever they are
 
 none_ended : (edit : Edit) (auths : Option (List Auth)) → ((n : ℕ) → ends edit n ≡ false) → (x : Auth) → ¬ Contains (ended_if_any edit auths) x
@@ -210,6 +252,12 @@ enough_of_any edit all some ends_none begins_none = (
   λ x. (λ there. absurd (none_ended edit all ends_none x there), λ there. absurd (none_ended edit some ends_none x there)),
   λ x. (λ there. absurd (none_begun edit all begins_none x there), λ there. absurd (none_begun edit some begins_none x there)),
 )
+
+-- so any are for one that exchanges runs of addresses alone
+pub enough_of_runs : (edit : Edit) (all some : Option (List Auth)) → IsHoldEndingNone edit → AreEnough edit all some
+enough_of_runs (Hold removed added gone) all some none =
+    enough_of_any (Hold removed added gone) all some (λ n. ap (λ (ns : List ℕ). list_any (λ m. n == m) ns) none) (λ xs. refl)
+enough_of_runs edit all some is = absurd is
 
 -- and any of a holder that has rows for a create
 pub enough_created : (y : Auth) (xs ys : List Auth) → AreEnough (Create y) (Some xs) (Some ys)

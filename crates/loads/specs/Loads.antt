@@ -23,7 +23,7 @@ use Rattle.registry.specs.declared.rows.HolderRows.{HolderRows}
 use Rattle.registry.specs.RoaPrefixes.{with_maxes}
 use Rattle.registry.specs.Rows.{Rows, grants_if_any, auths_if_any}
 use Rattle.registry.specs.RowsOfAll.{AllRows}
-use Rattle.registry.specs.Terms.{IsVrpOfEntry, entries_have, gives_some, is_entry}
+use Rattle.registry.specs.Terms.{IsVrpOfEntry, entries_have, gives_some, is_entry, terms_overlap}
 use Rattle.registry.specs.Values.{VrpFits}
 use Rattle.registry.specs.Verdict.{auth_of_number, maxes_fit}
 use Rattle.slurm.specs.Exceptions.{Exceptions}
@@ -189,13 +189,24 @@ pub record IsForAmend (n : ℕ) (maxes : List ℕ) (rows : Option Rows) (loaded 
       IfSome (auth_of_number n (auths_if_any loaded.rows)) (λ x. maxes_fit maxes x.entries ≡ true
       → loaded.answers.gives ≡ some_gives (Some n) x.asn (with_maxes maxes x.entries) (auths_held rows))
 
+-- Of a holder's authorizations those that share an address with the prefix are loaded, by rising number; no other one has
+-- the number of one of these.
+pub record AreOverlapping (p : Prefix) (auths loaded : List Auth) : Type 0 where
+  pub order : AreInOrder (λ (x : Auth). x.number) (filter (λ x. terms_overlap x p) auths) loaded
+  pub once : (x y : Auth) → Contains auths x → Contains loaded y → x.number ≡ y.number → x ≡ y
+
+-- what is loaded of a holder that loses the prefix: its addresses, and those authorizations
+pub record IsForLoss (p : Prefix) (rows : Option Rows) (part : Option HolderRows) : Type 0 where
+  pub holdings : AreHoldings rows part
+  pub auths : AreOverlapping p (auths_held rows) (auths_if_any part)
+
 -- what is loaded for a command
 abbrev pub IsLoadedFor : Command → AllRows → Loaded → Type 0
 IsLoadedFor (Register h) rows loaded = AreCounted (rows.of_holder h) loaded.rows
 IsLoadedFor (Delegate h p) rows loaded = IsForDelegate h p rows loaded
 IsLoadedFor (Transfer p giver taker) rows loaded =
-    AreLoaded (rows.of_holder giver) loaded.rows × AreLoaded (rows.of_holder taker) loaded.taker
-IsLoadedFor (Reclaim h p) rows loaded = AreLoaded (rows.of_holder h) loaded.rows
+    IsForLoss p (rows.of_holder giver) loaded.rows × AreHoldings (rows.of_holder taker) loaded.taker
+IsLoadedFor (Reclaim h p) rows loaded = IsForLoss p (rows.of_holder h) loaded.rows
 IsLoadedFor (Grant h terms) rows loaded = AreCounted (rows.of_holder h) loaded.rows
 IsLoadedFor (Revoke h n) rows loaded = AreCounted (rows.of_holder h) loaded.rows
 IsLoadedFor (Create h terms) rows loaded = IsForCreate h terms rows loaded

@@ -1,5 +1,5 @@
 -- The changes of a registration, a delegation, a transfer and a reclaim carry every holder's rows.
-use Rattle.std.proofs.Common.{◌≡◌, ℕ, Bool, true, false, not, ◌||◌, ◌&&◌, cond, List, [], ◌∷◌, ◌++◌, inl, inr, Some, None, refl, sym, ap, ◌∙◌, subst, filter}
+use Rattle.std.proofs.Common.{◌≡◌, ℕ, Bool, true, false, not, ◌||◌, ◌&&◌, cond, List, [], ◌∷◌, ◌++◌, inl, inr, Some, None, refl, sym, ap, ◌∙◌, subst, map, filter}
 use Rattle.std.proofs.lemmas.Bool.{cases_Bool, cond-true, cond-false, false≢true}
 use Rattle.std.proofs.Math.Bool.{or-true, or-false, and-true, and-false}
 use Rattle.std.specs.Global.{Vec}
@@ -13,6 +13,7 @@ use Rattle.registry.specs.declared.authorization.Auth.{Auth}
 use Rattle.charters.specs.declared.charter.Charter.{Charter}
 use Rattle.registry.specs.declared.change.Change.TheVariants.{Holders}
 use Rattle.registry.specs.declared.change.Edit.{Edit}
+use Rattle.registry.specs.declared.rows.HolderRows.{HolderRows}
 use Rattle.registry.specs.declared.change.Edit.TheVariants.{Register as RegisterEdit}
 use Rattle.registry.specs.declared.command.Command.TheVariants.{Register, Delegate, Transfer, Reclaim}
 use Rattle.registry.specs.Answer.{PutsNoneBack}
@@ -21,7 +22,7 @@ use Rattle.registry.specs.Resources.{resource_holder, is_held_by, HoldsPrefix, I
 use Rattle.registry.specs.Terms.{terms_overlap, grant_terms, grants_made, authorizations_made, authorization_terms, HeldSinceMade, Keeps, AreActive}
 use Rattle.registry.specs.Verdict.{IsLegal}
 use Rattle.registry.specs.Rows.{Rows, RowsOf, RowsIfAny, edited, edited_if_any, Carries}
-use Rattle.registry.specs.Answer.{HasRuns}
+use Rattle.registry.specs.Answer.{AnswersLoss, HasRuns}
 use Rattle.policy.specs.steps.Exchange.{Exchanges}
 use Rattle.registry.proofs.Names.{same_name-same, held_by_itself}
 use Rattle.registry.proofs.Kept.{Keeps-unique}
@@ -116,14 +117,14 @@ receiver-rows e before h p spans ended edit v rows receives x united none grants
     (rows-gained e before h runs rows new.0 (λ a. new.1 a ∙ holdings a) keeps grants granted terms created are))
 
 -- the former holder of a prefix, after a transfer or a reclaim
-giver-rows : (e : Entry) (before : History) (h : List ℕ) (p : Prefix) (spans : List Span) (ended : Vec ℕ) (edit : Edit) (v rows : Rows)
+giver-rows : (e : Entry) (before : History) (h : List ℕ) (p : Prefix) (spans : List Span) (ended : Vec ℕ) (edit : Edit) (v : HolderRows) (rows : Rows)
     → ((a : Address) → is_held_by h (resource_holder (e ∷ before) a) ≡ cond (has_address p a) false (is_held_by h (resource_holder before a)))
     → ((a : Address) → has_address p a ≡ false → resource_holder (e ∷ before) a ≡ resource_holder before a)
     → Exchanges v.holdings spans ended edit → TakesAddresses v.holdings spans (has_address p)
-    → ended.items ≡ numbers_where (λ x. terms_overlap x p) v.auths
+    → ended.items ≡ numbers_where (λ x. terms_overlap x p) v.auths.items
     → grant_terms (e ∷ before) h ≡ grant_terms before h → grants_made (e ∷ before) h ≡ grants_made before h
     → authorization_terms (e ∷ before) h ≡ authorization_terms before h → authorizations_made (e ∷ before) h ≡ authorizations_made before h
-    → RowsOf before h v → RowsOf before h rows → RowsOf (e ∷ before) h (edited edit rows)
+    → AnswersLoss before h p v → RowsOf before h rows → RowsOf (e ∷ before) h (edited edit rows)
 giver-rows e before h p spans ended edit v rows gives others x without numbers grants granted terms created had are =
     let holdings = λ (a : Address).
     let at : (b : Bool) → (spans_have v.holdings a && not b) ≡ cond b false (is_held_by h (resource_holder before a)) =
@@ -135,9 +136,10 @@ giver-rows e before h p spans ended edit v rows gives others x without numbers g
           false≢true (sym (gives a ∙ ap (λ b. cond b false (is_held_by h (resource_holder before a))) has) ∙ ap (is_held_by h) is ∙ held_by_itself h);
       others = others;
     } in
-    let same_auths : v.auths ≡ rows.auths = Keeps-unique (HeldSinceMade before h) (authorization_terms before h) v.auths rows.auths had.auths are.auths in
+    let active = had.auths in
+    let same_auths : active.0 ≡ rows.auths = Keeps-unique (HeldSinceMade before h) (authorization_terms before h) active.0 rows.auths active.1 are.auths in
     let rest : filter (λ x. not (among ended.items x)) rows.auths ≡ filter (λ x. not (terms_overlap x p)) rows.auths =
-    ap (λ ns. filter (λ x. not (among ns x)) rows.auths) (numbers ∙ ap (numbers_where (λ x. terms_overlap x p)) same_auths)
+    ap (λ ns. filter (λ x. not (among ns x)) rows.auths) (numbers ∙ ap (map (λ (x : Auth). x.number)) active.2 ∙ ap (numbers_where (λ x. terms_overlap x p)) same_auths)
     ∙ filter-numbers (λ x. terms_overlap x p) rows.auths (authorizations_made before h) (active-numbered before h rows.auths are.auths) in
     let kept = active-ended e before h p rows.auths loses created are.auths in
     let new = exchanged v.holdings spans rows.holdings ended edit x are.apart (λ a. are.holdings a ∙ sym (had.holdings a)) in
@@ -165,10 +167,10 @@ carries-delegate before day caller holder p spans ended edit v registered free h
       | inr f ↦ ap (is_held_by h) (cond-false _ _ _ f)
     ])
 
-pub carries-reclaim : (before : History) (day : ℕ) (caller holder : List ℕ) (p : Prefix) (spans : List Span) (ended : Vec ℕ) (edit : Edit) (v : Rows)
-    → is_registered before holder ≡ true → HoldsPrefix before holder p → RowsOf before holder v
+pub carries-reclaim : (before : History) (day : ℕ) (caller holder : List ℕ) (p : Prefix) (spans : List Span) (ended : Vec ℕ) (edit : Edit) (v : HolderRows)
+    → is_registered before holder ≡ true → HoldsPrefix before holder p → AnswersLoss before holder p v
     → Exchanges v.holdings spans ended edit → TakesAddresses v.holdings spans (has_address p)
-    → ended.items ≡ numbers_where (λ x. terms_overlap x p) v.auths
+    → ended.items ≡ numbers_where (λ x. terms_overlap x p) v.auths.items
     → Carries (Holders (record { holder = holder; edit = edit }) None) before (record { day = day; caller = caller; command = Reclaim holder p } ∷ before)
 carries-reclaim before day caller holder p spans ended edit v registered holds had x without numbers =
     let e : Entry = record { day = day; caller = caller; command = Reclaim holder p } in
@@ -182,12 +184,12 @@ carries-reclaim before day caller holder p spans ended edit v registered holds h
       | inr f ↦ ap (is_held_by h) (cond-false _ _ _ f)
     ])
 
-pub carries-transfer : (before : History) (day : ℕ) (caller giver taker : List ℕ) (p : Prefix) (less more : List Span) (ended none : Vec ℕ) (edit_giver edit_taker : Edit) (v w : Rows)
+pub carries-transfer : (before : History) (day : ℕ) (caller giver taker : List ℕ) (p : Prefix) (less more : List Span) (ended none : Vec ℕ) (edit_giver edit_taker : Edit) (v : HolderRows) (w : List Span)
     → is_registered before giver ≡ true → is_registered before taker ≡ true → same_name taker giver ≡ false → HoldsPrefix before giver p
-    → RowsOf before giver v → RowsOf before taker w
+    → AnswersLoss before giver p v → HasRuns before taker w
     → Exchanges v.holdings less ended edit_giver → TakesAddresses v.holdings less (has_address p)
-    → Exchanges w.holdings more none edit_taker → AddsAddresses w.holdings more (has_address p)
-    → ended.items ≡ numbers_where (λ x. terms_overlap x p) v.auths → none.items ≡ []
+    → Exchanges w more none edit_taker → AddsAddresses w more (has_address p)
+    → ended.items ≡ numbers_where (λ x. terms_overlap x p) v.auths.items → none.items ≡ []
     → Carries (Holders (record { holder = giver; edit = edit_giver }) (Some (record { holder = taker; edit = edit_taker }))) before
     (record { day = day; caller = caller; command = Transfer p giver taker } ∷ before)
 carries-transfer before day caller giver taker p less more ended none edit_giver edit_taker v w giver_registered taker_registered differ holds had_v had_w x without y united numbers nothing =
@@ -197,7 +199,7 @@ carries-transfer before day caller giver taker p less more ended none edit_giver
     (λ a. elim (has_address p a) as (λ b. is_held_by giver (cond b (Some taker) (resource_holder before a)) ≡ cond b false (is_held_by giver (resource_holder before a))) [ true ↦ differ | false ↦ refl ])
     (λ a f. cond-false _ _ _ f)
     x without numbers refl refl refl refl had_v are)
-    (λ rows are. receiver-rows e before taker p more none edit_taker w.holdings rows (λ a. refl) y united nothing refl refl refl refl had_w.holdings are)
+    (λ rows are. receiver-rows e before taker p more none edit_taker w rows (λ a. refl) y united nothing refl refl refl refl had_w are)
     (λ h not_giver not_taker a. elim (cases_Bool (has_address p a)) [
       | inl t ↦ ap (is_held_by h) (cond-true _ _ _ t) ∙ not_taker ∙ sym not_giver ∙ ap (is_held_by h) (sym (holds a t))
       | inr f ↦ ap (is_held_by h) (cond-false _ _ _ f)

@@ -16,7 +16,7 @@ use Rattle.registry.specs.declared.command.Command.TheVariants.{Register, Delega
 use Rattle.registry.specs.declared.grant.Granted.{Granted}
 use Rattle.registry.specs.declared.rows.Answers.{Answers}
 use Rattle.registry.specs.declared.rows.HolderRows.{HolderRows}
-use Rattle.registry.specs.Answer.{holder_of, is_transfer, AnswersCreate, AnswersDelegate, AnswersList, AnswersNumber, AreFacts, IsMadeIfAny, ReportsTaken, RowsOfNamed}
+use Rattle.registry.specs.Answer.{holder_of, is_transfer, AnswersCreate, AnswersDelegate, AnswersLoss, AnswersList, AnswersNumber, AreFacts, HasRuns, IfRegistered, IsMadeIfAny, ReportsTaken, RowsOfNamed}
 use Rattle.registry.specs.History.{History, is_registered}
 use Rattle.registry.specs.Resources.{is_held_by, IsFree}
 use Rattle.registry.specs.RoaPrefixes.{AreInNumber}
@@ -86,6 +86,14 @@ delegation-answers : (history : History) (h : List ℕ) (p : Prefix) (rows : Opt
 delegation-answers history h p None taken are free = record { registered = sym are; holdings = tt; free = free }
 delegation-answers history h p (Some r) taken are free = record { registered = sym are.0; holdings = are.1.holdings; free = free }
 
+pub loss-answers : (history : History) (h : List ℕ) (p : Prefix) (rows : Option HolderRows) → RowsIfAny history h (rows_if_any rows) → IfRegistered history h rows (AnswersLoss history h p)
+loss-answers history h p None are = are
+loss-answers history h p (Some r) are = (are.0, record { holdings = are.1.holdings; auths = (r.auths.items, are.1.auths, refl) })
+
+pub runs-answers : (history : History) (h : List ℕ) (rows : Option HolderRows) → RowsIfAny history h (rows_if_any rows) → IfRegistered history h rows (λ r. HasRuns history h r.holdings)
+runs-answers history h None are = are
+runs-answers history h (Some r) are = (are.0, are.1.holdings)
+
 made-are : (history : History) (h : List ℕ) (rows : Option HolderRows) → RowsIfAny history h (rows_if_any rows) → IsMadeIfAny history h (option_map (λ (r : HolderRows). r.granted) rows)
 made-are history h None are = are
 made-are history h (Some r) are = (are.0, are.1.granted)
@@ -130,7 +138,7 @@ pub facts-of_rows : (charter : Charter) (history : History) (command : Command) 
 facts-of_rows charter history (Register h) rows answers one no_create no_amend legal are taken = registered-with_rows history h rows are
 facts-of_rows charter history (Delegate h p) rows answers one no_create no_amend legal are taken = delegation-answers history h p rows answers.taken are taken
 facts-of_rows charter history (Transfer p giver taker) rows answers one no_create no_amend legal are taken = absurd (true≢false one)
-facts-of_rows charter history (Reclaim h p) rows answers one no_create no_amend legal are taken = are
+facts-of_rows charter history (Reclaim h p) rows answers one no_create no_amend legal are taken = loss-answers history h p rows are
 facts-of_rows charter history (Grant h terms) rows answers one no_create no_amend legal are taken =
     record { grants = grants-are charter history h rows legal are; counter = made-are history h rows are }
 facts-of_rows charter history (Revoke h n) rows answers one no_create no_amend legal are taken = grants-are charter history h rows legal are

@@ -1,18 +1,18 @@
 //! Parts of rules, each a test of the rows.
 
-ghost use Rattle.std.specs.Prelude.{◌≡◌, ℕ, ◌+◌, ◌<◌, ◌==◌, ◌&&◌, nat_le, not, length, List, true, false, ◌↔◌, IsTrue, Some, ◌≤◌, option_copied, option_map, IfOk, MatchResult};
+ghost use Rattle.std.specs.Prelude.{◌≡◌, ℕ, ◌+◌, ◌<◌, ◌==◌, ◌&&◌, nat_le, not, length, List, true, false, ◌↔◌, IsTrue, None, Some, ◌≤◌, option_copied, option_map, IfOk, MatchResult};
 ghost use Rattle.std.specs.List.{list_all, list_any};
 ghost use Rattle.registry.specs.declared.limits.TheConstants.{MOST_GRANTS, MOST_AUTHORIZATIONS, LAST_NUMBER};
 ghost use Rattle.addr.specs.Address.{Address};
 ghost use Rattle.addr.specs.Spans.{span_covers, spans_have};
-ghost use Rattle.registry.specs.History.{History, is_registered};
+ghost use Rattle.registry.specs.History.{History};
 ghost use Rattle.registry.specs.Resources.{HoldsPrefix};
 ghost use Rattle.registry.specs.Terms.{grant_terms, HoldsEntries, are_shared, gives_some, is_entry, share_vrp};
 ghost use Rattle.registry.specs.RoaPrefixes.{with_maxes};
 ghost use Rattle.registry.specs.Permission.{has_access, is_permitted_terms};
-ghost use Rattle.registry.specs.Answer.{AnswersNumber};
+ghost use Rattle.registry.specs.Answer.{AnswersNumber, HasRuns};
 ghost use Rattle.registry.specs.Verdict.{is_steward, HasAccessTo};
-ghost use Rattle.registry.specs.Rows.{Rows, rows_of, rows_if_any, RowsOf, RowsIfAny, grants_if_any, auths_if_any};
+ghost use Rattle.registry.specs.Rows.{Rows, rows_of, RowsOf, grants_if_any, auths_if_any};
 ghost use Rattle.registry.specs.PartOfRows.{AreInRuns};
 
 use crate::{Access, Auth, AuthTerms, Charter, Granted, HolderRows, LAST_NUMBER, Rule};
@@ -28,11 +28,8 @@ pub(crate) fn require(holds: bool, rule: Rule) -> Result<(), Rule>
 
 /// The rows of the holder; the rule `holder` if it is not registered.
 pub(crate) fn registered(rows: Option<&HolderRows>) -> Result<&HolderRows, Rule>
-    ensures { (history : History) (h : List ℕ)
-        → RowsIfAny history h (rows_if_any (option_copied rows.entry))
-        → MatchResult result
-        (λ r. (is_registered history h ≡ true) × RowsOf history h (rows_of r.now))
-        (λ rule. (is_registered history h ≡ false) × (rule ≡ Rule.Holder)) }
+    ensures { MatchResult result (λ r. option_copied rows.entry ≡ Some r.now)
+        (λ rule. (option_copied rows.entry ≡ None) × (rule ≡ Rule.Holder)) }
 {
     rows.ok_or(Rule::Holder)
 }
@@ -103,7 +100,7 @@ pub(crate) fn require_access(
 
 /// Whether every address of the prefix is held by the holder of the rows.
 pub(crate) fn holds(rows: &HolderRows, prefix: &Prefix) -> bool
-    ensures { (history : History) (h : List ℕ) → RowsOf history h (rows_of rows.now)
+    ensures { (history : History) (h : List ℕ) → HasRuns history h rows.now.holdings
         → (IsTrue result ↔ HoldsPrefix history h prefix.now) }
 {
     rows.holdings.holds(prefix)

@@ -1,14 +1,14 @@
 //! Deciding commands.
 
-ghost use Rattle.std.specs.Prelude.{◌≡◌, ℕ, true, false, None, Err, IsTrue, option_copied, IfOk, map, filter};
+ghost use Rattle.std.specs.Prelude.{◌≡◌, ℕ, true, false, None, Some, Err, IsTrue, option_copied, IfOk, map, filter};
 ghost use Rattle.charters.specs.declared.charter.Charter.{Charter as CharterValue};
 ghost use Rattle.registry.specs.History.{History, same_name};
 ghost use Rattle.registry.specs.Terms.{terms_overlap};
 ghost use Rattle.registry.specs.Verdict.{IsLegal};
-ghost use Rattle.registry.specs.Rows.{rows_of, rows_if_any, RowsOf, RowsIfAny};
+ghost use Rattle.registry.specs.Rows.{auths_if_any, rows_if_any};
 ghost use Rattle.policy.specs.steps.Admission.{IsAdmitted};
-ghost use Rattle.registry.specs.Answer.{AreFacts, ReportsTaken, RowsOfNamed, IsAnswer, IsViewOf, is_transfer, takes_memory, holder_of, taker_of};
-ghost use Rattle.registry.specs.Edits.{AreRuled, HasEditsOf};
+ghost use Rattle.registry.specs.Answer.{AnswersLoss, AreFacts, HasRuns, IfRegistered, ReportsTaken, RowsOfNamed, IsAnswer, IsViewOf, is_transfer, takes_memory, holder_of, taker_of};
+ghost use Rattle.registry.specs.Edits.{AreRuled, EndsOverlapping, HasEditsOf};
 
 mod import;
 
@@ -67,11 +67,13 @@ fn rows_for_reclaim<'a>(
     holder: Holder<'a>,
     prefix: &Prefix,
 ) -> Result<&'a HolderRows, Rule>
-    ensures { (history : History) (day : ℕ)
-        → RowsIfAny history holder.entry.name.now (rows_if_any (option_copied holder.entry.rows))
+    ensures admitted { (history : History) (day : ℕ)
+        → IfRegistered history holder.entry.name.now (option_copied holder.entry.rows)
+        (AnswersLoss history holder.entry.name.now prefix.now)
         → IsAdmitted charter.now history day caller.now
         (Command.Reclaim holder.entry.name.now prefix.now)
-        (λ rows. RowsOf history holder.entry.name.now (rows_of rows.now)) result }
+        (λ rows. AnswersLoss history holder.entry.name.now prefix.now rows.now) result }
+    ensures found { IfOk result (λ rows. option_copied holder.entry.rows ≡ Some rows.now) }
 {
     require(charter.is_operator(caller), Rule::Operator)?;
     let rows = registered(holder.rows)?;
@@ -87,10 +89,13 @@ fn decide_reclaim(
     prefix: &Prefix,
 ) -> Result<Change, Refusal>
     ensures answer { (history : History) → IsLegal basis.entry.charter.now history
-        → RowsIfAny history holder.entry.name.now (rows_if_any (option_copied holder.entry.rows))
+        → IfRegistered history holder.entry.name.now (option_copied holder.entry.rows)
+        (AnswersLoss history holder.entry.name.now prefix.now)
         → IsAnswer basis.entry.charter.now history basis.entry.day basis.entry.caller.now
         (Command.Reclaim holder.entry.name.now prefix.now) result }
     ensures shape { IfOk result (HasEditsOf (Command.Reclaim holder.entry.name.now prefix.now)) }
+    ensures ended { IfOk result (EndsOverlapping prefix.now
+        (auths_if_any (option_copied holder.entry.rows))) }
 {
     let rows = rows_for_reclaim(basis.charter, basis.caller, holder, prefix)?;
     let less = without_prefix(&rows.holdings, prefix)?;
@@ -109,14 +114,17 @@ fn rows_for_transfer<'a>(
     taker: Holder<'a>,
 ) -> Result<(&'a HolderRows, &'a HolderRows), Rule>
     ensures admitted { (history : History) (day : ℕ)
-        → RowsIfAny history giver.entry.name.now (rows_if_any (option_copied giver.entry.rows))
-        → RowsIfAny history taker.entry.name.now (rows_if_any (option_copied taker.entry.rows))
+        → IfRegistered history giver.entry.name.now (option_copied giver.entry.rows)
+        (AnswersLoss history giver.entry.name.now prefix.now)
+        → IfRegistered history taker.entry.name.now (option_copied taker.entry.rows)
+        (λ rows. HasRuns history taker.entry.name.now rows.holdings)
         → IsAdmitted charter.now history day caller.now
         (Command.Transfer prefix.now giver.entry.name.now taker.entry.name.now)
-        (λ both. RowsOf history giver.entry.name.now (rows_of both.0.now)
-        × RowsOf history taker.entry.name.now (rows_of both.1.now)) result }
+        (λ both. AnswersLoss history giver.entry.name.now prefix.now both.0.now
+        × HasRuns history taker.entry.name.now both.1.now.holdings) result }
     ensures distinct { IfOk result (λ _.
         same_name giver.entry.name.now taker.entry.name.now ≡ false) }
+    ensures found { IfOk result (λ both. option_copied giver.entry.rows ≡ Some both.0.now) }
 {
     require(charter.is_operator(caller), Rule::Operator)?;
     let giving = registered(giver.rows)?;
@@ -136,12 +144,16 @@ fn decide_transfer(
     taker: Holder<'_>,
 ) -> Result<Change, Refusal>
     ensures answer { (history : History) (day : ℕ) → IsLegal charter.now history
-        → RowsIfAny history giver.entry.name.now (rows_if_any (option_copied giver.entry.rows))
-        → RowsIfAny history taker.entry.name.now (rows_if_any (option_copied taker.entry.rows))
+        → IfRegistered history giver.entry.name.now (option_copied giver.entry.rows)
+        (AnswersLoss history giver.entry.name.now prefix.now)
+        → IfRegistered history taker.entry.name.now (option_copied taker.entry.rows)
+        (λ rows. HasRuns history taker.entry.name.now rows.holdings)
         → IsAnswer charter.now history day caller.now
         (Command.Transfer prefix.now giver.entry.name.now taker.entry.name.now) result }
     ensures shape { IfOk result (HasEditsOf
         (Command.Transfer prefix.now giver.entry.name.now taker.entry.name.now)) }
+    ensures ended { IfOk result (EndsOverlapping prefix.now
+        (auths_if_any (option_copied giver.entry.rows))) }
 {
     let (giving, taking) = rows_for_transfer(charter, caller, prefix, giver, taker)?;
     let less = without_prefix(&giving.holdings, prefix)?;
@@ -202,8 +214,8 @@ pub fn judge(
         → IsAnswer charter.now history day caller.now command.now result }
     ensures memory { result ≡ Err Refusal.Memory → IsTrue (takes_memory command.now) }
     ensures shape { IfOk result (HasEditsOf command.now) }
-    ensures ruled { IfOk result (λ _.
-        AreRuled command.now (option_copied facts.entry.rows) facts.entry.answers) }
+    ensures ruled { IfOk result
+        (AreRuled command.now (option_copied facts.entry.rows) facts.entry.answers) }
 {
     let Facts {
         rows,

@@ -29,7 +29,7 @@ use Rattle.registry.specs.HypotheticalHistory.{HypotheticalHistory, IsChangeDeni
 use Rattle.registry.specs.Import.{ImportGrows, IsImportDenied}
 use Rattle.registry.specs.Resources.{resource_holder, is_held_by, IsFree}
 use Rattle.registry.specs.RoaPrefixes.{with_maxes}
-use Rattle.registry.specs.Terms.{AreActive, HoldsEntries, gives_some, share_vrp, grant_terms, grants_made, authorizations_made, OfActive}
+use Rattle.registry.specs.Terms.{AreActive, HoldsEntries, gives_some, share_vrp, terms_overlap, grant_terms, grants_made, authorizations_made, OfActive}
 use Rattle.registry.specs.Permission.{is_permitted_terms}
 use Rattle.registry.specs.Verdict.{Verdict, ShowVerdict, ListVerdict, IsLegal, auth_of_number, maxes_fit}
 use Rattle.registry.specs.Rows.{Rows, rows_of, rows_if_any, grants_if_any, auths_if_any, RowsOf, RowsIfAny, Carries}
@@ -216,6 +216,18 @@ pub record AnswersDelegate (history : History) (h : List ℕ) (p : Prefix) (runs
   pub holdings : IfSome runs (HasRuns history h)
   pub free : MatchBool taken (IsFree history p → ⊥) (IsFree history p)
 
+-- rows exactly where the holder is registered, and then this is so of them
+abbrev pub IfRegistered : History → List ℕ → Option HolderRows → (HolderRows → Type 0) → Type 0
+IfRegistered history h None so = is_registered history h ≡ false
+IfRegistered history h (Some rows) so = (is_registered history h ≡ true) × so rows
+
+-- what the loss of a prefix is judged on: the runs have the addresses of the holder, and the authorizations of the rows that
+-- share an address with the prefix are the active ones that do
+pub record AnswersLoss (history : History) (h : List ℕ) (p : Prefix) (rows : HolderRows) : Type 0 where
+  pub holdings : HasRuns history h rows.holdings
+  pub auths :
+      OfActive history h (λ active. filter (λ x. terms_overlap x p) rows.auths.items ≡ filter (λ x. terms_overlap x p) active)
+
 -- how many grants were made at the holder; none where it is not registered
 abbrev pub IsMadeIfAny : History → List ℕ → Option ℕ → Type 0
 IsMadeIfAny history h None = is_registered history h ≡ false
@@ -257,8 +269,9 @@ AreFacts history (Register h) rows other answers = is_some rows ≡ is_registere
 AreFacts history (Delegate h p) rows other answers =
     AnswersDelegate history h p (option_map (λ (r : HolderRows). r.holdings) rows) answers.taken
 AreFacts history (Transfer p giver taker) rows other answers =
-    RowsIfAny history giver (rows_if_any rows) × RowsIfAny history taker (rows_if_any other)
-AreFacts history (Reclaim h p) rows other answers = RowsIfAny history h (rows_if_any rows)
+    IfRegistered history giver rows (AnswersLoss history giver p)
+    × IfRegistered history taker other (λ r. HasRuns history taker r.holdings)
+AreFacts history (Reclaim h p) rows other answers = IfRegistered history h rows (AnswersLoss history h p)
 AreFacts history (Grant h terms) rows other answers =
     AnswersGrant history h (grants_if_any rows) (option_map (λ (r : HolderRows). r.granted) rows)
 AreFacts history (Revoke h n) rows other answers = grants_if_any rows ≡ grant_terms history h

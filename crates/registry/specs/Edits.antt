@@ -1,6 +1,7 @@
 -- Which authorizations an edit ends and begins, and which edits a command makes.
-use Rattle.std.specs.Prelude.{◌≡◌, ℕ, ◌==◌, Bool, true, false, List, [], ◌∷◌, filter, Option, Some, None, if◌then◌else◌, Contains, ⊤}
+use Rattle.std.specs.Prelude.{◌≡◌, ℕ, ◌==◌, Bool, true, false, List, [], ◌∷◌, map, filter, Option, Some, None, if◌then◌else◌, Contains, ⊤}
 use Rattle.std.specs.List.{list_any}
+use Rattle.addr.specs.declared.prefix.Prefix.{Prefix}
 use Rattle.registry.specs.declared.authorization.Auth.{Auth}
 use Rattle.registry.specs.declared.authorization.AuthTerms.{AuthTerms}
 use Rattle.registry.specs.declared.authorization.ImportRow.{ImportRow}
@@ -15,7 +16,8 @@ use Rattle.registry.specs.declared.rows.HolderRows.{HolderRows}
 use Rattle.registry.specs.Answer.{holder_of}
 use Rattle.registry.specs.History.{same_name}
 use Rattle.registry.specs.RoaPrefixes.{AreInNumber}
-use Rattle.registry.specs.Terms.{numbered_terms, row_terms}
+use Rattle.registry.specs.Rows.{auths_if_any}
+use Rattle.registry.specs.Terms.{numbered_terms, row_terms, terms_overlap}
 
 -- the edit takes away the authorization of this number, or puts another in its place
 abbrev pub ends : Edit → ℕ → Bool
@@ -84,8 +86,21 @@ HasEditsOf (Slurm files) (Exceptions more) = more ≡ files
 HasEditsOf command (Holders first None) = (holder_of command ≡ Some first.holder) × IsEditOf command first.edit
 HasEditsOf _ _ = ⊥
 
--- what is known of the rows and answers that a command was judged on, where no rule denies it
-abbrev pub AreRuled : Command → Option HolderRows → Answers → Type 0
-AreRuled (Register holder) rows answers = rows ≡ None
-AreRuled (Create holder terms) rows answers = (answers.holds ≡ true) × AreInNumber terms.entries
-AreRuled _ rows answers = ⊤
+-- the edit exchanges runs of addresses, and ends the authorizations of these numbers
+abbrev pub IsHoldEnding : List ℕ → Edit → Type 0
+IsHoldEnding numbers (Hold removed added ended) = ended.items ≡ numbers
+IsHoldEnding numbers _ = ⊥
+
+-- the first edit of the change ends, of these authorizations, those that share an address with the prefix
+abbrev pub EndsOverlapping : Prefix → List Auth → Change → Type 0
+EndsOverlapping p auths (Holders first second) =
+    IsHoldEnding (map (λ x. x.number) (filter (λ x. terms_overlap x p) auths)) first.edit
+EndsOverlapping p auths (Exceptions files) = ⊥
+
+-- what is known of the rows and answers that a command was judged on, and of its change, where no rule denies it
+abbrev pub AreRuled : Command → Option HolderRows → Answers → Change → Type 0
+AreRuled (Register holder) rows answers change = rows ≡ None
+AreRuled (Transfer p giver taker) rows answers change = EndsOverlapping p (auths_if_any rows) change
+AreRuled (Reclaim holder p) rows answers change = EndsOverlapping p (auths_if_any rows) change
+AreRuled (Create holder terms) rows answers change = (answers.holds ≡ true) × AreInNumber terms.entries
+AreRuled _ rows answers change = ⊤

@@ -4,7 +4,7 @@ use Rattle.std.specs.Cmp.{nat_cmp_is, nat_cmp_total}
 use Rattle.std.specs.List.{AllByRecursion, list_any}
 use Rattle.std.specs.Ordering.{on}
 use Rattle.std.specs.Prelude.{option_map}
-use Rattle.std.proofs.lemmas.Bool.{cond-true, false≢true}
+use Rattle.std.proofs.lemmas.Bool.{cond-true, false≢true, true≢false}
 use Rattle.std.proofs.lemmas.Bool.Decides.{nat_tests}
 use Rattle.std.proofs.lemmas.Cmp.{on_total}
 use Rattle.std.proofs.lemmas.List.Filters.{length-filter_both}
@@ -19,7 +19,7 @@ use Rattle.addr.specs.declared.prefix.Prefix.{Prefix}
 use Rattle.addr.specs.declared.span.Span.{Span}
 use Rattle.addr.proofs.RunLemmas.{maximal_apart}
 use Rattle.charters.specs.declared.charter.Charter.{Charter}
-use Rattle.registry.specs.Answer.{AnswersCreate, AnswersDelegate, AnswersList, AnswersNumber, HasRuns, IsMadeIfAny, SharesWithNone}
+use Rattle.registry.specs.Answer.{AnswersCreate, AnswersDelegate, AnswersLoss, AnswersList, AnswersNumber, HasRuns, IfRegistered, IsMadeIfAny, SharesWithNone}
 use Rattle.registry.specs.declared.authorization.Auth.{Auth}
 use Rattle.registry.specs.declared.authorization.AuthTerms.{AuthTerms}
 use Rattle.registry.specs.declared.command.Command.{Command}
@@ -33,7 +33,7 @@ use Rattle.registry.specs.Resources.{resource_holder, is_held_by, IsFree}
 use Rattle.registry.specs.RoaPrefixes.{with_maxes}
 use Rattle.registry.specs.Rows.{Rows, RowsIfAny, rows_if_any, grants_if_any, auths_if_any}
 use Rattle.registry.specs.RowsOfAll.{AllRows, HasRows, IsTaken}
-use Rattle.registry.specs.Terms.{numbered_grant, granted_after, grants_made, grants_after, grant_terms, authorizations_made, authorization_terms, gives_some, AreActive, HeldSinceMade, Keeps, OfActive}
+use Rattle.registry.specs.Terms.{numbered_grant, granted_after, grants_made, grants_after, grant_terms, authorizations_made, authorization_terms, gives_some, terms_overlap, AreActive, HeldSinceMade, Keeps, OfActive}
 use Rattle.registry.specs.Verdict.{IsLegal, auth_of_number, maxes_fit}
 use Rattle.registry.proofs.Amended.{shares_with_other}
 use Rattle.registry.proofs.Held.{active-numbered}
@@ -44,7 +44,7 @@ use Rattle.registry.proofs.Unregistered.{has_nothing}
 use Rattle.histories.proofs.SharedVrps.{share_vrp-flips}
 use Rattle.tables.specs.TablesHold.{items_if_any}
 use Rattle.loads.specs.declared.answers.Loaded.{Loaded}
-use Rattle.loads.specs.Loads.{AreCounted, AreGrants, AreInOrder, AreNumbered, AreRunsApart, HasRun, HaveSame, IsForCreate, IsForDelegate, MeetsSome, auths_held, created_if_any, some_gives}
+use Rattle.loads.specs.Loads.{AreCounted, AreGrants, AreHoldings, AreInOrder, AreNumbered, AreRunsApart, HasRun, HaveSame, IsForCreate, IsForDelegate, IsForLoss, MeetsSome, auths_held, created_if_any, some_gives}
 use Rattle.loads.proofs.Giving.{taken_iff}
 use Rattle.store.specs.Laws.{LoadsFactsOfHistories, LoadsListsOfHistories, LoadsNumberOfHistories, LoadsPartsOfHistories, LoadsRowsOfHistories}
 
@@ -285,6 +285,37 @@ delegate_facts charter history h p all loaded legal has are =
     each None same holdings = tt
     each (Some part) same holdings = λ a. same a ∙ holdings a
 
+-- those that pass pass again
+filter_again : {X : Type 0} (p : X → Bool) (xs : List X) → filter p (filter p xs) ≡ filter p xs
+filter_again p [] = refl
+filter_again p (x ∷ xs) = go (filter_again p xs) (p x) refl
+  where
+    go : filter p (filter p xs) ≡ filter p xs → (b : Bool) → p x ≡ b → filter p (cond b (x ∷ filter p xs) (filter p xs)) ≡ cond b (x ∷ filter p xs) (filter p xs)
+    go rest true is = cond-true _ _ _ is ∙ ap (λ ys. x ∷ ys) rest
+    go rest false is = rest
+
+runs_facts : (history : History) (h : List ℕ) (rows : Option Rows) (part : Option HolderRows) → RowsIfAny history h rows → AreHoldings rows part
+    → IfRegistered history h part (λ r. HasRuns history h r.holdings)
+runs_facts history h None None of are = of
+runs_facts history h None (Some part) of are = absurd (true≢false are.registered)
+runs_facts history h (Some r) None of are = absurd (false≢true are.registered)
+runs_facts history h (Some r) (Some part) of are = (of.0, λ a. are.runs a ∙ of.1.holdings a)
+
+loss_facts : (history : History) (h : List ℕ) (p : Prefix) (rows : Option Rows) (part : Option HolderRows) → RowsIfAny history h rows → IsForLoss p rows part
+    → IfRegistered history h part (AnswersLoss history h p)
+loss_facts history h p None None of are = of
+loss_facts history h p None (Some part) of are = absurd (true≢false are.holdings.registered)
+loss_facts history h p (Some r) None of are = absurd (false≢true are.holdings.registered)
+loss_facts history h p (Some r) (Some part) of are =
+    let passes = λ (x : Auth). terms_overlap x p in
+    let kept = kept_in_order history h passes r.auths part.auths.items of.1.auths are.auths.order in (
+      of.0,
+      record {
+        holdings = λ a. are.holdings.runs a ∙ of.1.holdings a;
+        auths = (r.auths, of.1.auths, ap (filter passes) kept ∙ filter_again passes r.auths);
+      },
+    )
+
 -- no more are active than were made
 no_more : (low : ℕ) (xs : List Auth) (high : ℕ) → Numbered low xs high → low + length xs ≤ high
 no_more low [] high n = omega (arith, n)
@@ -377,10 +408,10 @@ pub loads_facts : LoadsFactsOfHistories
 loads_facts charter history (Register h) rows loaded legal has are = register_facts history h (rows.of_holder h) loaded.rows (has.holders h) are
 loads_facts charter history (Delegate h p) rows loaded legal has are = delegate_facts charter history h p rows loaded legal has are
 loads_facts charter history (Transfer p giver taker) rows loaded legal has are = (
-  loads_rows history giver (rows.of_holder giver) loaded.rows (has.holders giver) are.0,
-  loads_rows history taker (rows.of_holder taker) loaded.taker (has.holders taker) are.1,
+  loss_facts history giver p (rows.of_holder giver) loaded.rows (has.holders giver) are.0,
+  runs_facts history taker (rows.of_holder taker) loaded.taker (has.holders taker) are.1,
 )
-loads_facts charter history (Reclaim h p) rows loaded legal has are = loads_rows history h (rows.of_holder h) loaded.rows (has.holders h) are
+loads_facts charter history (Reclaim h p) rows loaded legal has are = loss_facts history h p (rows.of_holder h) loaded.rows (has.holders h) are
 loads_facts charter history (Grant h terms) rows loaded legal has are = record {
   grants = granted_loaded charter history h (rows.of_holder h) (grants_if_any loaded.rows) legal (has.holders h) are.grants;
   counter = made_loaded history h (rows.of_holder h) _ (has.holders h) are.granted;

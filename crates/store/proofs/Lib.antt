@@ -6,3 +6,4 @@ mod OpenedStore
 mod ReadRows
 pub mod HeldOnce
 mod PartFound
+mod LossFound

@@ -16,10 +16,8 @@ use Rattle.sqlite_rules.specs.Lists.{Has}
 use Rattle.sqlite_rules.proofs.ListLemmas.{all_from, has_filtered, some_from, some_has}
 use Rattle.sqlite_trees.specs.Tree.{IsAscending}
 use Rattle.sqlite_trees.proofs.ListLemmas.{all_weaker, all-permutation, ascending-append, filter_none, filter_same, all_of}
-use Rattle.addr.specs.declared.asn.Asn.{Asn}
 use Rattle.charters.specs.CharterSets.{CharterSets}
 use Rattle.registry.specs.declared.authorization.Auth.{Auth}
-use Rattle.registry.specs.declared.authorization.RoaPrefix.{RoaPrefix}
 use Rattle.registry.specs.declared.command.Proposed.{Proposed}
 use Rattle.registry.specs.declared.command.Proposed.TheVariants.{Create, Withdraw}
 use Rattle.registry.specs.declared.grant.Granted.{Granted}
@@ -38,7 +36,7 @@ use Rattle.loads.specs.Loads.{AreCounted, AreGrants, AreInOrder, HaveSame, auths
 use Rattle.loads.proofs.GivenAuths.{created_shown}
 use Rattle.store.proofs.HeldOnce.{one_of_number}
 use Rattle.store.specs.PartLoaded.{IsForChanges}
-use Rattle.store.specs.steps.PartNumbers.{AreOfNumbers, asks_for, gives_numbered, has_number, some_asks_for}
+use Rattle.store.specs.steps.PartNumbers.{AreOfNumbers, asks_for, has_number, some_asks_for}
 
 or_assoc : (a b c : Bool) → ((a || b) || c) ≡ (a || (b || c))
 or_assoc true b c = refl
@@ -87,25 +85,25 @@ numbered_once differ charter rows db sound tables holds h = go (rows.of_holder h
     go None is x y has_x has_y same = absurd has_x
     go (Some r) is x y has_x has_y same = one_of_number differ charter rows db sound tables holds h r x y is has_x has_y same
 
--- then the rules look for an authorization where they look for one of its number
+-- then an authorization passes a test where one of its number does, and the rules look for it where they look for its number
 module _ (auths : List Auth) (once : AreNumberedOnce auths) (x : Auth) (there : Has auths x) where
-  gives_by_number : (asn : Asn) (es : List RoaPrefix) → gives_numbered asn es auths x.number ≡ gives_some x asn es
-  gives_by_number asn es =
-      let such = λ (y : Auth). (x.number == y.number) && gives_some y asn es in
+  pub passes_by_number : (passes : Auth → Bool) → list_any (λ (y : Auth). (x.number == y.number) && passes y) auths ≡ passes x
+  passes_by_number passes =
+      let such = λ (y : Auth). (x.number == y.number) && passes y in
       elim (cases_Bool (list_any such auths)) [
         | inl some ↦
             let (y, has, is) = some_has such auths some in
-            let both = and_parts (x.number == y.number) (gives_some y asn es) is in
+            let both = and_parts (x.number == y.number) (passes y) is in
             let same : x ≡ y = once x y there has (eqb-true _ _ both.0) in
-            some ∙ sym (ap (λ (z : Auth). gives_some z asn es) same ∙ both.1)
-        | inr none ↦ elim (cases_Bool (gives_some x asn es)) [
-          | inl gives ↦ absurd (false≢true (sym none ∙ some_from such auths x there (and_from (x.number == x.number) (gives_some x asn es) (eq-eqb x.number x.number refl) gives)))
-          | inr gives ↦ none ∙ sym gives
+            some ∙ sym (ap passes same ∙ both.1)
+        | inr none ↦ elim (cases_Bool (passes x)) [
+          | inl is ↦ absurd (false≢true (sym none ∙ some_from such auths x there (and_from (x.number == x.number) (passes x) (eq-eqb x.number x.number refl) is)))
+          | inr not_so ↦ none ∙ sym not_so
         ]
       ]
 
   asks_by_number : (change : Proposed) → asks_for change auths x.number ≡ looks_for change x
-  asks_by_number (Create terms) = gives_by_number terms.asn terms.entries
+  asks_by_number (Create terms) = passes_by_number (λ (y : Auth). gives_some y terms.asn terms.entries)
   asks_by_number (Withdraw m) = refl
 
   some_asks_by_number : (changes : List Proposed) → some_asks_for changes auths x.number ≡ looked_for changes x
@@ -199,7 +197,7 @@ none_later numbers left auths loaded none of = subst (AreOfNumbers numbers auths
 not_below : (m n : ℕ) → m ≤ n → is_lt (nat_cmp n m) ≡ false
 not_below m n low = grind (arith, low)
 
-in_order : (xs : List Auth) → Rise xs → IsSortedByKey (λ (x : Auth). x.number) nat_cmp xs
+pub in_order : (xs : List Auth) → Rise xs → IsSortedByKey (λ (x : Auth). x.number) nat_cmp xs
 in_order [] rise k d low high = absurd (omega (arith, high))
 in_order (x ∷ []) rise k d low high = absurd (omega (arith, high))
 in_order (x ∷ y ∷ xs) rise zero d low high = not_below x.number y.number rise.0.0

@@ -2,6 +2,7 @@
 #![tactic(auto)]
 
 pub mod laws;
+mod loss;
 mod part;
 mod store;
 

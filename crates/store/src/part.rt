@@ -123,7 +123,7 @@ fn load_numbers<S: Alter>(
 }
 
 /// The authorizations of the holder that have one of these numbers.
-fn load_each<S: Alter>(
+pub(crate) fn load_each<S: Alter>(
     conn: &mut Connection<S>,
     alloc: Global,
     holder: &Name,

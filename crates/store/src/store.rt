@@ -10,13 +10,15 @@ ghost use Rattle.database.specs.Opening.{IsOfAnotherSchema};
 ghost use Rattle.store.specs.steps.Commits.{CommitsChange, MayCommit};
 ghost use Rattle.transactions.specs.Statements.{IfCommitted, IfRolledBack, CommitsAtMost};
 
+use crate::loss::load_for_loss;
 use crate::part::{Part, load_part};
 use addr::{Day, Name, Prefix, Vrp};
 use database::{make_tables, open_tables};
 use edits::make_change;
 use loads::{
     Loaded, is_registered, load_files, load_for_amend, load_for_create, load_for_delegate,
-    load_grants_counted, load_listed, load_numbered, load_rows, load_vrps, some_overlap,
+    load_grants_counted, load_holdings, load_listed, load_numbered, load_rows, load_vrps,
+    some_overlap,
 };
 use registry::{Answers, Change, Charter, Command, HolderRows, Proposed};
 use slurm::Slurm;
@@ -194,7 +196,7 @@ impl<S: Alter> Store<S> {
     ghost use Rattle.store.specs.Given.{GivenOnce};
     ghost use Rattle.store.specs.PartLoaded.{IsForChanges};
     ghost use Rattle.loads.specs.Loads.{AllGiveOn, AreCounted, AreFilesOf, AreLoaded};
-    ghost use Rattle.loads.specs.Loads.{AreListed, AreNumbered, IsLoadedFor};
+    ghost use Rattle.loads.specs.Loads.{AreHoldings, AreListed, AreNumbered, IsForLoss, IsLoadedFor};
     ghost use Rattle.store.specs.StoreRows.{connection_state, Holds, IsRead, NamedFit, OfHeldRows};
     ghost use Rattle.transactions.specs.Databases.{IsDeskWhileOpen};
     ghost use Rattle.store.specs.StoreRows.{IfClean, HoldsAfter, MayLeave, LeavesOnly};
@@ -300,15 +302,12 @@ impl<S: Alter> Store<S> {
             Command::Delegate { holder, prefix } => {
                 load_for_delegate(&mut self.conn, alloc, holder, prefix)
             }
-            Command::Transfer { giver, taker, .. } => {
-                let (rows, taker) = self.load_two(alloc, giver, taker)?;
-                Ok(Loaded {
-                    rows,
-                    taker,
-                    answers: Answers::NONE,
-                })
-            }
-            Command::Reclaim { holder, .. } => self.load_whole(alloc, holder),
+            Command::Transfer {
+                prefix,
+                giver,
+                taker,
+            } => self.load_for_transfer(alloc, prefix, giver, taker),
+            Command::Reclaim { holder, prefix } => self.load_for_reclaim(alloc, holder, prefix),
             Command::Grant { holder, .. } => self.load_counted(alloc, holder),
             Command::Revoke { holder, .. } => self.load_counted(alloc, holder),
             Command::Create { holder, terms } => {
@@ -357,6 +356,84 @@ impl<S: Alter> Store<S> {
             → OfHeldRows S.Store self.old (λ rows. ¬ FitIfAny (rows.of_holder holder.now))) }
     {
         Ok(alone(load_grants_counted(&mut self.conn, alloc, holder)?))
+    }
+
+    /// The addresses of the holder.
+    fn load_holdings(
+        &mut self,
+        alloc: Global,
+        holder: &Name,
+    ) -> Result<Option<HolderRows>, StoreFault>
+        ensures read { IsRead S.Store self.old self.new }
+        ensures found { IfClean S.Store self.new (IfOk result (λ part.
+            OfHeldRows S.Store self.old
+            (λ rows. AreHoldings (rows.of_holder holder.now) part))) }
+        ensures schema { IfClean S.Store self.new (result ≡ Err StoreFault.Schema
+            → OfHeldRows S.Store self.old (λ rows. ¬ FitIfAny (rows.of_holder holder.now))) }
+    {
+        load_holdings(&mut self.conn, alloc, holder)
+    }
+
+    /// The addresses of the holder, and of its authorizations those that share an address with the
+    /// prefix.
+    fn load_for_loss(
+        &mut self,
+        alloc: Global,
+        holder: &Name,
+        prefix: &Prefix,
+    ) -> Result<Option<HolderRows>, StoreFault>
+        ensures read { IsRead S.Store self.old self.new }
+        ensures found { IfClean S.Store self.new (IfOk result (λ part.
+            OfHeldRows S.Store self.old
+            (λ rows. IsForLoss prefix.now (rows.of_holder holder.now) part))) }
+        ensures schema { IfClean S.Store self.new (result ≡ Err StoreFault.Schema
+            → OfHeldRows S.Store self.old (λ rows. ¬ FitIfAny (rows.of_holder holder.now))) }
+    {
+        load_for_loss(&mut self.conn, alloc, holder, prefix)
+    }
+
+    /// What the rules of a transfer of the prefix read.
+    fn load_for_transfer(
+        &mut self,
+        alloc: Global,
+        prefix: &Prefix,
+        giver: &Name,
+        taker: &Name,
+    ) -> Result<Loaded, StoreFault>
+        ensures read { IsRead S.Store self.old self.new }
+        ensures found { IfClean S.Store self.new (IfOk result (λ loaded.
+            OfHeldRows S.Store self.old (λ rows.
+            IsForLoss prefix.now (rows.of_holder giver.now) loaded.rows
+            × AreHoldings (rows.of_holder taker.now) loaded.taker))) }
+        ensures schema { IfClean S.Store self.new (result ≡ Err StoreFault.Schema
+            → OfHeldRows S.Store self.old
+            (λ rows. ¬ (FitIfAny (rows.of_holder giver.now)
+            × FitIfAny (rows.of_holder taker.now)))) }
+    {
+        let rows = self.load_for_loss(alloc, giver, prefix)?;
+        let taker = self.load_holdings(alloc, taker)?;
+        Ok(Loaded {
+            rows,
+            taker,
+            answers: Answers::NONE,
+        })
+    }
+
+    /// What the rules of a reclaim of the prefix read.
+    fn load_for_reclaim(
+        &mut self,
+        alloc: Global,
+        holder: &Name,
+        prefix: &Prefix,
+    ) -> Result<Loaded, StoreFault>
+        ensures read { IsRead S.Store self.old self.new }
+        ensures found { IfClean S.Store self.new (IfOk result (λ loaded.
+            OfHeldRows S.Store self.old
+            (λ rows. IsForLoss prefix.now (rows.of_holder holder.now) loaded.rows))) }
+        ensures schema { IfClean S.Store self.new (result ≡ Err StoreFault.Schema
+            → OfHeldRows S.Store self.old (λ rows. ¬ FitIfAny (rows.of_holder holder.now))) }
+    {
+        Ok(alone(self.load_for_loss(alloc, holder, prefix)?))
     }
 
     /// All rows of the holder.

@@ -1,13 +1,14 @@
--- The numbers by which authorizations are loaded for hypothetical changes.
+-- The numbers by which authorizations are loaded.
 use Rattle.std.specs.Prelude.{◌≤◌, ◌==◌, ◌&&◌, ℕ, Bool, List, filter, IsPermutation}
 use Rattle.std.specs.List.{list_any}
 use Rattle.sqlite_trees.specs.Tree.{IsAscending}
 use Rattle.addr.specs.declared.asn.Asn.{Asn}
+use Rattle.addr.specs.declared.prefix.Prefix.{Prefix}
 use Rattle.registry.specs.declared.authorization.Auth.{Auth}
 use Rattle.registry.specs.declared.authorization.RoaPrefix.{RoaPrefix}
 use Rattle.registry.specs.declared.command.Proposed.{Proposed}
 use Rattle.registry.specs.declared.command.Proposed.TheVariants.{Create, Withdraw}
-use Rattle.registry.specs.Terms.{gives_some}
+use Rattle.registry.specs.Terms.{gives_some, terms_overlap}
 
 abbrev pub has_number : List ℕ → ℕ → Bool
 has_number numbers n = list_any (λ m. n == m) numbers
@@ -24,6 +25,10 @@ asks_for (Withdraw m) auths n = n == m
 -- the rules of some of the changes do
 abbrev pub some_asks_for : List Proposed → List Auth → ℕ → Bool
 some_asks_for changes auths n = list_any (λ change. asks_for change auths n) changes
+
+-- an authorization of the number shares an address with the prefix
+abbrev pub overlaps_numbered : Prefix → List Auth → ℕ → Bool
+overlaps_numbered p auths n = list_any (λ x. (n == x.number) && terms_overlap x p) auths
 
 -- the authorizations of these numbers, by number
 pub record AreOfNumbers (numbers : List ℕ) (auths loaded : List Auth) : Type 0 where

@@ -1,7 +1,6 @@
 use Rattle.std.proofs.Common.{◌∙◌, ap, refl}
 use Rattle.std.proofs.lemmas.Result.{err_from_is_err_and}
 use Rattle.registry.specs.Answer.{edit_number}
-use Rattle.registry.specs.Rows.{rows_of}
 use Rattle.registry.specs.Terms.{terms_overlap}
 use Rattle.registry.proofs.Names.{same_name-false}
 use Rattle.registry.proofs.Ended.{numbers_where}
@@ -49,9 +48,15 @@ returns-clause-answer c history day legal giver_are taker_are =
       leaves = (had.0, refl);
       numbered = ap edit_number c.in_ok-from_giver.ensures.is;
       carries = carries-transfer history day a.caller.now a.giver.name.now a.taker.name.now p c.in_ok-less.less c.in_ok-more.more c.in_ok-ended.ended c.new.result c.in_ok-from_giver.from_giver c.in_ok-to_taker.to_taker
-          (rows_of c.in_ok-giving.giving.now) (rows_of c.in_ok-giving.taking.now)
+          c.in_ok-giving.giving.now c.in_ok-giving.taking.now.holdings
           rules.0.0 rules.0.1 (same_name-false a.giver.name.now a.taker.name.now rules.1.0) rules.1.1.0 had.1.0 had.1.1
           c.in_ok-from_giver.ensures c.in_ok-less.ensures c.in_ok-to_taker.ensures c.in_ok-more.ensures numbers c.new.ensures.items;
       sparing = (sparing _ _ _ _ c.in_ok-from_giver.ensures, sparing _ _ _ _ c.in_ok-to_taker.ensures);
       of_command = (refl, refl);
     }
+
+pub returns-clause-ended : goal.returns-clause-ended
+returns-clause-ended c =
+    let p = c.args.prefix.now in
+    let numbers = c.in_ok-ended.ensures ∙ ap (numbers_where (λ x. terms_overlap x p)) c.deref.ensures.value in
+    rw (c.in_ok-giving.ensures.found, c.in_ok-from_giver.ensures.is) numbers
