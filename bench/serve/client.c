@@ -40,13 +40,24 @@ static const uint64_t NO_SUM = 14695981039346656037u;
 
 static unsigned holders, auths;
 
+/* The IPv4 prefix of this length that begins so many addresses after the first one of a holder. */
+static void put_v4(char *prefix, unsigned holder, unsigned at, unsigned length)
+{
+    unsigned first = (240u << 24) + holder * 8192 + at;
+    snprintf(prefix, PREFIX_SIZE, "%u.%u.%u.%u/%u", first >> 24, first >> 16 & 255, first >> 8 & 255, first & 255,
+             length);
+}
+
+static unsigned subnet_of(unsigned number)
+{
+    return number <= 10 ? number : 16 + number % 496;
+}
+
 /* The prefix of the authorization of this number of a holder, as desk.awk has it, or one that it contains. */
 static void put_prefix(char *prefix, unsigned holder, unsigned number, int is_longer)
 {
-    unsigned first = (240u << 24) + holder * 8192 + number % 512 * 16;
     if (number % 5)
-        snprintf(prefix, PREFIX_SIZE, "%u.%u.%u.%u/%u", first >> 24, first >> 16 & 255, first >> 8 & 255, first & 255,
-                 is_longer ? 30 : 28);
+        put_v4(prefix, holder, subnet_of(number) * 16, is_longer ? 30 : 28);
     else
         snprintf(prefix, PREFIX_SIZE, "2001:db8:%x:%x::/%u", holder + 1, number, is_longer ? 80 : 64);
 }

@@ -1,8 +1,9 @@
 # Prints, as SQL, the rows of a desk with so many holders and authorizations of each (-v holders=N -v auths=N).
 #
 # A holder has 8192 addresses of 240.0.0.0/4, which is room for 32,768 holders, and a /48 of 2001:db8::/32, and `ann` as
-# its manager. After 512 authorizations their prefixes begin anew, each with another AS. Each fifth authorization is of
-# IPv6, and three of four are in force on 2026-03-01, which is day 20513.
+# its manager. Its first ten authorizations are in its first /24, where no other one of IPv4 is. After 496 more, their
+# prefixes begin anew, each with another AS. Each fifth authorization is of IPv6, and three of four are in force on
+# 2026-03-01, which is day 20513.
 
 function blob_v4(address) { return sprintf("x'%032x'", address) }
 function blob_v6(holder, subnet, rest) { return sprintf("x'20010db8%04x%04x%s'", holder + 1, subnet, rest) }
@@ -36,8 +37,11 @@ function print_authorization(name, number, asn, prefix) {
     printf "INSERT INTO entry VALUES (%s, %d, %d, %s);\n", name, number, asn, prefix
 }
 
+# Which of the 512 subnets of a holder the authorization is for.
+function subnet_of(number) { return number <= 10 ? number : 16 + number % 496 }
+
 function prefix_and_max(holder, number, first) {
     if (number % 5)
-        return "4, " blob_v4(first + number % 512 * 16) ", 28, 28"
+        return "4, " blob_v4(first + subnet_of(number) * 16) ", 28, 28"
     return "6, " blob_v6(holder, number, zeros) ", 64, 64"
 }
