@@ -33,7 +33,7 @@
 
 enum { BODY_MOST = 1 << 20, REQUEST_MOST = BODY_MOST + 1024, PREFIX_SIZE = 64, RESPONSE_MOST = 1 << 26 };
 enum { COUNT_MOST = 10000, TRY_AGAIN_AFTER = 100 };
-enum { ROWS = 10000, ROWS_TO_MAKE = 100, CHANGES = 10, ROUTES_OF_WHAT_IF = 100 };
+enum { CHANGES = 10, ROUTES_OF_WHAT_IF = 100 };
 
 static const int64_t TIME_TO_LISTEN = 600000000000;
 static const uint64_t NO_SUM = 14695981039346656037u;
@@ -95,16 +95,17 @@ static char *put_row(char *body, unsigned holder, unsigned number)
                           is_there ? opens[number % 4] : "2026-01-01", is_there ? "2052-02-20" : "2026-12-31");
 }
 
-/* The rows name all authorizations of the holder over and over, and each hundredth one is to be made. */
-static char *put_import(char *body, unsigned holder)
+/* So many rows, of which so many are to make an authorization, at equal distances. The others name all authorizations
+ * of the holder over and over; if it has none, those that earlier rows made. */
+static char *put_import(char *body, unsigned holder, unsigned rows, unsigned to_make)
 {
     unsigned made = 0;
     body += sprintf(body, "asn,prefix,maxlength,from,until\n");
-    for (unsigned row = 0; row < ROWS; row++)
-        if (row % (ROWS / ROWS_TO_MAKE))
-            body = put_row(body, holder, (row - made) % auths + 1);
-        else
+    for (unsigned row = 0; row < rows; row++)
+        if (to_make && row % (rows / to_make) == 0)
             body = put_row(body, holder, auths + ++made);
+        else
+            body = put_row(body, holder, (row - made) % (auths ? auths : made) + 1);
     return body;
 }
 
@@ -144,11 +145,17 @@ static char *put_what_if(char *body, unsigned holder, unsigned number)
     return body + sprintf(body, "]}");
 }
 
-/* The prefix has the subnets of the first 511 authorizations of a holder, of which each fifth is of IPv6. */
-static char *put_transfer(char *body, unsigned holder)
+/* The prefix has the subnets of the first 511 authorizations of a holder, of which each fifth is of IPv6; or, of IPv4,
+ * those of the first 10. */
+static char *put_transfer(char *body, unsigned holder, int is_v4)
 {
-    return body + sprintf(body, "{\"prefix\":\"2001:db8:%x::/55\",\"giver\":\"h%u\",\"taker\":\"h%u\"}",
-                          holder + 1, holder, (holder + 1) % holders);
+    char prefix[PREFIX_SIZE];
+    if (is_v4)
+        put_v4(prefix, holder, 0, 24);
+    else
+        snprintf(prefix, PREFIX_SIZE, "2001:db8:%x::/55", holder + 1);
+    return body + sprintf(body, "{\"prefix\":\"%s\",\"giver\":\"h%u\",\"taker\":\"h%u\"}", prefix, holder,
+                          (holder + 1) % holders);
 }
 
 /* One filter and one assertion, of other AS numbers each time. */
@@ -173,7 +180,8 @@ static void put_request(char *request, const char *caller, const char *method, c
 
 /* CREATE makes a new authorization. SAME and FULL are denied: one that is there, and a new one where a holder has as
  * many as it may. VALIDITY asks about routes of all kinds, VALIDITY_OF_MADE about that of what CREATE made,
- * VALIDITY_OF_TAKEN about that of what WITHDRAW took away. IMPORT and TRANSFER are of each holder once. */
+ * VALIDITY_OF_TAKEN about that of what WITHDRAW took away. IMPORT_PRESENT makes nothing. The other imports and the
+ * transfers are of each holder once. */
 enum kind {
     NOTHING,
     SHOW,
@@ -187,9 +195,23 @@ enum kind {
     VALIDITY_OF_MADE,
     VALIDITY_OF_TAKEN,
     IMPORT,
+    IMPORT_ALL_MADE,
+    IMPORT_PRESENT,
+    IMPORT_INTO_NONE,
     WHAT_IF,
     TRANSFER,
+    TRANSFER_V4,
     SLURM,
+};
+
+/* How many rows an import has, and how many of them make an authorization. */
+static const struct {
+    unsigned rows, to_make;
+} imports[] = {
+    [IMPORT] = {10000, 100},
+    [IMPORT_ALL_MADE] = {100, 100},
+    [IMPORT_PRESENT] = {100, 0},
+    [IMPORT_INTO_NONE] = {10000, 1000},
 };
 
 struct operation {
@@ -210,8 +232,12 @@ static const struct operation operations[] = {
     {"create-validity", 1, 0, CREATE, VALIDITY_OF_MADE},
     {"withdraw-validity", 1, 0, WITHDRAW, VALIDITY_OF_TAKEN},
     {"import", 1, 0, IMPORT, NOTHING},
+    {"import-100", 1, 0, IMPORT_ALL_MADE, NOTHING},
+    {"import-present", 1, 0, IMPORT_PRESENT, NOTHING},
+    {"import-empty", 1, 0, IMPORT_INTO_NONE, NOTHING},
     {"what-if", 1, 0, WHAT_IF, NOTHING},
     {"transfer", 1, 0, TRANSFER, NOTHING},
+    {"transfer-24", 1, 0, TRANSFER_V4, NOTHING},
     {"first-payloads", 0, 0, PAYLOADS, NOTHING},
     {"first-validity", 0, 0, VALIDITY, NOTHING},
     {"first-what-if", 0, 0, WHAT_IF, NOTHING},
@@ -224,7 +250,8 @@ static void make_request(char *request, enum kind kind, unsigned at)
 {
     static char body[BODY_MOST];
     char path[64];
-    unsigned holder = at * 7919 % holders, number = (at % holders + at / holders) % auths + 1, made = auths + at + 1;
+    unsigned holder = at * 7919 % holders, made = auths + at + 1;
+    unsigned number = auths ? (at % holders + at / holders) % auths + 1 : 0;
     *body = 0;
     snprintf(path, sizeof path, "/holders/h%u/auths", holder);
     switch (kind) {
@@ -257,7 +284,10 @@ static void make_request(char *request, enum kind kind, unsigned at)
         put_request(request, "ann", "POST", path, body);
         return;
     case IMPORT:
-        put_import(body, holder);
+    case IMPORT_ALL_MADE:
+    case IMPORT_PRESENT:
+    case IMPORT_INTO_NONE:
+        put_import(body, holder, imports[kind].rows, imports[kind].to_make);
         snprintf(path, sizeof path, "/holders/h%u/imports", holder);
         put_request(request, "ann", "POST", path, body);
         return;
@@ -267,7 +297,8 @@ static void make_request(char *request, enum kind kind, unsigned at)
         put_request(request, "ann", "POST", path, body);
         return;
     case TRANSFER:
-        put_transfer(body, holder);
+    case TRANSFER_V4:
+        put_transfer(body, holder, kind == TRANSFER_V4);
         put_request(request, "reg", "POST", "/transfers", body);
         return;
     case SLURM:

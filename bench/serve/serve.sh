@@ -4,8 +4,9 @@
 #     serve.sh [--only-c] [RUNS [SIZE]...]      (5, and all sizes, if left out; --only-c runs the C server alone)
 #
 # A SIZE is as '200 500', the holders, at most 32768, and the authorizations of each, at most 1000; the greatest,
-# '25000 40', takes 0.5 GB of files. The two servers run in turn, each first in every other run, and of the medians of
-# an operation the least counts, as do the least processor time of the server and the least peak of memory.
+# '25000 40', takes 0.5 GB of files. At '1000 10', '100 100', '10 1000' and '20 0' only those operations are measured
+# whose time the size of the holder decides. The two servers run in turn, each first in every other run, and of the
+# medians of an operation the least counts, as do the least processor time of the server and the least peak of memory.
 #
 # Needs the built program, which PROGRAM may name, gcc, libsqlite3 with its header and sqlite3; with strace the calls
 # that sync are counted too. Files go to a temporary folder, or stay in BENCH_WORK.
@@ -26,7 +27,8 @@ if [ "${1:-}" = --only-c ]; then
 fi
 runs=${1:-5}
 sizes=("${@:2}")
-[ ${#sizes[@]} != 0 ] || sizes=('200 5' '200 50' '200 500' '20 900' '1 1000' '10000 1' '25000 4' '25000 40')
+[ ${#sizes[@]} != 0 ] || sizes=('200 5' '200 50' '200 500' '20 900' '1 1000' '10000 1' '25000 4' '25000 40'
+    '1000 10' '100 100' '10 1000' '20 0')
 
 [ "$servers" = C ] || find_program
 make_or_keep_work
@@ -163,6 +165,56 @@ syncs() {
     grep -c 'sync(' "$work/syncs" || [ $? = 1 ]
 }
 
+# measure_desk: each operation that is possible at the size.
+measure_desk() {
+    local operation
+    for operation in show list denied validity; do
+        measure "$size" "$operation" 1000
+    done
+    # A holder of 1000 has no room for a create.
+    case $size in
+    *' 1000') measure "$size" full 200 ;;
+    *)
+        measure "$size" create 200
+        measure "$size" create-validity 200
+        ;;
+    esac
+    measure "$size" withdraw 200
+    measure "$size" withdraw-validity 200
+    # A what-if withdraws five authorizations. A holder has one import, which makes 100, and one transfer.
+    if [ "$auths" -ge 5 ]; then
+        measure "$size" what-if 200
+        measure_alone "$size" slurm-what-if 20
+    fi
+    if [ "$holders" -ge 20 ] && [ "$auths" -ge 500 ] && [ "$auths" -le 900 ]; then
+        measure "$size" import 20
+        measure "$size" import-100 20
+        measure "$size" transfer 20
+    fi
+    measure "$size" payloads 20
+    for _ in 1 2 3; do
+        measure "$size" first-payloads 1
+        [ "$auths" -lt 5 ] || measure "$size" first-what-if 1
+        measure "$size" start 1
+    done
+    measure_memory "$size"
+}
+
+# measure_holder: the operations whose time the size of the holder decides.
+measure_holder() {
+    local once=$((holders < 100 ? holders : 100))
+    measure "$size" what-if 200
+    # A holder gives its first /24 away once. It has one import that makes 100, if it has room for them.
+    measure "$size" transfer-24 "$once"
+    measure "$size" import-present 200
+    [ "$auths" -gt 900 ] || measure "$size" import-100 "$once"
+}
+
+# measure_empty: an import by each of the holders without any authorization.
+measure_empty() {
+    measure "$size" import-empty "$holders"
+}
+
 turn=$servers
 : >"$work/serve.lines"
 : >"$work/memory.lines"
@@ -170,39 +222,16 @@ turn=$servers
 for size in "${sizes[@]}"; do
     make_desk $size
     read -r holders auths <<<"$size"
+    case $size in
+    '1000 10' | '100 100' | '10 1000') part=holder ;;
+    '20 0') part=empty ;;
+    *) part=desk ;;
+    esac
     for _ in $(seq "$runs"); do
-        for operation in show list denied validity; do
-            measure "$size" "$operation" 1000
-        done
-        # A holder of 1000 has no room for a create.
-        case $size in
-        *' 1000') measure "$size" full 200 ;;
-        *)
-            measure "$size" create 200
-            measure "$size" create-validity 200
-            ;;
-        esac
-        measure "$size" withdraw 200
-        measure "$size" withdraw-validity 200
-        # A what-if withdraws five authorizations. A holder has one import, which makes 100, and one transfer.
-        if [ "$auths" -ge 5 ]; then
-            measure "$size" what-if 200
-            measure_alone "$size" slurm-what-if 20
-        fi
-        if [ "$holders" -ge 20 ] && [ "$auths" -ge 500 ] && [ "$auths" -le 900 ]; then
-            measure "$size" import 20
-            measure "$size" transfer 20
-        fi
-        measure "$size" payloads 20
-        for _ in 1 2 3; do
-            measure "$size" first-payloads 1
-            [ "$auths" -lt 5 ] || measure "$size" first-what-if 1
-            measure "$size" start 1
-        done
-        measure_memory "$size"
+        "measure_$part"
         turn=$(tr ' ' '\n' <<<"$turn" | tac | xargs)
     done
-    print_check "$size" >>"$work/check.lines"
+    [ "$part" != desk ] || print_check "$size" >>"$work/check.lines"
 done
 
 awk -v servers="$servers" '
@@ -244,6 +273,10 @@ awk -v servers="$servers" '
         print_quotient("25000 of 40 show", "25000 of 4 show")
         print_quotient("25000 of 40 validity", "25000 of 4 validity")
         print_quotient("25000 of 40 create-validity", "25000 of 4 create-validity")
+        print_quotient("10 of 1000 what-if", "1000 of 10 what-if")
+        print_quotient("10 of 1000 transfer-24", "1000 of 10 transfer-24")
+        print_quotient("10 of 1000 import-present", "1000 of 10 import-present")
+        print_quotient("20 of 900 import-100", "1000 of 10 import-100")
         exit differ
     }' "$work/serve.lines"
 same=$?
@@ -253,6 +286,7 @@ awk -v servers="$servers" '
     !(row in seen) { seen[row]; order[++rows] = row }
     !(key in kept) || $7 < kept[key] { opened[key] = $5; kept[key] = $7; written[key] = $9; grown[key] = $8 - $6 }
     END {
+        if (!rows) exit
         count = split(servers, server, " ")
         printf "%-30s  %8s  %28s  %21s\n", "rows", "server", "peak opened, kept, written", "bytes a VRP: peak, now"
         for (at = 1; at <= rows; at++)
