@@ -1,5 +1,5 @@
 -- The bits of a prefix from some place on.
-use Rattle.payload.proofs.Names.{◌≡◌, ℕ, zero, suc, ◌+◌, ◌-◌, ◌≤◌, ◌<◌, Bool, true, false, ◌==◌, [], ◌∷◌, length, refl, ap, ◌∙◌, arith, ◌↔◌, IsTrue, eq-eqb, ne_eqb, false≢true, bit_of, Prefix, last_bits, bits_from}
+use Rattle.payload.proofs.Vocabulary.{◌≡◌, ℕ, zero, suc, ◌+◌, ◌-◌, ◌≤◌, ◌<◌, Bool, true, false, ◌==◌, [], ◌∷◌, length, refl, ap, ◌∙◌, arith, ◌↔◌, IsTrue, eq-eqb, ne_eqb, false≢true, bit_of, Prefix, last_bits, bits_from}
 
 pub is_one : (b : Bool) (n : ℕ) → IsTrue b ↔ (n ≡ 1) → (n == 1) ≡ b
 is_one true n is = eq-eqb n 1 (is.0 refl)

@@ -1,5 +1,5 @@
 -- The lengths at which a search has something to look at, as the nodes of a tree on a route's path.
-use Rattle.payload.proofs.Names.{◌≡◌, ℕ, zero, suc, ◌+◌, ◌-◌, ◌*◌, ◌/◌, ◌%◌, ◌^◌, ◌≤◌, ◌<◌, Bool, true, false, not, ◌==◌, ◌&&◌, ◌||◌, nat_lt, if◌then◌else◌, List, [], ◌∷◌, length, filter, refl, sym, ap, ◌∙◌, subst, arith, All, list_any, range_with_len, and-false, and-true, div-div-eq-div-mul, and_parts, and_from, false_from_ne_true, le-leb, leb-true, lt-leb, eqb-true, eq-eqb, All-head, All-weaker, list_any_none, pow-add, div-add-mod', div-mul-add, bit_of, contains, width, family_eq, matches, Family, Prefix, Route, Vrp, family_itself, same_family, contains-ends, agrees, first_bits, is_matched_before, Originator, Tree, Leaf, Fork, IsPruned, below, is_bare, nodes_on_path, authorizes, bits_from, half_first, half_vrps, node_vrps, originator_of, vrps_at, vrps_below}
+use Rattle.payload.proofs.Vocabulary.{◌≡◌, ℕ, zero, suc, ◌+◌, ◌-◌, ◌*◌, ◌/◌, ◌%◌, ◌^◌, ◌≤◌, ◌<◌, Bool, true, false, not, ◌==◌, ◌&&◌, ◌||◌, nat_lt, if◌then◌else◌, List, [], ◌∷◌, length, filter, refl, sym, ap, ◌∙◌, subst, arith, All, list_any, range_with_len, and-false, and-true, div-div-eq-div-mul, and_parts, and_from, false_from_ne_true, le-leb, leb-true, lt-leb, eqb-true, eq-eqb, All-head, All-weaker, list_any_none, pow-add, div-add-mod', div-mul-add, bit_of, contains, width, family_eq, matches, Family, Prefix, Route, Vrp, family_itself, same_family, contains-ends, agrees, first_bits, is_matched_before, Originator, Tree, Leaf, Fork, IsPruned, below, is_bare, nodes_on_path, authorizes, bits_from, half_first, half_vrps, node_vrps, originator_of, vrps_at, vrps_below}
 use Rattle.payload.proofs.Halves.{half, half-bit, contains-half, contains-trans, contains-longer, within-first}
 use Rattle.payload.proofs.TrieVrps.{HasLengths, contains-itself, node_vrps-cons, vrp_of, IsRound, any-node, any-parts, any-half, any-side, not-other, All-within}
 use Rattle.payload.proofs.TrieWalks.{walk}

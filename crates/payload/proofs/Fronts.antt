@@ -1,5 +1,5 @@
 -- Fronts of lists of VRPs that rise.
-use Rattle.payload.proofs.Names.{◌∙◌, ap, ◌≡◌, ℕ, ◌+◌, ◌-◌, ◌≤◌, ◌<◌, true, false, List, [], ◌∷◌, ◌++◌, take, drop, length, get_or, refl, sym, subst, arith, inl, inr, Ordering, All, AllWithin, slice_range, IsPartitionPoint, IsPartitionedBy, is_le, ordering_then, Less, Equal, Greater, both_ways, cases_Bool, cases_lt, get_or_read, take-append-drop, get_or_append_left, get_or-take, get_or-drop, get_or-append-add, get_or_at, length-take-le, length-drop, Prefix, Vrp, contains, contains-between, contains-at_most, AreRising, is_at_most, IsFrontUpTo, HasAllEnclosing, vrp_cmp, le-trans, prefix_order}
+use Rattle.payload.proofs.Vocabulary.{◌∙◌, ap, ◌≡◌, ℕ, ◌+◌, ◌-◌, ◌≤◌, ◌<◌, true, false, List, [], ◌∷◌, ◌++◌, take, drop, length, get_or, refl, sym, subst, arith, inl, inr, Ordering, All, AllWithin, slice_range, IsPartitionPoint, IsPartitionedBy, is_le, ordering_then, Less, Equal, Greater, both_ways, cases_Bool, cases_lt, get_or_read, take-append-drop, get_or_append_left, get_or-take, get_or-drop, get_or-append-add, get_or_at, length-take-le, length-drop, Prefix, Vrp, contains, contains-between, contains-at_most, AreRising, is_at_most, IsFrontUpTo, HasAllEnclosing, vrp_cmp, le-trans, prefix_order}
 use Rattle.std.proofs.Common.{length-append}
 use Rattle.std.proofs.lemmas.List.Edits.{get_or-between, length-between}
 

@@ -1,5 +1,5 @@
 -- Trees that have what they have at the end of a path of bits.
-use Rattle.payload.proofs.Names.{◌≡◌, ℕ, suc, ◌+◌, ◌≤◌, ◌<◌, Bool, true, false, not, ◌&&◌, List, [], ◌∷◌, ◌++◌, length, take, drop, refl, sym, ap, ◌∙◌, subst, arith, inl, inr, Result, Ok, Err, OnOk, OnErr, length-append, length-take-le, take-append-drop, take_all, All-cons, All-nil, cases_lt, Originator, common, Tree, Leaf, Fork, Top, tree, above, chain, grown, AreOriginators, IsInserted, IsRemoved, IsPruned, has, has_on_path, is_bare, is_place, nodes_on_path, same_tops}
+use Rattle.payload.proofs.Vocabulary.{◌≡◌, ℕ, suc, ◌+◌, ◌≤◌, ◌<◌, Bool, true, false, not, ◌&&◌, List, [], ◌∷◌, ◌++◌, length, take, drop, refl, sym, ap, ◌∙◌, subst, arith, inl, inr, Result, Ok, Err, OnOk, OnErr, length-append, length-take-le, take-append-drop, take_all, All-cons, All-nil, cases_lt, Originator, common, Tree, Leaf, Fork, Top, tree, above, chain, grown, AreOriginators, IsInserted, IsRemoved, IsPruned, has, has_on_path, is_bare, is_place, nodes_on_path, same_tops}
 use mathlib.Core.Bool.{beq}
 use Rattle.payload.proofs.Trees.{and-none, bare-none, changed-grown, changed-one, changed-zero, full-inserted, has-leaf, removed-leaf}
 use Rattle.payload.proofs.TrieWalks.{on-path-leaf}

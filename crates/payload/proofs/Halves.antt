@@ -1,5 +1,5 @@
 -- The two halves of a prefix, by the bit after its last.
-use Rattle.payload.proofs.Names.{◌≡◌, ℕ, suc, ◌+◌, ◌-◌, ◌*◌, ◌/◌, ◌%◌, ◌^◌, ◌≤◌, ◌<◌, Bool, true, false, ◌==◌, List, [], ◌∷◌, length, refl, sym, ap, ◌∙◌, subst, arith, inl, inr, cases_lt, eq-eqb, ne_eqb, append-nil, pow_pos, pow-add, pow_below, div-add-mod', div-mul-add, mul-add, add-mul, add-mul-mod_self_right, width, bit_of, contains, same_prefix, Prefix, below_widest, multiple-at_most, block-within, contains-ends, ends-contains, first-size, number_of, Top, Tree, above, grown, tree, half_first, half_vrps, vrps_at, vrps_below}
+use Rattle.payload.proofs.Vocabulary.{◌≡◌, ℕ, suc, ◌+◌, ◌-◌, ◌*◌, ◌/◌, ◌%◌, ◌^◌, ◌≤◌, ◌<◌, Bool, true, false, ◌==◌, List, [], ◌∷◌, length, refl, sym, ap, ◌∙◌, subst, arith, inl, inr, cases_lt, eq-eqb, ne_eqb, append-nil, pow_pos, pow-add, pow_below, div-add-mod', div-mul-add, mul-add, add-mul, add-mul-mod_self_right, width, bit_of, contains, same_prefix, Prefix, below_widest, multiple-at_most, block-within, contains-ends, ends-contains, first-size, number_of, Top, Tree, above, grown, tree, half_first, half_vrps, vrps_at, vrps_below}
 use Rattle.std.proofs.Math.Nat.{mod-eq_of_lt}
 
 -- how many addresses half of the prefix has

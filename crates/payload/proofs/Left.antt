@@ -1,5 +1,5 @@
 -- A search that has looked at the VRPs from some place on.
-use Rattle.payload.proofs.Names.{lit<, ◌≡◌, Bool, true, false, ◌&&◌, ◌||◌, nat_le, List, [], ◌∷◌, ◌++◌, get_or, sym, ap, ◌∙◌, subst, All, list_any, and_left, or-false, or-true, and-false, list_any-append, list_any_none, covers, matches, is_from, Route, Vrp, vrp_cmp, Less, AreRising, is_at_most, IsFrontUpTo, HasAllEnclosing, HasAllMatching}
+use Rattle.payload.proofs.Vocabulary.{lit<, ◌≡◌, Bool, true, false, ◌&&◌, ◌||◌, nat_le, List, [], ◌∷◌, ◌++◌, get_or, sym, ap, ◌∙◌, subst, All, list_any, and_left, or-false, or-true, and-false, list_any-append, list_any_none, covers, matches, is_from, Route, Vrp, vrp_cmp, Less, AreRising, is_at_most, IsFrontUpTo, HasAllEnclosing, HasAllMatching}
 use Rattle.payload.proofs.Fronts.{All-front, All-back, rising-before, rising-last, rising-front, enclosing-up_to}
 
 -- what is left to look at decides the state: of the VRPs already passed none matches the route, and some cover it or none

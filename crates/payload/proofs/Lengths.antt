@@ -1,5 +1,5 @@
 -- Lists of VRPs whose prefixes are no shorter than some length.
-use Rattle.payload.proofs.Names.{◌≡◌, ℕ, ◌+◌, ◌≤◌, ◌<◌, List, [], ◌++◌, take, length, get_or, true, not, ◌&&◌, ◌||◌, refl, ap, subst, arith, inl, inr, All, list_any, take_all, All-more, All-weaker, cases_Bool, contains, Prefix, is_at_most, HasAllEnclosing, contains-between, contains-ends, Family, Vrp, vrp_order, All-inserted, All-removed, shortest_in, AreNoShorter}
+use Rattle.payload.proofs.Vocabulary.{◌≡◌, ℕ, ◌+◌, ◌≤◌, ◌<◌, List, [], ◌++◌, take, length, get_or, true, not, ◌&&◌, ◌||◌, refl, ap, subst, arith, inl, inr, All, list_any, take_all, All-more, All-weaker, cases_Bool, contains, Prefix, is_at_most, HasAllEnclosing, contains-between, contains-ends, Family, Vrp, vrp_order, All-inserted, All-removed, shortest_in, AreNoShorter}
 use Rattle.payload.proofs.Fronts.{All-front}
 use Rattle.payload.proofs.Sets.{is_vrp}
 use Rattle.payload.specs.declared.shortest.Shortest.{Shortest}

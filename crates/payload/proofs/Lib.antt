@@ -5,7 +5,6 @@ pub mod Grown
 pub mod Halves
 pub mod Left
 pub mod Lengths
-pub mod Names
 pub mod Places
 pub mod Prefixes
 pub mod Sets
@@ -20,3 +19,4 @@ pub mod TrieWalks
 pub mod Tries
 pub mod Unlike
 pub mod Visits
+pub mod Vocabulary

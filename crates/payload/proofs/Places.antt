@@ -1,5 +1,5 @@
 -- Lists of VRPs that rise, by the order that the code compares by.
-use Rattle.payload.proofs.Names.{◌≡◌, refl, not, ◌&&◌, ◌||◌, List, sym, ap, ◌∙◌, subst, Ordering, list_any, IsStrictlySortedBy, eq_by_cmp, Vrp, vrp_cmp, derived_vrp_cmp, derived_vrp_order, AreRising, RiseBy}
+use Rattle.payload.proofs.Vocabulary.{◌≡◌, refl, not, ◌&&◌, ◌||◌, List, sym, ap, ◌∙◌, subst, Ordering, list_any, IsStrictlySortedBy, eq_by_cmp, Vrp, vrp_cmp, derived_vrp_cmp, derived_vrp_order, AreRising, RiseBy}
 use Rattle.std.proofs.lemmas.Map.Keys.{Less-from_sorted}
 use Rattle.payload.specs.VrpSet as set
 use Rattle.payload.proofs.Sets.{is_vrp, contains-from_list, items-from_list, same_from_list}

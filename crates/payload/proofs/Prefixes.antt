@@ -1,5 +1,5 @@
 -- Prefixes round two others: how many host bits they have, and where they begin.
-use Rattle.payload.proofs.Names.{lit<, mod-eq_of_lt, bit_and, ◌≡◌, ℕ, ◌+◌, ◌-◌, ◌*◌, ◌/◌, ◌%◌, ◌^◌, ◌≤◌, ◌<◌, true, false, sym, arith, inl, inr, ap, ◌∙◌, nat_cmp, ordering_then, is_le, both_ways, cases_lt, pow_pos, div-add-mod', le-div, one_shl, and_mask, mul-le-mul_right, mul-mod_left, pow-le-pow_right, width, contains, family_cmp, Family, Prefix, multiple-at_most, multiple-fits, at_most-ends, contains-ends, ends-contains, first-size, numbers-order, order-one_family, size, is_at_most}
+use Rattle.payload.proofs.Vocabulary.{lit<, mod-eq_of_lt, bit_and, ◌≡◌, ℕ, ◌+◌, ◌-◌, ◌*◌, ◌/◌, ◌%◌, ◌^◌, ◌≤◌, ◌<◌, true, false, sym, arith, inl, inr, ap, ◌∙◌, nat_cmp, ordering_then, is_le, both_ways, cases_lt, pow_pos, div-add-mod', le-div, one_shl, and_mask, mul-le-mul_right, mul-mod_left, pow-le-pow_right, width, contains, family_cmp, Family, Prefix, multiple-at_most, multiple-fits, at_most-ends, contains-ends, ends-contains, first-size, numbers-order, order-one_family, size, is_at_most}
 
 -- the greatest multiple up to x
 pub multiple-below : (a x m : ℕ) → 0 < m → a % m ≡ 0 → a ≤ x → a ≤ x - x % m

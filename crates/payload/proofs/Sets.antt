@@ -1,5 +1,5 @@
 -- Sets of VRPs made from lists.
-use Rattle.payload.proofs.Names.{T, zero, get_or, ◌<◌, ◌≡◌, ℕ, suc, Bool, true, false, cond, not, ◌&&◌, ◌||◌, Option, Some, None, is_some, List, [], ◌∷◌, map, length, refl, sym, ap, ◌∙◌, arith, Ordering, lit<, Equal-is, list_any, eq_by_cmp, is_lt, Less, Equal, Greater, Vrp, AreRising, vrp_cmp, vrp_order}
+use Rattle.payload.proofs.Vocabulary.{T, zero, get_or, ◌<◌, ◌≡◌, ℕ, suc, Bool, true, false, cond, not, ◌&&◌, ◌||◌, Option, Some, None, is_some, List, [], ◌∷◌, map, length, refl, sym, ap, ◌∙◌, arith, Ordering, lit<, Equal-is, list_any, eq_by_cmp, is_lt, Less, Equal, Greater, Vrp, AreRising, vrp_cmp, vrp_order}
 use Rattle.std.specs.FinMap as maps
 use Rattle.std.specs.FinMap.Entries.{below_all, by_order, is_sorted, put}
 use Rattle.payload.specs.VrpSet as set

@@ -1,5 +1,5 @@
 -- The lowest bits of a number as a path.
-use Rattle.payload.proofs.Names.{◌≡◌, ℕ, zero, suc, ◌+◌, ◌-◌, ◌*◌, ◌/◌, ◌%◌, ◌^◌, ◌≤◌, ◌<◌, Bool, ◌==◌, List, ◌∷◌, ◌++◌, length, take, drop, refl, sym, ap, ◌∙◌, arith, div-div-eq-div-mul, mod-lt, take_all, mod-pow-add, pow-add, width, Prefix, common, low_bits, number_of, bits_from, last_bits}
+use Rattle.payload.proofs.Vocabulary.{◌≡◌, ℕ, zero, suc, ◌+◌, ◌-◌, ◌*◌, ◌/◌, ◌%◌, ◌^◌, ◌≤◌, ◌<◌, Bool, ◌==◌, List, ◌∷◌, ◌++◌, length, take, drop, refl, sym, ap, ◌∙◌, arith, div-div-eq-div-mul, mod-lt, take_all, mod-pow-add, pow-add, width, Prefix, common, low_bits, number_of, bits_from, last_bits}
 use Rattle.payload.proofs.Bits.{length-bits_from}
 use Rattle.payload.proofs.Grown.{common-front, common-most}
 

@@ -1,5 +1,5 @@
 -- Trees, by what is at the end of each path.
-use Rattle.payload.proofs.Names.{◌≡◌, ℕ, ◌≤◌, Bool, true, false, not, ◌&&◌, ◌||◌, List, [], ◌∷◌, ◌++◌, refl, sym, ap, ◌∙◌, subst, Result, Ok, Err, OnOk, OnErr, IsTotalOrder, nat_cmp_total, on_total, then_total, list_any, eq_by_cmp, is_eq, Equal, tied_itself, both_equal, RiseBy, Originator, Tree, Leaf, Fork, Top, tree, AreOriginators, IsInserted, IsRemoved, grown, has, is_bare, is_place, chain, originator_cmp, same_originator, All-inserted, All-removed}
+use Rattle.payload.proofs.Vocabulary.{◌≡◌, ℕ, ◌≤◌, Bool, true, false, not, ◌&&◌, ◌||◌, List, [], ◌∷◌, ◌++◌, refl, sym, ap, ◌∙◌, subst, Result, Ok, Err, OnOk, OnErr, IsTotalOrder, nat_cmp_total, on_total, then_total, list_any, eq_by_cmp, is_eq, Equal, tied_itself, both_equal, RiseBy, Originator, Tree, Leaf, Fork, Top, tree, AreOriginators, IsInserted, IsRemoved, grown, has, is_bare, is_place, chain, originator_cmp, same_originator, All-inserted, All-removed}
 use Rattle.std.specs.FinMap.{nat_cmp-IsAntisymmetric}
 
 abbrev pub is_originator : Originator → Originator → Bool

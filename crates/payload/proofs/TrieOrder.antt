@@ -1,5 +1,5 @@
 -- The VRPs of a tree rise.
-use Rattle.payload.proofs.Names.{◌≡◌, suc, ◌<◌, true, false, List, [], ◌∷◌, ◌++◌, refl, sym, ap, ◌∙◌, subst, arith, inl, inr, All, AllPairs, Less, Equal, cases_lt, tied_itself, All-append, All-head, All-tail, contains, width, family_cmp, prefix_cmp, vrp_cmp, Family, V4, V6, Prefix, Vrp, prefix_order, AreRising, RiseBy, Originator, Tree, Leaf, Fork, IsPruned, originator_cmp, half_vrps, node_vrps, vrps_at, cmp-less, cmp-equal, contains-ends}
+use Rattle.payload.proofs.Vocabulary.{◌≡◌, suc, ◌<◌, true, false, List, [], ◌∷◌, ◌++◌, refl, sym, ap, ◌∙◌, subst, arith, inl, inr, All, AllPairs, Less, Equal, cases_lt, tied_itself, All-append, All-head, All-tail, contains, width, family_cmp, prefix_cmp, vrp_cmp, Family, V4, V6, Prefix, Vrp, prefix_order, AreRising, RiseBy, Originator, Tree, Leaf, Fork, IsPruned, originator_cmp, half_vrps, node_vrps, vrps_at, cmp-less, cmp-equal, contains-ends}
 use Rattle.std.proofs.lemmas.List.Kept.{AllPairs-cons}
 use Rattle.payload.proofs.Halves.{half, contains-half, contains-trans, contains-longer, within-first}
 use Rattle.payload.proofs.TrieVrps.{All-half, HasLengths, node_vrps-cons, leaf-or-room, vrp_of, All-node}

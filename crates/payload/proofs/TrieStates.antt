@@ -1,5 +1,5 @@
 -- The state of a route, and the nodes gone to, as a walk down a tree goes on.
-use Rattle.payload.proofs.Names.{◌≡◌, ℕ, ◌+◌, ◌<◌, Bool, true, false, ◌||◌, if◌then◌else◌, List, [], ◌∷◌, ◌++◌, length, refl, sym, ap, ◌∙◌, arith, list_any, ValidationState, Valid, Route, Originator, Tree, Leaf, Fork, Top, below, grown, tree, has_on_path, nodes_on_path, authorizes, state_below, walked_state, common}
+use Rattle.payload.proofs.Vocabulary.{◌≡◌, ℕ, ◌+◌, ◌<◌, Bool, true, false, ◌||◌, if◌then◌else◌, List, [], ◌∷◌, ◌++◌, length, refl, sym, ap, ◌∙◌, arith, list_any, ValidationState, Valid, Route, Originator, Tree, Leaf, Fork, Top, below, grown, tree, has_on_path, nodes_on_path, authorizes, state_below, walked_state, common}
 use Rattle.payload.proofs.Grown.{on_path-apart, on_path-grown}
 use Rattle.payload.proofs.TrieWalks.{on-path-leaf}
 

@@ -1,5 +1,5 @@
 -- The VRPs of a trie: they rise, what state they give a route, and at which lengths a search looks.
-use Rattle.payload.proofs.Names.{◌≡◌, ℕ, suc, ◌+◌, ◌≤◌, ◌<◌, Bool, true, false, not, ◌==◌, ◌&&◌, ◌||◌, nat_lt, get_or, if◌then◌else◌, List, [], ◌∷◌, ◌++◌, length, take, drop, filter, refl, sym, ap, ◌∙◌, subst, inl, inr, arith, and-false, and-true, or-false, All, list_any, range_with_len, Less, cases_Bool, false_from_ne_true, false≢true, and_parts, lt-leb, ne_eqb, take-append-drop, All-weaker, list_any-append, list_any_none, bit_of, contains, width, ValidationState, Valid, Invalid, NotFound, covers, matches, validation_state, vrp_cmp, Family, V4, V6, Prefix, Route, Vrp, same_family, contains-ends, AreRising, agrees, is_matched_before, is_reached, search_depths, Originator, Tree, Fork, IsPruned, below, has_on_path, nodes_on_path, authorizes, bits_from, half_vrps, joined_state, node_vrps, originator_of, state_among, state_below, trie_vrps, vrps_at, vrps_below, walked_state, whole}
+use Rattle.payload.proofs.Vocabulary.{◌≡◌, ℕ, suc, ◌+◌, ◌≤◌, ◌<◌, Bool, true, false, not, ◌==◌, ◌&&◌, ◌||◌, nat_lt, get_or, if◌then◌else◌, List, [], ◌∷◌, ◌++◌, length, take, drop, filter, refl, sym, ap, ◌∙◌, subst, inl, inr, arith, and-false, and-true, or-false, All, list_any, range_with_len, Less, cases_Bool, false_from_ne_true, false≢true, and_parts, lt-leb, ne_eqb, take-append-drop, All-weaker, list_any-append, list_any_none, bit_of, contains, width, ValidationState, Valid, Invalid, NotFound, covers, matches, validation_state, vrp_cmp, Family, V4, V6, Prefix, Route, Vrp, same_family, contains-ends, AreRising, agrees, is_matched_before, is_reached, search_depths, Originator, Tree, Fork, IsPruned, below, has_on_path, nodes_on_path, authorizes, bits_from, half_vrps, joined_state, node_vrps, originator_of, state_among, state_below, trie_vrps, vrps_at, vrps_below, walked_state, whole}
 use Rattle.std.proofs.lemmas.List.FromFn.{length-range_with_len}
 use Rattle.std.proofs.lemmas.List.Sums.{count_by-le-length, length-filter}
 use Rattle.payload.specs.VrpSet as set

@@ -1,5 +1,5 @@
 -- What a sink took of the VRPs of a tree.
-use Rattle.payload.proofs.Names.{◌≡◌, ℕ, ◌+◌, ◌≤◌, ◌<◌, List, [], ◌∷◌, ◌++◌, length, take, drop, get_or, sym, ap, ◌∙◌, subst, append_assoc, arith, All, length-append, take_all, take_more, take-append-drop, filter_map-append, same_vrp, Prefix, Vrp, TookBeginning, Originator, node_vrps, originator_of, vrp_at}
+use Rattle.payload.proofs.Vocabulary.{◌≡◌, ℕ, ◌+◌, ◌≤◌, ◌<◌, List, [], ◌∷◌, ◌++◌, length, take, drop, get_or, sym, ap, ◌∙◌, subst, append_assoc, arith, All, length-append, take_all, take_more, take-append-drop, filter_map-append, same_vrp, Prefix, Vrp, TookBeginning, Originator, node_vrps, originator_of, vrp_at}
 use Rattle.payload.proofs.TrieVrps.{HasLengths, node_vrps-cons, vrp_of}
 use Rattle.payload.proofs.Visits.{beginning-part, TookThen}
 

@@ -1,5 +1,5 @@
 -- The VRPs of a tree, and what tests say of them.
-use Rattle.payload.proofs.Names.{◌≡◌, ◌+◌, ◌≤◌, ◌<◌, Bool, true, false, not, ◌==◌, ◌||◌, List, [], ◌∷◌, Some, refl, sym, ap, ◌∙◌, subst, arith, inl, inr, ◌⊎◌, or-false, All, list_any, false_from_ne_true, All-append, All-cons, All-head, All-nil, All-tail, All-weaker, list_any-append, list_any_none, bit_of, contains, last_of, same_prefix, width, same_vrp, Prefix, Vrp, Originator, Tree, Leaf, Fork, IsPruned, below, half_vrps, node_vrps, originator_of, vrp_at, vrp_if, vrp_of_parts, vrps_at, vrps_below, ends-contains}
+use Rattle.payload.proofs.Vocabulary.{◌≡◌, ◌+◌, ◌≤◌, ◌<◌, Bool, true, false, not, ◌==◌, ◌||◌, List, [], ◌∷◌, Some, refl, sym, ap, ◌∙◌, subst, arith, inl, inr, ◌⊎◌, or-false, All, list_any, false_from_ne_true, All-append, All-cons, All-head, All-nil, All-tail, All-weaker, list_any-append, list_any_none, bit_of, contains, last_of, same_prefix, width, same_vrp, Prefix, Vrp, Originator, Tree, Leaf, Fork, IsPruned, below, half_vrps, node_vrps, originator_of, vrp_at, vrp_if, vrp_of_parts, vrps_at, vrps_below, ends-contains}
 use Rattle.addr.specs.PrefixText.{prefix_if, prefix_with}
 use Rattle.payload.proofs.Halves.{half, half-bit, contains-half, contains-trans, contains-longer}
 

@@ -1,5 +1,5 @@
 -- What the walk down the bits of a prefix meets in a tree, as tests of the tree's VRPs.
-use Rattle.payload.proofs.Names.{◌≡◌, ℕ, ◌+◌, ◌<◌, Bool, true, false, ◌==◌, ◌&&◌, ◌||◌, List, [], ◌∷◌, refl, sym, ap, ◌∙◌, subst, arith, inl, inr, list_any, is_eq, nat_cmp, ordering_then, Equal, cases_Bool, cases_lt, and_parts, false_from_ne_true, tied_itself, list_any_none, bit_of, contains, width, prefix_cmp, covers, Family, Prefix, Route, Vrp, prefix_order, Originator, Tree, Leaf, Fork, IsPruned, below, has, has_on_path, bits_from, half_first, half_vrps, node_vrps, originator_of, vrps_at, vrps_below, ends-contains}
+use Rattle.payload.proofs.Vocabulary.{◌≡◌, ℕ, ◌+◌, ◌<◌, Bool, true, false, ◌==◌, ◌&&◌, ◌||◌, List, [], ◌∷◌, refl, sym, ap, ◌∙◌, subst, arith, inl, inr, list_any, is_eq, nat_cmp, ordering_then, Equal, cases_Bool, cases_lt, and_parts, false_from_ne_true, tied_itself, list_any_none, bit_of, contains, width, prefix_cmp, covers, Family, Prefix, Route, Vrp, prefix_order, Originator, Tree, Leaf, Fork, IsPruned, below, has, has_on_path, bits_from, half_first, half_vrps, node_vrps, originator_of, vrps_at, vrps_below, ends-contains}
 use Rattle.payload.proofs.Bits.{bits_from-end, next-bit}
 use Rattle.payload.proofs.Halves.{half, contains-same, half-contains}
 use Rattle.payload.proofs.Sets.{is_vrp, same_vrp-equal}

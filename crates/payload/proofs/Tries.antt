@@ -1,5 +1,5 @@
 -- The set of a trie's two trees.
-use Rattle.payload.proofs.Names.{lit<, ◌≡◌, ◌+◌, ◌-◌, ◌^◌, ◌≤◌, Bool, true, false, ◌||◌, List, [], ◌∷◌, ◌++◌, length, refl, sym, ap, ◌∙◌, subst, arith, inl, inr, ◌⊎◌, or-false, list_any, false_from_ne_true, append-nil, All-weaker, list_any-append, list_any_none, contains, width, Family, V4, V6, Prefix, Vrp, Originator, Tree, Leaf, IsPruned, has, is_place, chain, bits_from, originator_of, trie_vrps, vrps_at, vrps_below, whole, contains-ends, ends-contains}
+use Rattle.payload.proofs.Vocabulary.{lit<, ◌≡◌, ◌+◌, ◌-◌, ◌^◌, ◌≤◌, Bool, true, false, ◌||◌, List, [], ◌∷◌, ◌++◌, length, refl, sym, ap, ◌∙◌, subst, arith, inl, inr, ◌⊎◌, or-false, list_any, false_from_ne_true, append-nil, All-weaker, list_any-append, list_any_none, contains, width, Family, V4, V6, Prefix, Vrp, Originator, Tree, Leaf, IsPruned, has, is_place, chain, bits_from, originator_of, trie_vrps, vrps_at, vrps_below, whole, contains-ends, ends-contains}
 use Rattle.payload.specs.VrpSet as set
 use Rattle.payload.proofs.Bits.{length-bits_from}
 use Rattle.payload.proofs.Halves.{half, contains-longer}

@@ -1,5 +1,5 @@
 -- VRPs that are between two of one prefix, and do not match a route.
-use Rattle.payload.proofs.Names.{◌≡◌, ℕ, ◌+◌, ◌≤◌, ◌<◌, Bool, true, false, ◌&&◌, nat_le, List, take, drop, length, get_or, sym, ap, subst, arith, inl, inr, ◌⊎◌, Ordering, All, IsPartitionPoint, IsPartitionedBy, nat_cmp, ordering_then, is_lt, Less, Equal, Greater, cases_lt, nat_tests, and-false, take-append-drop, get_or-drop, length-drop, covers, matches, is_from, prefix_cmp, vrp_cmp, vrp_order, less_is, Route, Vrp, AreRising, is_below, HasAllMatching}
+use Rattle.payload.proofs.Vocabulary.{◌≡◌, ℕ, ◌+◌, ◌≤◌, ◌<◌, Bool, true, false, ◌&&◌, nat_le, List, take, drop, length, get_or, sym, ap, subst, arith, inl, inr, ◌⊎◌, Ordering, All, IsPartitionPoint, IsPartitionedBy, nat_cmp, ordering_then, is_lt, Less, Equal, Greater, cases_lt, nat_tests, and-false, take-append-drop, get_or-drop, length-drop, covers, matches, is_from, prefix_cmp, vrp_cmp, vrp_order, less_is, Route, Vrp, AreRising, is_below, HasAllMatching}
 use Rattle.addr.specs.declared.asn.Asn.{Asn}
 
 less-numbers : (a b l m : ℕ) → ordering_then (nat_cmp a b) (nat_cmp l m) ≡ Less → (a < b) ⊎ ((a ≡ b) × (l < m))

@@ -1,5 +1,5 @@
 -- What a sink took in a visit.
-use Rattle.payload.proofs.Names.{◌≡◌, ℕ, ◌+◌, ◌≤◌, ◌<◌, List, [], ◌∷◌, ◌++◌, length, take, get_or, sym, ap, ◌∙◌, subst, arith, Result, Ok, Err, length-append, take-append-le, take_all, take_more, Vrp, TookBeginning}
+use Rattle.payload.proofs.Vocabulary.{◌≡◌, ℕ, ◌+◌, ◌≤◌, ◌<◌, List, [], ◌∷◌, ◌++◌, length, take, get_or, sym, ap, ◌∙◌, subst, arith, Result, Ok, Err, length-append, take-append-le, take_all, take_more, Vrp, TookBeginning}
 use Rattle.std.specs.Result.{OnErr}
 use Rattle.std.proofs.Math.Seq.{take-append-add, take-append_seam}
 

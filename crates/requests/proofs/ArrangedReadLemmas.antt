@@ -1,27 +1,7 @@
 -- What the code reads of a list of which no two items have the same value of a member: its items in order where there is
 -- no fault, and else the lowest fault.
-use Rattle.std.proofs.Common.{◌≡◌, ℕ, suc, nat_le, ◌≤◌, Bool, true, false, not, ◌||◌, List, [], ◌∷◌, ◌++◌, map, length, Option, Some, None, option_and_then, Result, Ok, Err, Ordering, refl, sym, ap, ◌∙◌}
-use Rattle.std.proofs.lemmas.Bool.{leb-true}
-use Rattle.std.specs.Prelude.{IsPermutation}
-use Rattle.std.specs.declared.cmp.Ordering.TheVariants.{Equal}
-use Rattle.std.specs.Cmp.{IsTotalOrder}
-use Rattle.std.specs.List.{AllZip, flat_map, list_any}
+use Rattle.requests.proofs.Vocabulary.{◌≡◌, ℕ, suc, nat_le, ◌≤◌, Bool, true, false, not, ◌||◌, List, [], ◌∷◌, ◌++◌, map, length, Option, Some, None, option_and_then, Result, Ok, Err, Ordering, refl, sym, ap, ◌∙◌, leb-true, IsPermutation, Equal, IsTotalOrder, AllZip, flat_map, list_any, option_to_list, has_repeat, Data, Items, as_array, Pass, lowest-append, lowest-passes, pass-append, pass-flat_map, pass-unless, reported-if, lower-first, reads-each, reads-says, reads-unless, lowest-none, fault_unless, lower_of, lowest, required_faults, and_then, list_of, fault_order, is_count, list_faults, repeat_faults, values_in, HasMember, Fault, Count, Members, arranged, items_of, once_in_order}
 use Rattle.std.specs.List.Sorted.{IsStrictlySortedBy}
-use Rattle.std.specs.Option.{option_to_list}
-use Rattle.charters.specs.Repeats.{has_repeat}
-use Rattle.serde_json.specs.Data.{Data, Items}
-use Rattle.serde_json.specs.Find.{as_array}
-use Rattle.json_values.proofs.FaultLemmas.{Pass, lowest-append, lowest-passes, pass-append, pass-flat_map, pass-unless, reported-if}
-use Rattle.json_values.proofs.PartsLemmas.{lower-first}
-use Rattle.json_values.proofs.ReadingLemmas.{reads-each, reads-says, reads-unless, lowest-none}
-use Rattle.json_values.specs.Faults.{fault_unless, lower_of, lowest, required_faults}
-use Rattle.json_values.specs.Parts.{and_then}
-use Rattle.json_values.specs.Tree.{list_of}
-use Rattle.requests.specs.RequestFaults.{fault_order, is_count, list_faults, repeat_faults, values_in}
-use Rattle.requests.specs.RequestText.{HasMember}
-use Rattle.requests.specs.declared.request.fault.Fault.{Fault}
-use Rattle.requests.specs.declared.request.fault.Fault.TheVariants.{Count, Members}
-use Rattle.requests.specs.steps.RequestReading.{arranged, items_of, once_in_order}
 use Rattle.requests.proofs.InOrder.{in_order-moves, in_order-rises}
 use Rattle.requests.proofs.RequestFaultLemmas.{ReadsUnlessFaulty}
 

@@ -1,18 +1,8 @@
 -- What is asked is read of its parts.
-use Rattle.std.proofs.Common.{◌≡◌, ℕ, List, Result, Ok, Err, refl}
-use Rattle.std.specs.Global.{Vec}
+use Rattle.requests.proofs.Vocabulary.{◌≡◌, ℕ, List, Result, Ok, Err, refl, Vec, ImportRow, Amend, Import, WhatIf, Asked, Request, both, mapped, fault_order, Fault, amend, asked_terms, import, request_terms, what_if}
 use Rattle.addr.specs.declared.route.Route.{Route}
-use Rattle.registry.specs.declared.authorization.ImportRow.{ImportRow}
-use Rattle.registry.specs.declared.command.Command.TheVariants.{Amend, Import}
 use Rattle.registry.specs.declared.command.Proposed.{Proposed}
-use Rattle.registry.specs.declared.command.Query.TheVariants.{WhatIf}
-use Rattle.registry.specs.declared.asked.Asked.{Asked}
-use Rattle.registry.specs.declared.asked.Request.{Request}
 use Rattle.registry.specs.declared.asked.Request.TheVariants.{Command as CommandRequest, Query as QueryRequest}
-use Rattle.json_values.specs.Parts.{both, mapped}
-use Rattle.requests.specs.RequestFaults.{fault_order}
-use Rattle.requests.specs.declared.request.fault.Fault.{Fault}
-use Rattle.requests.specs.steps.RequestReading.{amend, asked_terms, import, request_terms, what_if}
 
 -- the parts as they are asked
 abbrev asked_with : ℕ × (List ℕ × Request) → Asked

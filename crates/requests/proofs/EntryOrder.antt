@@ -1,21 +1,10 @@
 -- Entries in order: they rise by their prefixes where none is there twice, and have that order alone.
-use Rattle.std.proofs.Common.{◌≡◌, true, false, List, [], ◌∷◌, length, Ok, Ordering, ap, subst}
-use Rattle.std.specs.Prelude.{IsPermutation}
-use Rattle.std.specs.declared.cmp.Ordering.TheVariants.{Equal}
-use Rattle.std.specs.Cmp.{IsTotalOrder, on_total}
+use Rattle.requests.proofs.Vocabulary.{◌≡◌, true, false, List, [], ◌∷◌, length, Ok, Ordering, ap, subst, IsPermutation, Equal, IsTotalOrder, on_total, and_from, le-leb, sorted_head, sorted_tail, prefix_eq, prefix_cmp, Prefix, is_count, MOST_ENTRIES, entries_arranged}
 use Rattle.std.specs.List.Sorted.{IsStrictlySortedBy}
-use Rattle.std.proofs.lemmas.Bool.{and_from, le-leb}
-use Rattle.std.proofs.lemmas.Map.Keys.{sorted_head, sorted_tail}
-use Rattle.addr.specs.Address.{prefix_eq}
-use Rattle.addr.specs.Order.{prefix_cmp}
-use Rattle.addr.specs.declared.prefix.Prefix.{Prefix}
 use Rattle.addr.proofs.Equality.{prefix_itself}
 use Rattle.addr.proofs.OrderLemmas.{prefix_order}
 use Rattle.registry.specs.RoaPrefixes.{AreInNumber, Rise, have_one_prefix, repeats_prefix}
 use Rattle.registry.specs.declared.authorization.RoaPrefix.{RoaPrefix}
-use Rattle.requests.specs.RequestFaults.{is_count}
-use Rattle.requests.specs.declared.request.entries.TheConstants.{MOST_ENTRIES}
-use Rattle.requests.specs.steps.RequestReading.{entries_arranged}
 use Rattle.requests.proofs.InOrder.{before_too, is_in_order, rises_behind, IsBefore}
 
 abbrev pub order : RoaPrefix → RoaPrefix → Ordering

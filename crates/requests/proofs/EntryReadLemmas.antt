@@ -1,21 +1,7 @@
 -- What the code reads of the entries and the maxLengths that an object names: a value where there is no fault, and else
 -- the lowest fault.
-use Rattle.std.proofs.Common.{◌≡◌, true, false, Bool, List, [], ◌∷◌, codes, Option, Some, option_and_then, Result, inl, inr, refl}
-use Rattle.addr.specs.Address.{prefix_eq}
-use Rattle.serde_json.specs.Data.{Data}
-use Rattle.serde_json.specs.Find.{get, as_array}
-use Rattle.json_values.proofs.FaultLemmas.{Pass, pass-append, pass-required, pass-unless, reported-only}
-use Rattle.json_values.proofs.ReadingLemmas.{reads-both, reads-last, reads-mapped, reads-ok_or, reads-says, reads-unless}
-use Rattle.json_values.specs.Faults.{reading_faults, required_faults}
-use Rattle.json_values.specs.Parts.{and_then}
-use Rattle.json_values.specs.Values.{as_prefix}
-use Rattle.requests.specs.RequestFaults.{choice_faults, chosen_faults, entry_choice, entry_list, entry_members, fault_order, has_some, max_choice, member_faults, names_of, object_faults}
-use Rattle.requests.specs.RequestText.{HasEntries, HasEntry, HasEntryList, HasMaxes, HasOneEntry, HasOneMax}
-use Rattle.requests.specs.RequestValues.{as_max}
-use Rattle.requests.specs.declared.request.entries.TheConstants.{MOST_ENTRIES}
-use Rattle.requests.specs.declared.request.fault.Fault.{Fault}
-use Rattle.requests.specs.declared.request.fault.Fault.TheVariants.{Members, Prefix as PrefixFault, Max, Repeated}
-use Rattle.requests.specs.steps.RequestReading.{chosen, entries_arranged, entries_in, entry_in, entry_members_in, items_of, max_item_in, maxes_in, one_entry_in, one_max_in}
+use Rattle.requests.proofs.Vocabulary.{◌≡◌, true, false, Bool, List, [], ◌∷◌, codes, Option, Some, option_and_then, Result, inl, inr, refl, prefix_eq, Data, get, as_array, Pass, pass-append, pass-required, pass-unless, reported-only, reads-both, reads-last, reads-mapped, reads-ok_or, reads-says, reads-unless, reading_faults, required_faults, and_then, as_prefix, choice_faults, chosen_faults, entry_choice, entry_list, entry_members, fault_order, has_some, max_choice, member_faults, names_of, object_faults, HasEntries, HasEntry, HasEntryList, HasMaxes, HasOneEntry, HasOneMax, as_max, MOST_ENTRIES, Fault, Members, Max, Repeated, chosen, entries_arranged, entries_in, entry_in, entry_members_in, items_of, max_item_in, maxes_in, one_entry_in, one_max_in}
+use Rattle.requests.specs.declared.request.fault.Fault.TheVariants.{Prefix as PrefixFault}
 use Rattle.requests.proofs.ArrangedReadLemmas.{is_up_to, reads-arranged_list}
 use Rattle.requests.proofs.EntryOrder.{order, order_total, rise_from_sorted, tied-once}
 use Rattle.requests.proofs.RequestFaultLemmas.{ReadsUnlessFaulty, reads-list, reads-member}

@@ -1,20 +1,8 @@
 -- Named files in order: they rise by their names where none is there twice, and have that order alone.
-use Rattle.std.proofs.Common.{◌≡◌, ◌≤◌, arith, Bool, true, false, List, [], ◌∷◌, length, Ok, Err, refl, sym, ap, ◌∙◌}
-use Rattle.std.specs.Prelude.{IsPermutation}
-use Rattle.std.specs.declared.cmp.Ordering.TheVariants.{Equal}
-use Rattle.std.specs.Cmp.{IsTotalOrder, on_total}
-use Rattle.std.specs.List.{AllByRecursion, IsDistinct, list_any}
-use Rattle.std.specs.Ordering.{is_eq}
-use Rattle.std.specs.Str.{bytes_eq}
-use Rattle.std.proofs.lemmas.Bool.{and_from, le-leb, or_parts}
+use Rattle.requests.proofs.Vocabulary.{◌≡◌, ◌≤◌, arith, Bool, true, false, List, [], ◌∷◌, length, Ok, Err, refl, sym, ap, ◌∙◌, IsPermutation, Equal, IsTotalOrder, on_total, AllByRecursion, list_any, is_eq, bytes_eq, and_from, le-leb, or_parts, AreNamedOnce, RiseByName, name_cmp, NamedSlurm, MOST_FILES, is_count, FileName, files_arranged, repeats_name}
+use Rattle.std.specs.List.{IsDistinct}
 use Rattle.std.proofs.lemmas.Cmp.{nat_list_cmp_total}
 use Rattle.std.proofs.lemmas.Map.Text.{is_eq-slice_cmp}
-use Rattle.slurm.specs.SlurmSets.{AreNamedOnce, RiseByName, name_cmp}
-use Rattle.slurm.specs.declared.set.NamedSlurm.{NamedSlurm}
-use Rattle.slurm.specs.declared.set.TheConstants.{MOST_FILES}
-use Rattle.requests.specs.RequestFaults.{is_count}
-use Rattle.requests.specs.declared.request.fault.Fault.TheVariants.{FileName}
-use Rattle.requests.specs.steps.RequestReading.{files_arranged, repeats_name}
 use Rattle.requests.proofs.InOrder.{is_in_order}
 
 pub name_total : IsTotalOrder name_cmp

@@ -1,27 +1,11 @@
 -- What the code reads of the files of a set: the set where there is no fault, and else the lowest fault.
-use Rattle.std.proofs.Common.{◌≡◌, ◌⊎◌, true, [], ◌∷◌, map, codes, Option, Some, None, inl, inr, refl}
-use Rattle.std.specs.Option.{option_to_list}
-use Rattle.std.specs.Str.{bytes_eq}
-use Rattle.serde_json.specs.Data.{Data}
-use Rattle.serde_json.specs.Find.{get}
-use Rattle.json_values.proofs.FaultLemmas.{Pass, pass-append, pass-required, pass-unless, reported-only}
-use Rattle.json_values.proofs.ReadingLemmas.{reads-both, reads-last, reads-mapped, reads-says, reads-unless}
-use Rattle.json_values.specs.Faults.{reading_faults, required_faults}
-use Rattle.json_values.specs.Values.{as_name}
-use Rattle.slurm.specs.SlurmFaults.{slurm_fault}
-use Rattle.slurm.specs.declared.fault.SlurmFault.{SlurmFault}
+use Rattle.requests.proofs.Vocabulary.{◌≡◌, ◌⊎◌, true, [], ◌∷◌, map, codes, Option, Some, None, inl, inr, refl, option_to_list, bytes_eq, Data, get, Pass, pass-append, pass-required, pass-unless, reported-only, reads-both, reads-last, reads-mapped, reads-says, reads-unless, reading_faults, required_faults, as_name, slurm_fault, SlurmFault, MOST_FILES, choice_faults, fault_order, file, file_choice, file_list, file_members, has_some, member_faults, names_of, object_faults, HasFile, HasFileList, HasMainFile, File, FileName, Members, file_list_in, file_members_in, files_in, named_file_in, name_cmp}
 use Rattle.slurm.specs.declared.fault.SlurmFault.TheVariants.{NotJson, NotObject, Members as FileMembers, Version, Bgpsec, Prefix, Asn, MaxPrefixLength, EmptyFilter, Comment, TooMany, Memory}
-use Rattle.slurm.specs.declared.set.TheConstants.{MOST_FILES}
-use Rattle.requests.specs.RequestFaults.{choice_faults, fault_order, file, file_choice, file_list, file_members, has_some, member_faults, names_of, object_faults}
-use Rattle.requests.specs.RequestText.{HasFile, HasFileList, HasMainFile}
-use Rattle.requests.specs.declared.request.fault.Fault.TheVariants.{File, FileName, Members}
-use Rattle.requests.specs.steps.RequestReading.{file_list_in, file_members_in, files_in, named_file_in}
 use Rattle.requests.proofs.ArrangedReadLemmas.{is_up_to, reads-arranged_list}
 use Rattle.requests.proofs.EntryReadLemmas.{reads-chosen}
 use Rattle.requests.proofs.FileOrder.{name_total, tied-named}
 use Rattle.requests.proofs.RequestFaultLemmas.{ReadsUnlessFaulty, reads-member}
 use Rattle.requests.proofs.SlurmReadLemmas.{reads-file, reads-main_file}
-use Rattle.slurm.specs.SlurmSets.{name_cmp}
 
 -- ---- one file and its name
 

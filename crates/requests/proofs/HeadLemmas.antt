@@ -1,17 +1,12 @@
 -- A head that nothing refuses has the length of a body if and only if its action takes one.
-use Rattle.std.proofs.Common.{◌≡◌, ℕ, Bool, true, false, List, [], ◌∷◌, codes, map, nat_le, ◌==◌, if◌then◌else◌, Option, Some, None, is_some, Result, Ok, Err, IfOk, refl, subst, inl, inr}
-use Rattle.httparse.specs.Spans.{name_and_value}
+use Rattle.requests.proofs.Vocabulary.{◌≡◌, ℕ, Bool, true, false, List, [], ◌∷◌, codes, map, nat_le, ◌==◌, if◌then◌else◌, Option, Some, None, is_some, Result, Ok, Err, refl, subst, inl, inr, name_and_value, path_of, Head, head_as, head_at, head_with, SaysHead, action_at, Action, Path}
+use Rattle.std.proofs.Common.{IfOk}
 use Rattle.http_messages.specs.Fields.{Fields, only_value, values_of}
 use Rattle.http_messages.specs.Lengths.{body_length, body_length_after, content_length, length_by, length_within}
 use Rattle.http_messages.specs.declared.body.TheConstants.{BODY_LIMIT}
 use Rattle.http_messages.specs.declared.refusal.HttpRefusal.{HttpRefusal}
 use Rattle.http_messages.specs.declared.refusal.HttpRefusal.TheVariants.{BadRequest, ContentTooLarge}
 use Rattle.requests.specs.Actions.{takes_body}
-use Rattle.requests.specs.Paths.{path_of}
-use Rattle.requests.specs.RequestHeads.{Head, head_as, head_at, head_with, SaysHead}
-use Rattle.requests.specs.Routes.{action_at}
-use Rattle.requests.specs.declared.action.Action.{Action}
-use Rattle.requests.specs.declared.path.Path.{Path}
 
 -- there is a length if and only if there is a body
 abbrev HasLength : Bool → Result (Option ℕ) HttpRefusal → Type 0

@@ -1,38 +1,14 @@
 -- What the code reads of an HTTP message is the request that the message is, and its fault the lowest.
-use Rattle.std.proofs.Common.{◌≡◌, ℕ, List, [], ◌∷◌, ◌++◌, map, Option, Some, None, is_some, Result, Ok, Err, codes, inl, refl, sym, ap, ◌∙◌, append_assoc, arith}
+use Rattle.requests.proofs.Vocabulary.{◌≡◌, ℕ, List, [], ◌∷◌, ◌++◌, map, Option, Some, None, is_some, Result, Ok, Err, codes, inl, refl, sym, ap, ◌∙◌, append_assoc, arith, same_Some, Vec, flat_map, option_to_list, IfOk, result_err, result_map_both, Data, null, ImportRow, reported-only, fault_unless, lower_of, lowest, name_faults, required_faults, mapped, tree_of, Asked, Head, Action, body_bytes, body_faults, head_caller, fault_of_import, http_fault, http_faults, import_faults, json_tree, object_body_faults, path_faults, parsed_body_faults, as_malformed, body_members, body_names, choices_of, file_faults, file_list, fault_order, named_by, part_faults, Subject, Fault, Json, Members, Holder, Caller, Number, File, asked_of, import_body, import_rows, object_body, path_subject, request_by, tree_request, AskedTerms, RequestTerms, asked_terms, file_list_in, import, main_file_of, request_in, slurm_request, lowest-none, reads-both, reads-last, reads-mapped, reads-ok_or, reads-says, reads-unless, get, HasFileList}
 use Rattle.std.proofs.lemmas.Bool.Decides.{nat_tests}
-use Rattle.std.proofs.lemmas.Option.{same_Some}
-use Rattle.std.specs.Global.{Vec}
-use Rattle.std.specs.List.{flat_map}
-use Rattle.std.specs.Option.{option_to_list}
-use Rattle.std.specs.Prelude.{IfOk}
-use Rattle.std.specs.Result.{result_err, result_map_both}
 use Rattle.addr.specs.Name.{name_in}
-use Rattle.serde_json.specs.Data.{Data, null}
-use Rattle.registry.specs.declared.authorization.ImportRow.{ImportRow}
-use Rattle.json_values.proofs.FaultLemmas.{reported-only}
-use Rattle.json_values.specs.Faults.{fault_unless, lower_of, lowest, name_faults, required_faults}
-use Rattle.json_values.specs.Parts.{lower, mapped}
-use Rattle.json_values.specs.Tree.{tree_of}
+use Rattle.json_values.specs.Parts.{lower}
 use Rattle.csv_records.proofs.ImportLemmas.{import-read, import_in-said, import_in-reported}
 use Rattle.csv_records.specs.Imports.{import_fault, IsImportText}
 use Rattle.csv_records.specs.declared.imports.ImportFault.{ImportFault}
 use Rattle.csv_records.specs.steps.Importing.{import_in}
-use Rattle.registry.specs.declared.asked.Asked.{Asked}
-use Rattle.requests.specs.RequestHeads.{Head}
-use Rattle.requests.specs.declared.action.Action.{Action}
 use Rattle.requests.specs.declared.action.Action.TheVariants.{Import, Slurm, Slurms}
-use Rattle.requests.specs.HttpFaults.{body_bytes, body_faults, head_caller, fault_of_import, http_fault, http_faults, import_faults, json_tree, object_body_faults, path_faults, parsed_body_faults}
 use Rattle.requests.specs.HttpRequests.{body_tree, files_brought, http_heading, SaysAsked}
-use Rattle.requests.specs.RequestFaults.{as_malformed, body_members, body_names, choices_of, file_faults, file_list, fault_order, named_by, part_faults}
-use Rattle.requests.specs.declared.request.commands.Subject.{Subject}
-use Rattle.requests.specs.declared.request.fault.Fault.{Fault}
-use Rattle.requests.specs.declared.request.fault.Fault.TheVariants.{Json, Members, Holder, Caller, Number, File}
-use Rattle.requests.specs.steps.HttpReading.{asked_of, import_body, import_rows, object_body, path_subject, request_by, tree_request}
-use Rattle.requests.specs.steps.RequestReading.{AskedTerms, RequestTerms, asked_terms, file_list_in, import, main_file_of, request_in, slurm_request}
-use Rattle.json_values.proofs.ReadingLemmas.{lowest-none, reads-both, reads-last, reads-mapped, reads-ok_or, reads-says, reads-unless}
-use Rattle.serde_json.specs.Find.{get}
-use Rattle.requests.specs.RequestText.{HasFileList}
 use Rattle.requests.proofs.FileReadLemmas.{reads-file_list}
 use Rattle.requests.proofs.RequestFaultLemmas.{ReadsUnlessFaulty}
 use Rattle.requests.proofs.RequestReadLemmas.{SaysTerms, reads-request, terms-said}
@@ -82,13 +58,6 @@ import_rows-read text read says reported = as_fault read (import-read text read 
         → result_map_both (λ rows. rows.items) fault_of_import r ≡ import_rows text
     as_fault (Ok rows) is = ap (result_map_both (λ (xs : List ImportRow). xs) fault_of_import) is
     as_fault (Err fault) is = ap (result_map_both (λ (xs : List ImportRow). xs) fault_of_import) is
-
--- except for files and imports a body is to be an object
-pub request_by-other : (action : Action) (subject : Subject) (body : Option (List ℕ))
-    → (action ≡ Slurm → ⊥) → (action ≡ Import → ⊥) → object_body action subject body ≡ request_by action subject body
-request_by-other Slurm subject body no_file no_rows = absurd (no_file refl)
-request_by-other Import subject body no_file no_rows = absurd (no_rows refl)
-request_by-other other subject body no_file no_rows = refl
 
 module _ (head : Head) (body : Option (List ℕ)) where
   -- the request that the body's value says

@@ -1,17 +1,7 @@
 -- Items that are put in order one by one: they rise where none is there twice, and have that order alone.
-use Rattle.std.proofs.Common.{◌≡◌, Bool, true, false, if◌then◌else◌, List, [], ◌∷◌, Ordering, inl, inr, refl, sym, ap, subst, ◌∙◌}
-use Rattle.std.specs.Prelude.{◌⊎◌, IsPermutation}
-use Rattle.std.specs.declared.cmp.Ordering.TheVariants.{Less, Equal, Greater}
-use Rattle.std.specs.Cmp.{IsTotalOrder}
-use Rattle.std.specs.Ordering.{is_lt, ordering_reverse}
-use Rattle.std.specs.List.{AllByRecursion, list_any}
+use Rattle.requests.proofs.Vocabulary.{◌≡◌, Bool, true, false, if◌then◌else◌, List, [], ◌∷◌, Ordering, inl, inr, refl, sym, ap, subst, ◌∙◌, IsPermutation, Less, Equal, Greater, IsTotalOrder, is_lt, ordering_reverse, AllByRecursion, list_any, both_ways, or_parts, All-from_recursion, recursion_from_All, All-permutation, IsPermutation-refl, IsPermutation-sym, IsPermutation-trans, IsPermutation-cons, IsPermutation-middle, list_any-IsPermutation, sorted_head, sorted_tail, has_repeat, in_order, with_item}
+use Rattle.std.specs.Prelude.{◌⊎◌}
 use Rattle.std.specs.List.Sorted.{IsStrictlySortedBy}
-use Rattle.std.proofs.lemmas.Bool.{both_ways, or_parts}
-use Rattle.std.proofs.lemmas.List.Elements.{All-from_recursion, recursion_from_All}
-use Rattle.std.proofs.lemmas.List.Sorted.{All-permutation, IsPermutation-refl, IsPermutation-sym, IsPermutation-trans, IsPermutation-cons, IsPermutation-middle, list_any-IsPermutation}
-use Rattle.std.proofs.lemmas.Map.Keys.{sorted_head, sorted_tail}
-use Rattle.charters.specs.Repeats.{has_repeat}
-use Rattle.requests.specs.steps.RequestReading.{in_order, with_item}
 
 module _ {A : Type 0} (order : A → A → Ordering) (total : IsTotalOrder order) where
   not_before_itself : (x : A) → order x x ≡ Less → ⊥

@@ -13,3 +13,4 @@ pub mod RequestFaultLemmas
 pub mod RequestReadLemmas
 pub mod SlurmReadLemmas
 pub mod TableLemmas
+pub mod Vocabulary

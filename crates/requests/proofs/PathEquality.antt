@@ -1,8 +1,6 @@
 -- The derived `==` of paths tests equality.
-use Rattle.std.proofs.Common.{◌≡◌, true, refl, subst}
-use Rattle.addr.specs.Order.{TestsEquality}
+use Rattle.requests.proofs.Vocabulary.{◌≡◌, true, refl, subst, TestsEquality, Path}
 use Rattle.requests.specs.contracts.path.PathPartialEq.TheImpl as path_eq
-use Rattle.requests.specs.declared.path.Path.{Path}
 use Rattle.requests.specs.declared.path.Path.TheVariants.{Holder, Delegations, Reclaims, Transfers, Grants, Grant, Auths, Auth, Content, Export, Imports, WhatIf, Slurm, Slurms, Payloads, Validity}
 
 path_itself : (p : Path) → path_eq.ghosts.eq p p ≡ true

@@ -1,9 +1,6 @@
 -- The path of a target without a query.
-use Rattle.std.proofs.Common.{◌≡◌, ℕ, false, List, None, sym, refl, IsUtf8}
-use Rattle.std.specs.Str.{is_utf8}
+use Rattle.requests.proofs.Vocabulary.{◌≡◌, ℕ, false, List, None, sym, refl, IsUtf8, is_utf8, false_from_ne_true, has_query, path_at, path_of}
 use Rattle.std.proofs.lemmas.Str.{is_utf8-from_IsUtf8, IsUtf8-from_is_utf8}
-use Rattle.std.proofs.lemmas.Bool.{false_from_ne_true}
-use Rattle.requests.specs.Paths.{has_query, path_at, path_of}
 
 pub path_of-bytes : (target : List ℕ) → false ≡ has_query target → ¬ (IsUtf8 target) → None ≡ path_of target
 path_of-bytes target no_query no_text =

@@ -1,20 +1,6 @@
 -- What the code reads of the members of a request: a value where they have no fault, and else the lowest of their
 -- faults.
-use Rattle.std.proofs.Common.{◌≡◌, ℕ, length, List, Option, Some, None, option_and_then, Result, refl}
-use Rattle.std.specs.List.{AllZip}
-use Rattle.std.specs.Prelude.{IfOk}
-use Rattle.std.specs.Option.{ok_or}
-use Rattle.serde_json.specs.Data.{Data, Items}
-use Rattle.serde_json.specs.Find.{get, as_array}
-use Rattle.json_values.proofs.FaultLemmas.{reported-if, reported-ok_or, reported-required}
-use Rattle.json_values.proofs.ReadingLemmas.{Reads, reads-each, reads-says, reads-unless, value-ok_or}
-use Rattle.json_values.specs.Faults.{reading_faults, required_faults}
-use Rattle.json_values.specs.Tree.{list_of, required}
-use Rattle.requests.specs.RequestFaults.{is_count, list_faults, fault_order}
-use Rattle.requests.specs.RequestText.{HasItems, HasMember}
-use Rattle.requests.specs.declared.request.fault.Fault.{Fault}
-use Rattle.requests.specs.declared.request.fault.Fault.TheVariants.{Count, Members}
-use Rattle.requests.specs.steps.RequestReading.{items_of, member_in}
+use Rattle.requests.proofs.Vocabulary.{◌≡◌, ℕ, length, List, Option, Some, None, option_and_then, Result, refl, AllZip, IfOk, ok_or, Data, Items, get, as_array, reported-if, reported-ok_or, reported-required, Reads, reads-each, reads-says, reads-unless, value-ok_or, reading_faults, required_faults, list_of, required, is_count, list_faults, fault_order, HasItems, HasMember, Fault, Count, Members, items_of, member_in}
 
 abbrev pub ReadsUnlessFaulty : {A : Type 0} → Result A Fault → List Fault → (A → Type 0) → Type 0
 ReadsUnlessFaulty = Reads fault_order

@@ -1,37 +1,17 @@
 -- What is read of a SLURM file in a request: the exceptions that it says are those that one reading
 -- of its tree gives, and its fault is that reading's.
-use Rattle.std.proofs.Common.{◌≡◌, List, [], ◌∷◌, Option, Some, None, Result, Ok, Err, length, refl, sym, ap, ◌∙◌, subst, map, codes}
-use Rattle.std.proofs.lemmas.Option.{none-some, same_Some}
-use Rattle.std.proofs.lemmas.List.Elements.{All-from_recursion, recursion_from_All}
-use Rattle.std.proofs.lemmas.List.Sorted.{All-permutation, length_permutation}
-use Rattle.std.specs.List.{AllByRecursion, AllZip}
-use Rattle.std.specs.Option.{option_to_list}
-use Rattle.std.specs.Prelude.{IfOk, IsPermutation}
-use Rattle.std.specs.Result.{result_err, result_map_both}
+use Rattle.requests.proofs.Vocabulary.{◌≡◌, List, [], ◌∷◌, Option, Some, None, Result, Ok, Err, length, refl, sym, ap, ◌∙◌, subst, map, codes, none-some, same_Some, All-from_recursion, recursion_from_All, All-permutation, length_permutation, AllByRecursion, AllZip, option_to_list, IfOk, IsPermutation, result_err, result_map_both, same_vrp, Prefix, Data, get, slurm_fault, filters_at, assertions_at, SlurmFault, lowest, required_faults, required, file, file_faults, fault_order, File, Members, HasMainFile, main_alone, as_file, file_in, file_of, main_file_in, main_file_of, reads-mapped}
 use Rattle.addr.proofs.PrefixSpellingLemmas.{Spells_unique}
-use Rattle.addr.specs.Order.{same_vrp}
 use Rattle.addr.specs.PrefixText.{Spells}
 use Rattle.addr.specs.declared.asn.Asn.{Asn}
-use Rattle.addr.specs.declared.prefix.Prefix.{Prefix}
 use Rattle.addr.specs.declared.vrp.Vrp.{Vrp}
-use Rattle.serde_json.specs.Data.{Data}
-use Rattle.serde_json.specs.Find.{get}
 use Rattle.slurm.proofs.SlurmEntryLemmas.{answer-said}
 use Rattle.slurm.proofs.SlurmFaultLemmas.{slurm_fault-reported}
 use Rattle.slurm.specs.Exceptions.{Exceptions}
 use Rattle.slurm.specs.SlurmEntries.{IsPrefixMember, IsAsnMember, IsMaxLengthMember, IsFilterOf, SaysFilter, SaysAssertion, SaysExceptions}
-use Rattle.slurm.specs.SlurmFaults.{slurm_fault, filters_at, assertions_at}
-use Rattle.slurm.specs.declared.fault.SlurmFault.{SlurmFault}
 use Rattle.slurm.specs.declared.filter.Filter.{Filter}
 use Rattle.slurm.specs.declared.filter.Filter.TheVariants.{Under, By, Both}
 use Rattle.slurm.specs.steps.SlurmFile.{slurm_in}
-use Rattle.json_values.specs.Faults.{lowest, required_faults}
-use Rattle.json_values.specs.Tree.{required}
-use Rattle.requests.specs.RequestFaults.{file, file_faults, fault_order}
-use Rattle.requests.specs.declared.request.fault.Fault.TheVariants.{File, Members}
-use Rattle.requests.specs.RequestText.{HasMainFile, main_alone}
-use Rattle.requests.specs.steps.RequestReading.{as_file, file_in, file_of, main_file_in, main_file_of}
-use Rattle.json_values.proofs.ReadingLemmas.{reads-mapped}
 use Rattle.requests.proofs.RequestFaultLemmas.{ReadsUnlessFaulty}
 
 same_prefix_member : (member : Option Data) (p q : Prefix) → IsPrefixMember member p → IsPrefixMember member q → p ≡ q

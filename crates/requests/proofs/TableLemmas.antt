@@ -1,5 +1,5 @@
 -- A walk over a list from its front.
-use Rattle.std.proofs.Common.{◌≡◌, ◌∙◌, ◌<◌, ◌+◌, ℕ, Bool, false, refl, sym, ap, List, ◌∷◌, length, drop, drop-cons, get_or, Option, suc, add-one, find, fold, map}
+use Rattle.requests.proofs.Vocabulary.{◌≡◌, ◌∙◌, ◌<◌, ◌+◌, ℕ, Bool, false, refl, sym, ap, List, ◌∷◌, length, drop, drop-cons, get_or, Option, suc, add-one, find, fold, map}
 
 -- past an item that fails the test the rest is searched
 pub find-past : {X : Type 0} (test : X → Bool) (xs : List X) (i : ℕ) (d : X) (found : Option X) → i < length xs

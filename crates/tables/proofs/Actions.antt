@@ -1,25 +1,8 @@
 -- Which statements set off no action of a foreign key, beside INSERT, of which `no_works` says it.
-use Rattle.std.proofs.Common.{◌≡◌, ℕ, Bool, true, false, ◌&&◌, ◌==◌, List, [], ◌∷◌, ◌++◌, length, Option, Some, None, refl, ap, ap₂, ◌∙◌, arith}
-use Rattle.std.specs.Prelude.{is_some}
-use Rattle.std.specs.List.{list_any, flat_map, filter_map, cons_option}
-use Rattle.std.proofs.lemmas.Bool.{or_parts, ne_eqb}
-use Rattle.sqlite_value.specs.Order.{Row}
-use Rattle.sqlite_trees.specs.Tree.{Trees}
-use Rattle.sqlite_schema.specs.declared.schema.Keys.{Keys}
-use Rattle.sqlite_schema.specs.declared.schema.Keys.TheVariants.{Enforced}
-use Rattle.sqlite_schema.specs.declared.schema.Reference.{Reference}
-use Rattle.sqlite_schema.specs.declared.schema.Schema.{Schema}
-use Rattle.sqlite_schema.specs.declared.schema.Table.{Table}
-use Rattle.sqlite_schema.specs.Rules.{ParentKey, parent_key}
-use Rattle.sqlite_rules.specs.declared.action.Deed.{Deed}
-use Rattle.sqlite_rules.specs.declared.error.Rowids.TheVariants.{Given}
-use Rattle.sqlite_rules.specs.Action.{works, work_by, work_for, pairs, deed_for}
-use Rattle.sqlite_rules.specs.Calls.{ids_of}
-use Rattle.sqlite_rules.specs.Edit.{edit_of, taken_by}
-use Rattle.sqlite_rules.proofs.ActionLemmas.{no_works}
+use Rattle.tables.proofs.Vocabulary.{◌≡◌, ℕ, Bool, true, false, ◌&&◌, ◌==◌, List, [], ◌∷◌, ◌++◌, length, Option, Some, None, refl, ap, ap₂, ◌∙◌, arith, is_some, list_any, filter_map, cons_option, or_parts, ne_eqb, Row, Trees, Keys, Enforced, Reference, Schema, Table, ParentKey, parent_key, Deed, Given, works, work_by, work_for, pairs, deed_for, ids_of, edit_of, taken_by, no_works, claim, desk_tables}
+use Rattle.std.specs.List.{flat_map}
 use Rattle.sqlite_schema.specs.Names.{same_name}
 use Rattle.sqlite_tied.specs.Compute.{everything}
-use Rattle.tables.specs.Tables.{claim, desk_tables}
 
 -- a key of the table that has this tree
 abbrev is_key_at : ℕ → Option ParentKey → Bool

@@ -1,11 +1,5 @@
 -- The order of addresses as bytes is the order of their numbers.
-use Rattle.std.proofs.Common.{◌≡◌, ℕ, zero, suc, ◌+◌, ◌-◌, ◌*◌, ◌%◌, ◌^◌, ◌<◌, Ordering, Less, Equal, Greater, nat_cmp, refl, sym, ap, ap₂, ◌∙◌, arith, mod-lt, mod-eq_of_lt}
-use Rattle.std.proofs.Math.Arith.{mod-mul}
-use Rattle.std.proofs.Math.Nat.{pow-succ'}
-use Rattle.std.specs.Int.{byte_at, bytes_high_first}
-use Rattle.std.specs.Cmp.{ranks, nat_cmp_is}
-use Rattle.std.specs.Cmp.Lexicographic.{slice_cmp}
-use Rattle.std.specs.Ordering.{ordering_then, MatchOrdering}
+use Rattle.tables.proofs.Vocabulary.{◌≡◌, ℕ, zero, suc, ◌+◌, ◌-◌, ◌*◌, ◌%◌, ◌^◌, ◌<◌, Ordering, Less, Equal, Greater, nat_cmp, refl, sym, ap, ap₂, ◌∙◌, arith, mod-lt, mod-eq_of_lt, mod-mul, pow-succ', byte_at, bytes_high_first, ranks, nat_cmp_is, slice_cmp, ordering_then, MatchOrdering}
 use Rattle.tables.specs.Cells.{address_bytes}
 use Rattle.tables.proofs.AddressBytes.{powers_positive, byte_is}
 

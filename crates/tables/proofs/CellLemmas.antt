@@ -1,34 +1,8 @@
 -- The cells of typed rows: what their columns cast and how they compare.
-use Rattle.std.proofs.Common.{◌≡◌, ℕ, pos, ◌<◌, ◌^◌, Bool, ◌==◌, List, [], ◌∷◌, ◌++◌, codes, map, sym, ap, ◌∙◌, subst, IsPermutation, is_eq, int_cmp, nat_cmp, arith}
+use Rattle.tables.proofs.Vocabulary.{◌≡◌, ℕ, pos, ◌<◌, ◌^◌, Bool, ◌==◌, List, [], ◌∷◌, ◌++◌, codes, map, sym, ap, ◌∙◌, subst, IsPermutation, is_eq, int_cmp, nat_cmp, arith, ints, map-append, IsPermutation-to_front, Value, Null, Text, Blob, Row, value_cmp, value_cmp-Blob, value_cmp-Int, Integer, cast, cast_all, width, family_eq, Family, V4, V6, Prefix, Span, below_widest, Granted, Scope, All, Only, Under, By, Both, Claim, EntryRow, Exception, Assertion, ExceptionRow, SCHEMA, meta, pool, holder, holding, granted, claim, entry, slurm, number_cell, family_number, role_number, address_bytes, schema_row, prefix_cells, scope_cells, holder_row, holding_row, granted_row, claim_row, entry_row, exception_row}
 use Rattle.std.proofs.lemmas.Bool.Decides.{nat_tests}
-use Rattle.std.proofs.lemmas.Int.{ints}
-use Rattle.std.proofs.lemmas.List.{map-append}
-use Rattle.std.proofs.lemmas.List.Sorted.{IsPermutation-to_front}
-use Rattle.sqlite_value.specs.declared.value.Value.{Value}
-use Rattle.sqlite_value.specs.declared.value.Value.TheVariants.{Null, Text, Blob}
-use Rattle.sqlite_value.specs.Order.{Row, value_cmp}
-use Rattle.sqlite_value.proofs.OrderLemmas.{value_cmp-Blob, value_cmp-Int}
 use Rattle.sqlite_sql.specs.Ops.{unary}
-use Rattle.sqlite_schema.specs.declared.schema.Kind.TheVariants.{Integer}
-use Rattle.sqlite_rules.specs.Cast.{cast, cast_all}
-use Rattle.addr.specs.Family.{width, family_eq}
-use Rattle.addr.specs.declared.family.Family.{Family}
-use Rattle.addr.specs.declared.family.Family.TheVariants.{V4, V6}
-use Rattle.addr.specs.declared.prefix.Prefix.{Prefix}
-use Rattle.addr.specs.declared.span.Span.{Span}
-use Rattle.addr.proofs.AddressLemmas.{below_widest}
-use Rattle.registry.specs.declared.grant.Granted.{Granted}
-use Rattle.registry.specs.declared.grant.Scope.{Scope}
-use Rattle.registry.specs.declared.grant.Scope.TheVariants.{All, Only}
-use Rattle.slurm.specs.declared.filter.Filter.TheVariants.{Under, By, Both}
-use Rattle.tables.specs.declared.claim.Claim.{Claim}
-use Rattle.tables.specs.declared.entry.EntryRow.{EntryRow}
-use Rattle.tables.specs.declared.exception.Exception.{Exception}
-use Rattle.tables.specs.declared.exception.Exception.TheVariants.{Filter as FilterOf, Assertion}
-use Rattle.tables.specs.declared.exception.ExceptionRow.{ExceptionRow}
-use Rattle.tables.specs.declared.meta.TheConstants.{SCHEMA}
-use Rattle.tables.specs.Tables.{meta, pool, holder, holding, granted, claim, entry, slurm}
-use Rattle.tables.specs.Cells.{number_cell, family_number, role_number, address_bytes, schema_row, prefix_cells, scope_cells, holder_row, holding_row, granted_row, claim_row, entry_row, exception_row}
+use Rattle.tables.specs.declared.exception.Exception.TheVariants.{Filter as FilterOf}
 use Rattle.tables.proofs.Addresses.{addresses_in_order}
 use Rattle.tables.proofs.Inserting.{either, cast_null}
 

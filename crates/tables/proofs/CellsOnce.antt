@@ -1,26 +1,9 @@
 -- Values of the same cells are equal.
-use Rattle.std.proofs.Common.{◌≡◌, ℕ, ◌^◌, ◌<◌, List, [], ◌∷◌, ◌++◌, map, refl, sym, ap, subst, ◌∙◌, arith, IsPermutation}
-use Rattle.sqlite_value.specs.declared.value.Value.TheVariants.{Text, Blob}
-use Rattle.sqlite_value.specs.Order.{Row}
-use Rattle.sqlite_trees.proofs.ListLemmas.{pull_back}
-use Rattle.addr.specs.Family.{width}
-use Rattle.addr.specs.Address.{same_prefix}
+use Rattle.tables.proofs.Vocabulary.{◌≡◌, ℕ, ◌^◌, ◌<◌, List, [], ◌∷◌, ◌++◌, map, refl, sym, ap, subst, ◌∙◌, arith, IsPermutation, Text, Blob, Row, pull_back, width, same_prefix, Family, V4, V6, Prefix, Span, below_widest, first_below, Granted, Scope, All, Only, Rows, Claim, EntryRow, number_cell, family_number, role_number, address_bytes, prefix_cells, scope_cells, span_cells, counter_cells, grant_cells, claim_cells, entry_cells}
 use Rattle.addr.specs.Spans.{same_span}
-use Rattle.addr.specs.declared.family.Family.{Family}
-use Rattle.addr.specs.declared.family.Family.TheVariants.{V4, V6}
-use Rattle.addr.specs.declared.prefix.Prefix.{Prefix}
-use Rattle.addr.specs.declared.span.Span.{Span}
-use Rattle.addr.proofs.AddressLemmas.{below_widest, first_below}
-use Rattle.registry.specs.declared.grant.Granted.{Granted}
 use Rattle.registry.specs.declared.grant.Role.{Role}
 use Rattle.registry.specs.declared.grant.Role.TheVariants.{Manager, Clerk, Auditor}
-use Rattle.registry.specs.declared.grant.Scope.{Scope}
-use Rattle.registry.specs.declared.grant.Scope.TheVariants.{All, Only}
-use Rattle.registry.specs.Rows.{Rows}
-use Rattle.tables.specs.declared.claim.Claim.{Claim}
-use Rattle.tables.specs.declared.entry.EntryRow.{EntryRow}
 use Rattle.tables.specs.declared.holder.Counters.{Counters}
-use Rattle.tables.specs.Cells.{number_cell, family_number, role_number, address_bytes, prefix_cells, scope_cells, span_cells, counter_cells, grant_cells, claim_cells, entry_cells}
 use Rattle.tables.proofs.AddressBytes.{address_once}
 
 one_number : (m n : ℕ) → number_cell m ≡ number_cell n → m ≡ n

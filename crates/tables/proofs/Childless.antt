@@ -1,22 +1,8 @@
 -- A write whose foreign keys act on no row is its one step.
-use Rattle.std.proofs.Common.{◌≡◌, ◌≢◌, ℕ, zero, suc, ℤ, Bool, true, false, cond, ◌&&◌, ◌==◌, List, [], ◌∷◌, length, drop, slice_get, unwrap_or, Option, Some, None, Ok, Err, refl, sym, subst, inl, inr}
-use Rattle.std.specs.Prelude.{nat_lt, MatchBool}
-use Rattle.std.specs.List.{AllByRecursion, list_any, filter_map, cons_option}
-use Rattle.std.proofs.lemmas.Bool.{and_parts, and_right, both_ways, eqb-true}
-use Rattle.sqlite_value.specs.Order.{Row}
-use Rattle.sqlite_trees.specs.Tree.{Trees}
-use Rattle.sqlite_trees.proofs.ListLemmas.{all_both, all-flat_map}
-use Rattle.sqlite_schema.specs.declared.schema.Keys.{Keys}
-use Rattle.sqlite_schema.specs.declared.schema.Reference.{Reference}
-use Rattle.sqlite_schema.specs.declared.schema.Schema.{Schema}
-use Rattle.sqlite_schema.specs.declared.schema.Table.{Table}
-use Rattle.sqlite_schema.specs.Rules.{ParentKey, parent_key, agree}
-use Rattle.sqlite_rules.specs.declared.action.Deed.{Deed}
+use Rattle.tables.proofs.Vocabulary.{◌≡◌, ◌≢◌, ℕ, zero, suc, ℤ, Bool, true, false, cond, ◌&&◌, ◌==◌, List, [], ◌∷◌, length, drop, slice_get, unwrap_or, Option, Some, None, Ok, Err, refl, sym, subst, inl, inr, MatchBool, AllByRecursion, list_any, filter_map, cons_option, and_parts, and_right, both_ways, eqb-true, Row, Trees, all_both, all-flat_map, Keys, Reference, Schema, Table, ParentKey, parent_key, agree, Deed, Work, works, work_by, pairs, loses, deed_for, is_child_of, AreChildren, ActsOn, Leads, max_depth, Edit, Applies, taken_by, Has, all_has, has_front, has_last}
+use Rattle.std.specs.Prelude.{nat_lt}
 use Rattle.sqlite_rules.specs.declared.error.Refusal.TheVariants.{TooDeep}
-use Rattle.sqlite_rules.specs.Action.{Work, works, work_by, pairs, loses, deed_for, is_child_of, AreChildren, ActsOn, Leads, Writes, max_depth}
-use Rattle.sqlite_rules.specs.Edit.{Edit, Applies, taken_by}
-use Rattle.sqlite_rules.specs.Lists.{Has}
-use Rattle.sqlite_rules.proofs.ListLemmas.{all_has, has_front, has_last}
+use Rattle.sqlite_rules.specs.Action.{Writes}
 
 -- the action of a reference finds no child to act on
 abbrev IsChildless : Trees → Work → Type 0

@@ -1,12 +1,5 @@
 -- What the statements of claims and entries mean over the tables of a desk. Each fact is computed.
-use Rattle.std.proofs.Common.{List, [], ◌∷◌, ◌-◌, pos, codes, refl}
-use Rattle.sqlite_value.specs.declared.keys.Collation.TheVariants.{Binary}
-use Rattle.sqlite_value.specs.declared.value.Value.TheVariants.{Int}
-use Rattle.sqlite_schema.specs.declared.command.Source.TheVariants.{Values}
-use Rattle.sqlite_schema.specs.declared.command.Command.TheVariants.{Insert, Update, Delete, Select}
-use Rattle.sqlite_sql.specs.declared.ops.CompareOp.TheVariants.{Le, Ge}
-use Rattle.sqlite_sql.specs.declared.ops.BinaryOp.TheVariants.{Compare}
-use Rattle.sqlite_sql.specs.Term.{Term, lit, col, op2}
+use Rattle.tables.proofs.Vocabulary.{List, [], ◌∷◌, ◌-◌, pos, codes, refl, Binary, Int, Values, Insert, Update, Delete, Select, Le, Ge, Compare, Term, lit, col, op2}
 use Rattle.sqlite.specs.Listing.{understood}
 use Rattle.sqlite_tied.specs.Compute.{everything}
 use Rattle.registry.specs.declared.limits.TheConstants.{MOST_AUTHORIZATIONS}

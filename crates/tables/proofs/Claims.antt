@@ -1,39 +1,11 @@
 -- What statements do to the claims and the entries among the tables of a desk. Of the foreign keys only that of an
 -- entry to its claim acts, where claims are deleted.
-use Rattle.std.proofs.Common.{◌≡◌, ℤ, ℕ, Bool, true, false, not, List, [], ◌∷◌, map, filter, drop, length, None, Some, Ok, refl, sym, ap, ◌∙◌, arith, IsPermutation}
-use Rattle.std.specs.List.{AllByRecursion}
-use Rattle.std.proofs.lemmas.Bool.{both_ways, false_from_ne_true, not-true}
-use Rattle.std.proofs.lemmas.List.{length-map}
-use Rattle.std.proofs.lemmas.List.Sorted.{IsPermutation-sym, length_permutation}
-use Rattle.sqlite.specs.Effect.{Database}
-use Rattle.sqlite.specs.State.{State, Writes}
-use Rattle.sqlite_value.specs.declared.value.Value.TheVariants.{Null}
+use Rattle.tables.proofs.Vocabulary.{◌≡◌, ℤ, ℕ, Bool, true, false, not, List, [], ◌∷◌, map, filter, drop, length, None, Some, Ok, refl, sym, ap, ◌∙◌, arith, IsPermutation, AllByRecursion, both_ways, false_from_ne_true, not-true, length-map, IsPermutation-sym, length_permutation, Database, State, Writes, Null, Row, Trees, rowid, filter-map, Term, col, eval_all, Insert, Update, Delete, Values, Enforced, Schema, parent_key, agree, Given, ids_of, cast_all, Applies, edit_of, id_in, row_at, taken_by, Has, all_from, has_filtered, has_mapped, mapped_has, Claim, EntryRow, claim_row, entry_row, claim, entry, claim_reference, rising, desk_beside, desk_tables, contents, IsTree, Edits}
 use Rattle.sqlite_value.specs.Keys.{first_key}
-use Rattle.sqlite_value.specs.Order.{Row}
-use Rattle.sqlite_trees.specs.Tree.{Trees, rowid}
-use Rattle.sqlite_trees.proofs.ListLemmas.{filter-map}
-use Rattle.sqlite_sql.specs.Term.{Term, col, eval_all}
-use Rattle.sqlite_schema.specs.declared.command.Command.TheVariants.{Insert, Update, Delete}
-use Rattle.sqlite_schema.specs.declared.command.Source.TheVariants.{Values}
-use Rattle.sqlite_schema.specs.declared.schema.Keys.TheVariants.{Enforced}
-use Rattle.sqlite_schema.specs.declared.schema.Schema.{Schema}
 use Rattle.sqlite_schema.specs.Names.{same_name}
-use Rattle.sqlite_schema.specs.Rules.{parent_key, agree}
-use Rattle.sqlite_rules.specs.declared.error.Rowids.TheVariants.{Given}
 use Rattle.sqlite_rules.specs.Action as action
-use Rattle.sqlite_rules.specs.Calls.{ids_of}
-use Rattle.sqlite_rules.specs.Cast.{cast_all}
-use Rattle.sqlite_rules.specs.Edit.{Applies, edit_of, id_in, row_at, taken_by}
-use Rattle.sqlite_rules.specs.Lists.{Has}
 use Rattle.sqlite_rules.proofs.KeyLemmas.{agree_chain}
-use Rattle.sqlite_rules.proofs.ListLemmas.{all_from, has_filtered}
-use Rattle.sqlite_rules.proofs.ProbeLemmas.{has_mapped, mapped_has}
 use Rattle.sqlite_tied.specs.Compute.{everything}
-use Rattle.tables.specs.declared.claim.Claim.{Claim}
-use Rattle.tables.specs.declared.entry.EntryRow.{EntryRow}
-use Rattle.tables.specs.Cells.{claim_row, entry_row}
-use Rattle.tables.specs.Tables.{claim, entry, claim_reference, rising, desk_beside, desk_tables, contents, IsTree}
-use Rattle.tables.specs.steps.Edits.{Edits}
 use Rattle.tables.proofs.Actions.{quiet_but_claims}
 use Rattle.tables.proofs.CellLemmas.{cast_claim, cast_entry}
 use Rattle.tables.proofs.Childless.{apart_childless, one_childless_step}

@@ -1,13 +1,5 @@
 -- The columns that a query shows of a row.
-use Rattle.std.proofs.Common.{◌≡◌, ℕ, suc, List, [], ◌∷◌, map, drop, refl, ◌∙◌}
-use Rattle.sqlite_value.specs.Order.{Row, column}
-use Rattle.sqlite_trees.proofs.ListLemmas.{map-map}
-use Rattle.sqlite_sql.specs.Term.{Term, col, eval, eval_all}
-use Rattle.registry.specs.declared.grant.Granted.{Granted}
-use Rattle.registry.specs.declared.grant.Scope.{Scope}
-use Rattle.registry.specs.declared.grant.Scope.TheVariants.{All, Only}
-use Rattle.tables.specs.Cells.{grant_cells, granted_row}
-use Rattle.tables.specs.Tables.{columns}
+use Rattle.tables.proofs.Vocabulary.{◌≡◌, ℕ, suc, List, [], ◌∷◌, map, drop, refl, ◌∙◌, Row, column, map-map, Term, col, eval, eval_all, Granted, Scope, All, Only, grant_cells, granted_row, columns}
 
 -- a column of a row with its rowid is the one before it without
 pub column_after : (r : Row) (at : ℕ) → column r (suc at) ≡ column (drop 1 r) at

@@ -1,27 +1,6 @@
 -- What DELETE does, whatever the table.
-use Rattle.std.proofs.Common.{◌≡◌, ℕ, ◌==◌, Bool, true, false, not, List, [], ◌∷◌, map, filter, drop, slice_get, Some, None, Ok, sym, ap, subst, ◌∙◌, IsPermutation}
-use Rattle.std.proofs.lemmas.List.Sorted.{IsPermutation-map, IsPermutation-refl}
-use Rattle.sqlite.specs.Does.{Tally, Does, AtPlace, OnRows}
-use Rattle.sqlite.specs.Effect.{Database, Answers}
-use Rattle.sqlite.specs.Rows.{Written}
-use Rattle.sqlite.specs.State.{State, mode_of, Writes}
-use Rattle.sqlite.proofs.Callers.{one_step}
-use Rattle.sqlite_value.specs.declared.value.Value.TheVariants.{Null}
-use Rattle.sqlite_value.specs.Order.{Row}
-use Rattle.sqlite_trees.specs.Tree.{Trees, rowid}
-use Rattle.sqlite_trees.proofs.ListLemmas.{map-map, ascending-filter, all-filter, filter-map}
-use Rattle.sqlite_sql.specs.Term.{Term, col, eval_all}
-use Rattle.sqlite_schema.specs.declared.schema.Keys.TheVariants.{Enforced}
-use Rattle.sqlite_schema.specs.declared.schema.Schema.{Schema}
-use Rattle.sqlite_schema.specs.declared.schema.Table.{Table}
-use Rattle.sqlite_schema.specs.declared.program.Program.{Program}
-use Rattle.sqlite_schema.specs.declared.command.Command.TheVariants.{Delete}
-use Rattle.sqlite_rules.specs.declared.error.Rowids.TheVariants.{Given}
+use Rattle.tables.proofs.Vocabulary.{◌≡◌, ℕ, ◌==◌, Bool, true, false, not, List, [], ◌∷◌, map, filter, drop, slice_get, Some, None, Ok, sym, ap, subst, ◌∙◌, IsPermutation, IsPermutation-map, IsPermutation-refl, Tally, Does, AtPlace, OnRows, Database, Answers, Written, State, mode_of, Writes, one_step, Null, Row, Trees, rowid, map-map, ascending-filter, all-filter, filter-map, Term, col, eval_all, Enforced, Schema, Table, Program, Delete, Given, ids_of, Applies, edit_of, id_in, taken_by, as_strict, with_tables, claim, desk_beside, desk_tables, contents, IsTree, EditsAmong, Edits}
 use Rattle.sqlite_rules.specs.Action as action
-use Rattle.sqlite_rules.specs.Calls.{ids_of}
-use Rattle.sqlite_rules.specs.Edit.{Applies, edit_of, id_in, taken_by}
-use Rattle.tables.specs.Tables.{as_strict, with_tables, claim, desk_beside, desk_tables, contents, IsTree}
-use Rattle.tables.specs.steps.Edits.{EditsAmong, Edits}
 use Rattle.tables.proofs.Actions.{any_acts_at, quiet_elsewhere, quiet_but_claims}
 use Rattle.tables.proofs.TreeRows.{without_picked}
 use Rattle.tables.proofs.Inserting.{went, same_value, at_table}

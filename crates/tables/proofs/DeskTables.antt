@@ -1,9 +1,7 @@
 -- The tables of a desk have their own names.
-use Rattle.std.proofs.Common.{◌≡◌, true, refl, ◌∙◌}
+use Rattle.tables.proofs.Vocabulary.{◌≡◌, true, refl, ◌∙◌, Schema, desk_tables, desk_beside}
 use Rattle.sqlite_schema.specs.Names.{same_name}
-use Rattle.sqlite_schema.specs.declared.schema.Schema.{Schema}
 use Rattle.tables.specs.Schemas.{has_names}
-use Rattle.tables.specs.Tables.{desk_tables, desk_beside}
 
 -- the tables of a desk have their names, whatever is beside them
 desk_names : (schema : Schema) → has_names (desk_beside schema) desk_tables ≡ true

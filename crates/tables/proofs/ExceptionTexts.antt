@@ -1,10 +1,7 @@
 -- What the query of all exceptions means over the tables of a desk. The fact is computed.
-use Rattle.std.proofs.Common.{[], ◌∷◌, codes, refl}
-use Rattle.sqlite_schema.specs.declared.command.Command.TheVariants.{Select}
-use Rattle.sqlite_sql.specs.Term.{col}
+use Rattle.tables.proofs.Vocabulary.{[], ◌∷◌, codes, refl, Select, col, SELECT_ALL_EXCEPTIONS}
 use Rattle.sqlite.specs.Listing.{understood}
 use Rattle.sqlite_tied.specs.Compute.{everything}
-use Rattle.tables.specs.declared.exception.TheConstants.{SELECT_ALL_EXCEPTIONS}
 use Rattle.tables.proofs.Selecting.{from_table, no_limit}
 use Rattle.tables.proofs.Texts.{Means, upwards}
 

@@ -1,16 +1,5 @@
 -- Rows of entries as SQL orders them: by number, family, first address and length.
-use Rattle.std.proofs.Common.{◌≡◌, ℕ, ◌<◌, ◌^◌, pos, Ordering, Less, nat_cmp, int_cmp, inl, inr, sym, ap, ap₂, subst, ◌∙◌, arith}
-use Rattle.std.specs.Ordering.{ordering_reverse, ordering_then}
-use Rattle.std.proofs.lemmas.Bool.{cases_lt}
-use Rattle.std.proofs.lemmas.Cmp.{int_cmp_total, nat_cmp_total, tied_itself}
-use Rattle.std.proofs.lemmas.Int.{ints}
-use Rattle.sqlite_value.specs.Order.{Row, column, value_cmp}
-use Rattle.sqlite_value.proofs.OrderLemmas.{value_cmp-Blob, value_cmp-Int}
-use Rattle.addr.specs.Order.{family_cmp}
-use Rattle.addr.specs.declared.family.Family.{Family}
-use Rattle.addr.specs.declared.family.Family.TheVariants.{V4, V6}
-use Rattle.tables.specs.declared.entry.EntryRow.{EntryRow}
-use Rattle.tables.specs.Cells.{address_bytes, entry_cells, family_number, number_cell}
+use Rattle.tables.proofs.Vocabulary.{◌≡◌, ℕ, ◌<◌, ◌^◌, pos, Ordering, Less, nat_cmp, int_cmp, inl, inr, sym, ap, ap₂, subst, ◌∙◌, arith, ordering_reverse, ordering_then, cases_lt, int_cmp_total, nat_cmp_total, tied_itself, ints, Row, column, value_cmp, value_cmp-Blob, value_cmp-Int, family_cmp, Family, V4, V6, EntryRow, address_bytes, entry_cells, family_number, number_cell}
 use Rattle.tables.proofs.Addresses.{addresses_in_order}
 use Rattle.tables.proofs.GroupOrder.{entry_row_cmp}
 

@@ -1,12 +1,5 @@
 -- The claims of a holder with their entries are grouped in one way.
-use Rattle.std.proofs.Common.{◌≡◌, ◌<◌, List, ap, arith}
-use Rattle.sqlite_trees.proofs.ListLemmas.{ascending_weaker}
-use Rattle.tables.specs.declared.claim.Claim.{Claim}
-use Rattle.tables.specs.declared.entry.EntryRow.{EntryRow}
-use Rattle.tables.specs.declared.groups.Group.{Group}
-use Rattle.tables.specs.Authorizations.{NumbersRise}
-use Rattle.tables.specs.Groups.{AllApart, AreApart, AreGroups, claim_entry}
-use Rattle.tables.specs.steps.Groups.{entry_found, entry_if, only_found}
+use Rattle.tables.proofs.Vocabulary.{◌≡◌, ◌<◌, List, ap, arith, ascending_weaker, Claim, EntryRow, Group, NumbersRise, AllApart, AreApart, AreGroups, claim_entry, entry_found, entry_if, only_found}
 use Rattle.tables.proofs.Grouping.{groups_once}
 
 pub numbers_apart : (claims : List Claim) → NumbersRise claims → AllApart claim_entry claims

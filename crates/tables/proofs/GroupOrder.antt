@@ -1,25 +1,10 @@
 -- Claims with their entries in rising order: what two lists in order have that are, in some order, those of given claims
 -- with entries.
-use Rattle.std.proofs.Common.{◌≡◌, List, [], ◌∷◌, ◌++◌, map, flat_map, append_assoc, false, Ordering, Less, Equal, Greater, nat_cmp, refl, sym, ap, subst, ◌∙◌, IsPermutation, IsSorted}
-use Rattle.std.specs.Cmp.{IsTotalOrder}
-use Rattle.std.specs.Cmp.Lexicographic.{slice_cmp}
-use Rattle.std.specs.List.{AllByRecursion}
-use Rattle.std.specs.Ordering.{is_eq, ordering_reverse, ordering_then}
-use Rattle.std.proofs.lemmas.Bool.{true≢false}
-use Rattle.std.proofs.lemmas.Cmp.{nat_cmp_total, nat_list_cmp_total, on_total, then_total, tied_itself}
-use Rattle.std.proofs.lemmas.List.Sorted.{IsPermutation-append_comm, IsPermutation-append_left, IsPermutation-append_right, IsPermutation-cons, IsPermutation-map, IsPermutation-middle, IsPermutation-refl, IsPermutation-sym, IsPermutation-trans}
+use Rattle.tables.proofs.Vocabulary.{◌≡◌, List, [], ◌∷◌, ◌++◌, map, flat_map, append_assoc, false, Ordering, Less, Equal, Greater, nat_cmp, refl, sym, ap, subst, ◌∙◌, IsPermutation, IsSorted, IsTotalOrder, slice_cmp, AllByRecursion, ordering_reverse, ordering_then, true≢false, nat_cmp_total, nat_list_cmp_total, on_total, then_total, tied_itself, IsPermutation-append_comm, IsPermutation-append_left, IsPermutation-append_right, IsPermutation-cons, IsPermutation-map, IsPermutation-middle, IsPermutation-refl, IsPermutation-sym, IsPermutation-trans, IsAscending, all-append, all-permutation, all_weaker, along_permutation, ascending-append, ascending-map, ascending_weaker, prefix_cmp, AreEntries, Rise, RoaPrefix, Claim, EntryRow, Group, AllApart, AreApart, AreGroups, claim_entry, group_rows, holder_entry}
+use Rattle.std.specs.Ordering.{is_eq}
 use Rattle.sqlite_keyed.proofs.SortLemmas.{sorted_unique}
-use Rattle.sqlite_trees.specs.Tree.{IsAscending}
-use Rattle.sqlite_trees.proofs.ListLemmas.{all-append, all-permutation, all_weaker, along_permutation, ascending-append, ascending-map, ascending_weaker}
-use Rattle.addr.specs.Order.{prefix_cmp}
 use Rattle.addr.proofs.OrderLemmas.{prefix_order}
-use Rattle.registry.specs.RoaPrefixes.{AreEntries, Rise}
-use Rattle.registry.specs.declared.authorization.RoaPrefix.{RoaPrefix}
-use Rattle.tables.specs.declared.claim.Claim.{Claim}
-use Rattle.tables.specs.declared.entry.EntryRow.{EntryRow}
-use Rattle.tables.specs.declared.groups.Group.{Group}
 use Rattle.tables.specs.declared.groups.OfHolder.{OfHolder}
-use Rattle.tables.specs.Groups.{AllApart, AreApart, AreGroups, claim_entry, group_rows, holder_entry}
 
 entries_rise : (es : List RoaPrefix) → Rise es → IsAscending (λ (d e : RoaPrefix). prefix_cmp d.prefix e.prefix ≡ Less) es
 entries_rise [] rise = tt

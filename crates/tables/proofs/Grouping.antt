@@ -1,17 +1,9 @@
 -- The walk over claims and the rows of entries: what it takes for the entries of a claim are those of any groups of the
 -- two lists.
-use Rattle.std.proofs.Common.{◌≡◌, ◌≢◌, ℕ, ◌≤◌, List, [], ◌∷◌, ◌++◌, map, flat_map, drop, length, get_or, ◌+◌, ◌<◌, append_assoc, append-nil, Option, Some, None, MatchOption, Bool, true, false, ◌==◌, refl, sym, ap, ap₂, subst, ◌∙◌, arith}
+use Rattle.tables.proofs.Vocabulary.{◌≡◌, ◌≢◌, ℕ, ◌≤◌, List, [], ◌∷◌, ◌++◌, map, flat_map, drop, length, get_or, ◌+◌, ◌<◌, append_assoc, append-nil, Option, Some, None, MatchOption, Bool, true, false, ◌==◌, refl, sym, ap, ap₂, subst, ◌∙◌, arith, AllByRecursion, eq-eqb, eqb-true, false≢true, at_drop_more, drop_more, AreEntries, RoaPrefix, Group, AllApart, AreApart, AreGroups, HasNoGroups, group_rows, first_entries, with_entry}
 use Rattle.std.specs.Bool.{then_some}
 use Rattle.std.specs.Global.{Vec}
-use Rattle.std.specs.List.{AllByRecursion}
-use Rattle.std.proofs.lemmas.Bool.{eq-eqb, eqb-true, false≢true}
-use Rattle.std.proofs.lemmas.List.{at_drop_more, drop_more}
 use Rattle.std.proofs.Math.ListN.{drop_of_length-le}
-use Rattle.registry.specs.RoaPrefixes.{AreEntries}
-use Rattle.registry.specs.declared.authorization.RoaPrefix.{RoaPrefix}
-use Rattle.tables.specs.declared.groups.Group.{Group}
-use Rattle.tables.specs.Groups.{AllApart, AreApart, AreGroups, HasNoGroups, group_rows}
-use Rattle.tables.specs.steps.Groups.{first_entries, with_entry}
 
 module _ {R : Type 0} (row : RoaPrefix → R) (read : R → Option RoaPrefix) where
   -- the first entries are those of the rows that they are taken from

@@ -1,11 +1,5 @@
 -- That authorizations have entries stays so where the rows of a holder change.
-use Rattle.std.proofs.Common.{◌≡◌, ℕ, Bool, true, false, cond, ◌==◌, List, [], ◌∷◌, map, Option, Some, None, option_map, refl, sym, subst}
-use Rattle.registry.specs.History.{same_name}
-use Rattle.registry.proofs.Names.{same_name-true}
-use Rattle.registry.specs.RoaPrefixes.{AreEntries}
-use Rattle.registry.specs.Rows.{Rows, replaced_by}
-use Rattle.registry.specs.declared.authorization.Auth.{Auth}
-use Rattle.tables.specs.Authorizations.{EachHasEntries, HaveEntries}
+use Rattle.tables.proofs.Vocabulary.{◌≡◌, ℕ, Bool, true, false, cond, ◌==◌, List, [], ◌∷◌, map, Option, Some, None, option_map, refl, sym, subst, same_name, same_name-true, AreEntries, Rows, replaced_by, Auth, EachHasEntries, HaveEntries}
 use Rattle.tables.proofs.PartLemmas.{turned_at}
 
 -- where there is no holder there is none without entries

@@ -1,14 +1,6 @@
 -- The rows of the exceptions of a file.
-use Rattle.std.proofs.Common.{◌≡◌, ℕ, ◌+◌, List, ◌++◌, length, ap, arith}
-use Rattle.std.proofs.lemmas.List.{length-append, length-map}
-use Rattle.std.proofs.lemmas.List.Sorted.{length_permutation}
-use Rattle.sqlite_value.specs.Order.{Row}
-use Rattle.slurm.specs.Exceptions.{Exceptions}
-use Rattle.tables.specs.declared.exception.Exception.TheVariants.{Filter as FilterOf, Assertion}
-use Rattle.tables.specs.declared.exception.ExceptionRow.{ExceptionRow}
-use Rattle.tables.specs.Cells.{exception_row}
-use Rattle.tables.specs.Decode.{exception_columns}
-use Rattle.tables.specs.TablesHold.{HoldsExceptions}
+use Rattle.tables.proofs.Vocabulary.{◌≡◌, ℕ, ◌+◌, List, ◌++◌, length, ap, arith, length-append, length-map, length_permutation, Row, Exceptions, Assertion, ExceptionRow, exception_row, exception_columns, HoldsExceptions}
+use Rattle.tables.specs.declared.exception.Exception.TheVariants.{Filter as FilterOf}
 
 module _ (name : List ℕ) (exceptions : Exceptions) (table : List Row) (holds : HoldsExceptions name exceptions table) where
   pub held_number : length exceptions.filters + length exceptions.assertions ≡ length table

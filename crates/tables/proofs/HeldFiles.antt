@@ -1,31 +1,14 @@
 -- The rows of SLURM files that a table holds.
-use Rattle.std.proofs.Common.{◌≡◌, ℕ, ◌+◌, ◌^◌, ◌<◌, ◌≤◌, Bool, true, false, cond, List, [], ◌∷◌, ◌++◌, length, map, flat_map, filter, refl, sym, ap, ap₂, subst, ◌∙◌, append-nil, IsPermutation, nat_lt, ◌||◌, arith}
-use Rattle.std.specs.List.{AllByRecursion, IsDistinct, enumerate_from}
+use Rattle.tables.proofs.Vocabulary.{◌≡◌, ℕ, ◌+◌, ◌^◌, ◌<◌, ◌≤◌, Bool, true, false, cond, List, [], ◌∷◌, ◌++◌, length, map, flat_map, filter, refl, sym, ap, ap₂, subst, ◌∙◌, append-nil, IsPermutation, nat_lt, ◌||◌, arith, AllByRecursion, enumerate_from, both_ways, lt-ltb, or_left, length-map, map-append, filter-append, filter_passes, recursion_from_All, IsPermutation-map, IsPermutation-refl, Row, column, IsAscending, map-map, all_of, all_weaker, all-append, all-map, all-permutation, filter_all, filter_none, IsPermutation-filter, Vrp, same_name, same_name-true, same_name-false, Exceptions, Under, By, Both, Exception, Assertion, ExceptionRow, exception_row, IsPosition, exception_columns, ArePlaced, HoldsExceptions, HoldsFiles, HoldsFromOne, at_positions, file_rows, is_of_file, is_text}
+use Rattle.std.specs.List.{IsDistinct}
 use Rattle.std.specs.List.Sorted.{IsStrictlySortedBy}
-use Rattle.std.proofs.lemmas.Bool.{both_ways, lt-ltb, or_left}
-use Rattle.std.proofs.lemmas.List.{length-map, map-append}
-use Rattle.std.proofs.lemmas.List.Elements.{filter-append, filter_passes, recursion_from_All}
 use Rattle.std.proofs.lemmas.List.Kept.{IsStrictlySortedBy-filter}
-use Rattle.std.proofs.lemmas.List.Sorted.{IsPermutation-map, IsPermutation-refl}
-use Rattle.sqlite_value.specs.Order.{Row, column}
-use Rattle.sqlite_trees.specs.Tree.{IsAscending}
-use Rattle.sqlite_trees.proofs.ListLemmas.{map-map, all_of, all_weaker, all-append, all-map, all-permutation, filter_all, filter_none, IsPermutation-filter}
-use Rattle.addr.specs.declared.vrp.Vrp.{Vrp}
-use Rattle.registry.specs.History.{same_name}
-use Rattle.registry.proofs.Names.{same_name-true, same_name-false}
-use Rattle.slurm.specs.Exceptions.{Exceptions}
 use Rattle.slurm.specs.SlurmSets.{name_cmp, exceptions_of, has_entries, with_entries, AreNamedOnce, RiseByName}
 use Rattle.slurm.specs.declared.exceptions.TheConstants.{MOST_ENTRIES}
 use Rattle.slurm.specs.declared.filter.Filter.{Filter}
-use Rattle.slurm.specs.declared.filter.Filter.TheVariants.{Under, By, Both}
 use Rattle.slurm.specs.declared.set.NamedSlurm.{NamedSlurm}
 use Rattle.slurm.proofs.RisingNames.{rising_once}
-use Rattle.tables.specs.declared.exception.Exception.{Exception}
-use Rattle.tables.specs.declared.exception.Exception.TheVariants.{Filter as FilterOf, Assertion}
-use Rattle.tables.specs.declared.exception.ExceptionRow.{ExceptionRow}
-use Rattle.tables.specs.Cells.{exception_row}
-use Rattle.tables.specs.Decode.{IsPosition, exception_columns}
-use Rattle.tables.specs.TablesHold.{ArePlaced, HoldsExceptions, HoldsFiles, HoldsFromOne, at_positions, file_rows, is_of_file, is_text}
+use Rattle.tables.specs.declared.exception.Exception.TheVariants.{Filter as FilterOf}
 use Rattle.tables.proofs.PartLemmas.{name_of_text}
 
 -- ---- no exceptions, and no files

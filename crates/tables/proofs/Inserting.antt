@@ -1,32 +1,7 @@
 -- What INSERT of one row does, whatever the table.
-use Rattle.std.proofs.Common.{◌≡◌, ◌≢◌, ◌⊎◌, inl, inr, ℕ, ◌/◌, ◌==◌, Bool, true, false, cond, ◌||◌, List, [], ◌∷◌, ◌++◌, drop, length, slice_get, Some, None, Ok, Err, Result, refl, sym, ap, not, subst, ◌∙◌, append-nil, IsPermutation}
-use Rattle.std.specs.List.{AllByRecursion, list_any}
-use Rattle.std.proofs.lemmas.List.Sorted.{IsPermutation-map}
-use Rattle.std.proofs.lemmas.Bool.{and_parts, not-true, eqb-true}
-use Rattle.sqlite.specs.Does.{Tally, Does, AtPlace, OnRows}
-use Rattle.sqlite.specs.Effect.{Database, value_rows, IsSource}
-use Rattle.sqlite.specs.Rows.{Written}
-use Rattle.sqlite.specs.State.{State, mode_of, Writes}
-use Rattle.sqlite.proofs.Callers.{one_step}
-use Rattle.sqlite_value.specs.declared.value.Value.{Value}
-use Rattle.sqlite_value.specs.declared.value.Value.TheVariants.{Null, Int}
-use Rattle.sqlite_value.specs.Order.{Row}
-use Rattle.sqlite_trees.specs.Tree.{Trees, put_row}
+use Rattle.tables.proofs.Vocabulary.{◌≡◌, ◌≢◌, ◌⊎◌, inl, inr, ℕ, ◌/◌, ◌==◌, Bool, true, false, cond, ◌||◌, List, [], ◌∷◌, ◌++◌, drop, length, slice_get, Some, None, Ok, Err, Result, refl, sym, ap, not, subst, ◌∙◌, append-nil, IsPermutation, AllByRecursion, list_any, IsPermutation-map, and_parts, not-true, eqb-true, Tally, Does, AtPlace, OnRows, Database, value_rows, IsSource, Written, State, mode_of, Writes, one_step, Value, Null, Int, Row, Trees, put_row, Term, Enforced, Integer, Schema, Table, Insert, Values, Chosen, cast, cast_all, cast_row, Applies, edit_of, next_rowid, is_taken, numbered, put_all, are_fresh, no_works, as_strict, with_tables, desk_beside, desk_tables, contents, IsTree, EditsAmong, Edits}
 use Rattle.sqlite_sql.specs.Ops.{unary}
-use Rattle.sqlite_sql.specs.Term.{Term}
-use Rattle.sqlite_schema.specs.declared.schema.Keys.TheVariants.{Enforced}
-use Rattle.sqlite_schema.specs.declared.schema.Kind.TheVariants.{Integer}
-use Rattle.sqlite_schema.specs.declared.schema.Schema.{Schema}
-use Rattle.sqlite_schema.specs.declared.schema.Table.{Table}
-use Rattle.sqlite_schema.specs.declared.command.Command.TheVariants.{Insert}
 use Rattle.sqlite_schema.specs.declared.command.Source.{Source}
-use Rattle.sqlite_schema.specs.declared.command.Source.TheVariants.{Values}
-use Rattle.sqlite_rules.specs.declared.error.Rowids.TheVariants.{Chosen}
-use Rattle.sqlite_rules.specs.Cast.{cast, cast_all, cast_row}
-use Rattle.sqlite_rules.specs.Edit.{Applies, edit_of, next_rowid, is_taken, numbered, put_all, are_fresh}
-use Rattle.sqlite_rules.proofs.ActionLemmas.{no_works}
-use Rattle.tables.specs.Tables.{as_strict, with_tables, desk_beside, desk_tables, contents, IsTree}
-use Rattle.tables.specs.steps.Edits.{EditsAmong, Edits}
 use Rattle.tables.proofs.TreeRows.{put_permutes, put_tree}
 
 -- a part that gave a value did not stop on the way

@@ -1,26 +1,8 @@
 -- A row is that of one claim or one entry, and all rows that the same tables hold give the same VRPs.
-use Rattle.std.proofs.Common.{◌≡◌, ◌≢◌, ◌≤◌, ℕ, suc, ◌==◌, true, List, [], ◌∷◌, map, drop, Option, Some, inl, inr, sym, ap, ◌∙◌, arith, subst}
-use Rattle.std.specs.Prelude.{AllPairs}
-use Rattle.std.proofs.lemmas.Bool.{and_parts, and_from}
-use Rattle.sqlite_value.specs.Order.{Row}
-use Rattle.sqlite_rules.specs.Lists.{Has}
-use Rattle.sqlite_rules.proofs.ListLemmas.{has_contained, contains_had, some_has, some_from}
-use Rattle.sqlite_rules.proofs.ProbeLemmas.{mapped_has, has_mapped}
-use Rattle.sqlite_trees.specs.Tree.{Trees}
-use Rattle.addr.specs.declared.vrp.Vrp.{Vrp}
+use Rattle.tables.proofs.Vocabulary.{◌≡◌, ◌≢◌, ◌≤◌, ℕ, suc, ◌==◌, true, List, [], ◌∷◌, map, drop, Option, Some, inl, inr, sym, ap, ◌∙◌, arith, subst, AllPairs, and_parts, and_from, Row, Has, has_contained, contains_had, some_has, some_from, mapped_has, has_mapped, Trees, Vrp, Auth, RoaPrefix, Rows, Claim, EntryRow, claim_of, claim_row, entry_row, claim_entry, claim, columns, contents, TablesHold, claim_part, entry_part}
 use Rattle.charters.specs.CharterSets.{CharterSets}
-use Rattle.registry.specs.declared.authorization.Auth.{Auth}
-use Rattle.registry.specs.declared.authorization.RoaPrefix.{RoaPrefix}
-use Rattle.registry.specs.Rows.{Rows}
 use Rattle.registry.specs.RowsOfAll.{AllRows, IsGivenOn}
 use Rattle.registry.specs.Terms.{is_entry, IsVrpOf}
-use Rattle.tables.specs.declared.claim.Claim.{Claim}
-use Rattle.tables.specs.declared.entry.EntryRow.{EntryRow}
-use Rattle.tables.specs.Authorizations.{claim_of}
-use Rattle.tables.specs.Cells.{claim_row, entry_row}
-use Rattle.tables.specs.Groups.{claim_entry}
-use Rattle.tables.specs.Tables.{claim, columns, contents}
-use Rattle.tables.specs.TablesHold.{TablesHold, claim_part, entry_part}
 use Rattle.tables.proofs.CellsOnce.{one_claim, one_entry_row}
 use Rattle.tables.proofs.SomeRow.{of_some, in_table, has_entry_row, entry_row_of}
 

@@ -1,19 +1,7 @@
 -- An edit of the rows of one holder in one table.
-use Rattle.std.proofs.Common.{◌≡◌, ℕ, Bool, true, false, cond, if◌then◌else◌, not, ◌&&◌, List, [], ◌∷◌, map, filter, Option, refl, sym, ap, subst, ◌∙◌, IsPermutation, is_eq}
-use Rattle.std.specs.List.{AllByRecursion}
+use Rattle.tables.proofs.Vocabulary.{◌≡◌, ℕ, Bool, true, false, cond, if◌then◌else◌, not, ◌&&◌, List, [], ◌∷◌, map, filter, Option, refl, sym, ap, subst, ◌∙◌, IsPermutation, is_eq, AllByRecursion, both_ways, IsPermutation-trans, IsPermutation-cons, IsPermutation-map, Value, Null, Int, Real, Text, Blob, Row, column, value_cmp-apart, value_cmp-Text, IsPermutation-filter, all-permutation, all-filter, filter-map, same_name, Rows, same_name-same, same_name-true, Part, part_rows, is_name_of, is_text, HoldsPart}
 use Rattle.std.proofs.Math.Bool.{and_comm}
-use Rattle.std.proofs.lemmas.Bool.{both_ways}
-use Rattle.std.proofs.lemmas.List.Sorted.{IsPermutation-trans, IsPermutation-cons, IsPermutation-map}
-use Rattle.sqlite_value.specs.declared.value.Value.{Value}
-use Rattle.sqlite_value.specs.declared.value.Value.TheVariants.{Null, Int, Real, Text, Blob}
-use Rattle.sqlite_value.specs.Order.{Row, column}
-use Rattle.sqlite_value.proofs.OrderLemmas.{value_cmp-apart, value_cmp-Text}
-use Rattle.sqlite_trees.proofs.ListLemmas.{IsPermutation-filter, all-permutation, all-filter, filter-map}
 use Rattle.std.proofs.lemmas.Map.Text.{is_eq-slice_cmp}
-use Rattle.registry.specs.History.{same_name}
-use Rattle.registry.specs.Rows.{Rows}
-use Rattle.registry.proofs.Names.{same_name-same, same_name-true}
-use Rattle.tables.specs.TablesHold.{Part, part_rows, is_name_of, is_text, HoldsPart}
 use Rattle.tables.proofs.TreeRows.{filter_twice}
 use Rattle.tables.proofs.Updating.{changed_if}
 

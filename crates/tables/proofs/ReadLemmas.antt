@@ -1,24 +1,8 @@
 -- The parts of typed values in the cells that show them.
-use Rattle.std.proofs.Common.{◌≡◌, ◌≢◌, ℕ, ◌^◌, ◌<◌, ◌≤◌, ◌↔◌, List, [], ◌∷◌, length, get_or, arith, ap, sym, ◌∙◌, refl, subst}
-use Rattle.std.specs.Prelude.{Option, Some, None, IsSome, IfSome, ⊤, map, All, Any}
-use Rattle.std.specs.List.{AllByRecursion}
+use Rattle.tables.proofs.Vocabulary.{◌≡◌, ◌≢◌, ℕ, ◌^◌, ◌<◌, ◌≤◌, ◌↔◌, List, [], ◌∷◌, length, get_or, arith, ap, sym, ◌∙◌, refl, subst, IsSome, IfSome, ⊤, Any, AllByRecursion, length-map, get_or-map, All-map, All-permutation, Null, Blob, Row, column, all_of, all-map, all-permutation, Family, Prefix, Span, width, IsPrefix, below_widest, first_below, address_bytes, number_cell, family_number, prefix_cells, span_cells, columns, Decodes, first_columns}
+use Rattle.std.specs.Prelude.{Option, Some, None, map, All}
 use Rattle.std.specs.List.Sorted.{IsPermutation}
-use Rattle.std.proofs.lemmas.List.{length-map, get_or-map}
-use Rattle.std.proofs.lemmas.List.Elements.{All-map}
-use Rattle.std.proofs.lemmas.List.Sorted.{All-permutation}
 use Rattle.std.proofs.lemmas.List.FromFn.{fill_by_all}
-use Rattle.sqlite_value.specs.declared.value.Value.TheVariants.{Null, Blob}
-use Rattle.sqlite_value.specs.Order.{Row, column}
-use Rattle.sqlite_trees.proofs.ListLemmas.{all_of, all-map, all-permutation}
-use Rattle.addr.specs.declared.family.Family.{Family}
-use Rattle.addr.specs.declared.prefix.Prefix.{Prefix}
-use Rattle.addr.specs.declared.span.Span.{Span}
-use Rattle.addr.specs.Family.{width}
-use Rattle.addr.specs.Address.{IsPrefix}
-use Rattle.addr.proofs.AddressLemmas.{below_widest, first_below}
-use Rattle.tables.specs.Cells.{address_bytes, number_cell, family_number, prefix_cells, span_cells}
-use Rattle.tables.specs.Tables.{columns}
-use Rattle.tables.specs.Decode.{Decodes, first_columns}
 use Rattle.tables.proofs.AddressBytes.{address_once, length-address_bytes}
 use Rattle.tables.proofs.CellsOnce.{one_family}
 

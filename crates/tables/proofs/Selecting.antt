@@ -1,16 +1,6 @@
 -- What a query over one table answers, whatever the table.
 use lib.ListN.{get_or-map}
-use Rattle.std.proofs.Common.{◌≡◌, ℕ, pos, negsuc, ◌^◌, ◌-◌, ◌+◌, ◌<◌, Bool, true, false, cond, List, [], ◌∷◌, ◌++◌, map, filter, flat_map, length, take, slice_get, None, nat_le, unwrap_or, get_or, refl, sym, ap, ap₂, subst, ◌∙◌, IsPermutation, IsSorted, Ordering, arith}
-use Rattle.std.specs.List.{list_all, AllByRecursion}
-use Rattle.std.specs.Ordering.{is_lt}
-use Rattle.std.proofs.lemmas.List.{length-map}
-use Rattle.std.proofs.lemmas.List.Sorted.{IsPermutation-map, length_permutation}
-use Rattle.sqlite_value.specs.declared.value.Value.TheVariants.{Int}
-use Rattle.sqlite_value.specs.declared.keys.Key.{Key}
-use Rattle.sqlite_value.specs.Order.{Row, column}
-use Rattle.sqlite_trees.specs.Tree.{Trees}
-use Rattle.sqlite_trees.proofs.ListLemmas.{map-map, all_of, all-map, all-permutation, all-get_or}
-use Rattle.sqlite_sql.specs.Term.{Term, lit, eval_all, holds}
+use Rattle.tables.proofs.Vocabulary.{◌≡◌, ℕ, pos, negsuc, ◌^◌, ◌-◌, ◌+◌, ◌<◌, Bool, true, false, cond, List, [], ◌∷◌, ◌++◌, map, filter, flat_map, length, take, slice_get, None, nat_le, unwrap_or, get_or, refl, sym, ap, ap₂, subst, ◌∙◌, IsPermutation, IsSorted, Ordering, arith, list_all, AllByRecursion, is_lt, length-map, IsPermutation-map, length_permutation, Int, Key, Row, column, Trees, map-map, all_of, all-map, all-permutation, all-get_or, Term, lit, eval_all, holds}
 use Rattle.sqlite_sql.specs.Query.{Query, inner, end, IsAnswer, Output, output, output_cmp, key_cmp}
 use Rattle.sqlite_sql.specs.Program.{overlay}
 

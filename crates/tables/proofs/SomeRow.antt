@@ -1,20 +1,6 @@
 -- A row of a table is one of some holder, and a row of a holder is one of the table. A row of an entry is one of some
 -- authorization.
-use Rattle.std.proofs.Common.{◌≡◌, ℕ, true, List, [], ◌∷◌, flat_map, map, Option, Some, None, refl, sym, ap, subst, ◌∙◌, inl, inr, IsPermutation}
-use Rattle.std.proofs.lemmas.List.Sorted.{IsPermutation-sym, Contains-permutation}
-use Rattle.sqlite_value.specs.declared.value.Value.{Value}
-use Rattle.sqlite_value.specs.declared.value.Value.TheVariants.{Null, Int, Real, Text, Blob}
-use Rattle.sqlite_value.specs.Order.{Row, column}
-use Rattle.sqlite_rules.specs.Lists.{Has}
-use Rattle.sqlite_rules.proofs.ListLemmas.{all_has, has_filtered, has_kept, has_contained, contains_had, has_either, has_left, has_right}
-use Rattle.sqlite_rules.proofs.ProbeLemmas.{mapped_has, has_mapped}
-use Rattle.registry.specs.Rows.{Rows}
-use Rattle.registry.specs.declared.authorization.Auth.{Auth}
-use Rattle.registry.specs.declared.authorization.RoaPrefix.{RoaPrefix}
-use Rattle.tables.specs.Authorizations.{claim_of, entry_rows_of}
-use Rattle.tables.specs.Cells.{entry_row}
-use Rattle.tables.specs.Groups.{claim_entry}
-use Rattle.tables.specs.TablesHold.{Part, HoldsPart, entry_part, part_rows, is_text}
+use Rattle.tables.proofs.Vocabulary.{◌≡◌, ℕ, true, List, [], ◌∷◌, flat_map, map, Option, Some, None, refl, sym, ap, subst, ◌∙◌, inl, inr, IsPermutation, IsPermutation-sym, Contains-permutation, Value, Null, Int, Real, Text, Blob, Row, column, Has, all_has, has_filtered, has_kept, has_contained, contains_had, has_either, has_left, has_right, mapped_has, has_mapped, Rows, Auth, RoaPrefix, claim_of, entry_rows_of, entry_row, claim_entry, Part, HoldsPart, entry_part, part_rows, is_text}
 use Rattle.tables.proofs.PartLemmas.{names, name_of_itself}
 
 pub has_permuted : {X : Type 0} (xs ys : List X) (x : X) → IsPermutation xs ys → Has xs x → Has ys x

@@ -1,15 +1,6 @@
 -- What the tests of a WHERE are, at a row that begins with its rowid.
-use Rattle.std.proofs.Common.{◌≡◌, ℕ, suc, Bool, true, false, List, [], ◌∷◌, drop, Some, ℤ, refl, sym, ap, ◌∙◌, is_eq}
-use Rattle.sqlite_value.specs.declared.keys.Collation.TheVariants.{Binary}
-use Rattle.sqlite_value.specs.declared.value.Value.{Value}
-use Rattle.sqlite_value.specs.declared.value.Value.TheVariants.{Null, Int, Real, Text, Blob}
-use Rattle.sqlite_value.specs.Order.{Row, column, value_cmp}
-use Rattle.sqlite_value.proofs.OrderLemmas.{value_cmp-apart}
-use Rattle.sqlite_sql.specs.declared.ops.CompareOp.TheVariants.{Eq}
-use Rattle.sqlite_sql.specs.declared.ops.BinaryOp.TheVariants.{Compare}
+use Rattle.tables.proofs.Vocabulary.{◌≡◌, ℕ, suc, Bool, true, false, List, [], ◌∷◌, drop, Some, ℤ, refl, sym, ap, ◌∙◌, is_eq, Binary, Value, Null, Int, Real, Text, Blob, Row, column, value_cmp, value_cmp-apart, Eq, Compare, last_term, is_name_of}
 use Rattle.sqlite_sql.specs.Ops.{binary, is_true, from_truth}
-use Rattle.sqlite_typed.proofs.TestLemmas.{last_term}
-use Rattle.tables.specs.TablesHold.{is_name_of}
 use Rattle.tables.proofs.Columns.{column_after}
 use Rattle.tables.proofs.PartLemmas.{names}
 use Rattle.tables.proofs.Selecting.{picks}

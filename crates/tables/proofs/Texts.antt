@@ -1,25 +1,12 @@
 -- What the statements of a desk mean over its tables, whatever indexes and views are beside them. Each fact is
 -- computed.
-use Rattle.std.proofs.Common.{◌≡◌, ℕ, zero, suc, pos, List, [], ◌∷◌, codes, true, false, refl, sym, ap, subst}
-use Rattle.sqlite_value.specs.declared.keys.Collation.TheVariants.{Binary}
-use Rattle.sqlite_value.specs.declared.keys.Key.{Key}
-use Rattle.sqlite_value.specs.declared.value.Value.TheVariants.{Null, Int, Text}
-use Rattle.sqlite_schema.specs.declared.command.Source.TheVariants.{Values}
+use Rattle.tables.proofs.Vocabulary.{◌≡◌, ℕ, zero, suc, pos, List, [], ◌∷◌, codes, true, false, refl, sym, ap, subst, Binary, Key, Null, Int, Text, Values, Insert, Update, Delete, Select, Schema, Eq, Le, Ge, Compare, Term, lit, col, op2, IsPlain, command_of, desk_tables, desk_beside, OverDesk, DELETE_EXCEPTIONS, INSERT_EXCEPTION, INSERT_SCHEMA, SCHEMA}
 use Rattle.sqlite_schema.specs.declared.command.Command.{Command}
-use Rattle.sqlite_schema.specs.declared.command.Command.TheVariants.{Insert, Update, Delete, Select}
-use Rattle.sqlite_schema.specs.declared.schema.Schema.{Schema}
-use Rattle.sqlite_sql.specs.declared.ops.CompareOp.TheVariants.{Eq, Le, Ge}
-use Rattle.sqlite_sql.specs.declared.ops.BinaryOp.TheVariants.{Compare}
-use Rattle.sqlite_sql.specs.Term.{Term, lit, col, op2}
 use Rattle.sqlite.specs.Listing.{understood, reads_listing}
-use Rattle.sqlite.proofs.Callers.{IsPlain, command_of}
 use Rattle.sqlite_tied.specs.Compute.{everything}
-use Rattle.tables.specs.Tables.{desk_tables, desk_beside, OverDesk}
-use Rattle.tables.specs.declared.exception.TheConstants.{DELETE_EXCEPTIONS, INSERT_EXCEPTION}
 use Rattle.tables.specs.declared.granted.TheConstants.{DELETE_GRANT, INSERT_GRANT, SELECT_HOLDER_GRANTS}
 use Rattle.tables.specs.declared.holder.TheConstants.{INSERT_HOLDER, SELECT_COUNTERS, UPDATE_CREATED, UPDATE_GRANTED}
 use Rattle.tables.specs.declared.holding.TheConstants.{DELETE_HOLDING, INSERT_HOLDING, SELECT_HOLDER_SPANS, SELECT_OVERLAP, SELECT_RUN_BELOW}
-use Rattle.tables.specs.declared.meta.TheConstants.{INSERT_SCHEMA, SCHEMA}
 use Rattle.tables.specs.declared.operator.TheConstants.{INSERT_OPERATOR}
 use Rattle.tables.specs.declared.pool.TheConstants.{INSERT_PREFIX}
 use Rattle.tables.proofs.Selecting.{from_table, no_limit}

@@ -1,24 +1,8 @@
 -- What putting and removing rows does to the rows of a tree.
-use Rattle.std.proofs.Common.{◌≡◌, ℤ, Bool, true, false, not, ◌||◌, ◌&&◌, cond, List, [], ◌∷◌, ◌++◌, map, filter, refl, sym, ap, ◌∙◌, Ordering, Less, Equal, Greater, is_eq, IsPermutation, inl, inr}
-use Rattle.std.specs.List.{AllByRecursion, list_any}
-use Rattle.std.specs.Ordering.{match_ordering}
-use Rattle.std.proofs.lemmas.Bool.{and_parts, or_parts, not-true, both_ways, false_from_ne_true}
-use Rattle.std.proofs.lemmas.Cmp.{tied_itself}
-use Rattle.std.proofs.lemmas.List.Sorted.{list_any-IsPermutation, IsPermutation-refl, IsPermutation-cons, IsPermutation-middle, IsPermutation-trans, IsPermutation-sym, IsPermutation-append_right}
-use Rattle.sqlite_value.specs.declared.value.Value.{Value}
-use Rattle.sqlite_value.specs.declared.value.Value.TheVariants.{Int}
-use Rattle.sqlite_value.specs.Order.{Row, value_cmp}
-use Rattle.sqlite_value.proofs.OrderLemmas.{value_cmp_total}
-use Rattle.sqlite_trees.specs.Tree.{rowid, has_rowid, put_row, without_rowid, IsAscending}
+use Rattle.tables.proofs.Vocabulary.{◌≡◌, ℤ, Bool, true, false, not, ◌||◌, ◌&&◌, cond, List, [], ◌∷◌, ◌++◌, map, filter, refl, sym, ap, ◌∙◌, Ordering, Less, Equal, Greater, is_eq, IsPermutation, inl, inr, AllByRecursion, list_any, match_ordering, and_parts, or_parts, not-true, both_ways, false_from_ne_true, tied_itself, list_any-IsPermutation, IsPermutation-refl, IsPermutation-cons, IsPermutation-middle, IsPermutation-trans, IsPermutation-sym, IsPermutation-append_right, Value, Int, Row, value_cmp, value_cmp_total, rowid, has_rowid, put_row, without_rowid, IsAscending, filter_same, id_in, row_at, is_taken, are_fresh, put_all, without_all, have_rowids, Has, all_has, all_from, some_has, some_from, has_filtered, has_kept, turn_eq, IsTree}
 use Rattle.sqlite_trees.specs.View.{is_int}
 use Rattle.sqlite_trees.proofs.TreeLemmas.{all-put_row}
-use Rattle.sqlite_trees.proofs.ListLemmas.{filter_same}
-use Rattle.sqlite_rules.specs.Edit.{id_in, row_at, is_taken, are_fresh, put_all, without_all, have_rowids}
-use Rattle.sqlite_rules.specs.Lists.{Has}
 use Rattle.sqlite_rules.proofs.TableLemmas.{int_is}
-use Rattle.sqlite_rules.proofs.ListLemmas.{all_has, all_from, some_has, some_from, has_filtered, has_kept}
-use Rattle.sqlite_typed.proofs.TestLemmas.{turn_eq}
-use Rattle.tables.specs.Tables.{IsTree}
 
 pub alike_flip : (a b : Value) → is_eq (value_cmp a b) ≡ is_eq (value_cmp b a)
 alike_flip = turn_eq value_cmp value_cmp_total

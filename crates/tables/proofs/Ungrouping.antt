@@ -1,14 +1,6 @@
 -- Authorizations are those of claims with their entries.
-use Rattle.std.proofs.Common.{◌≡◌, List, [], ◌∷◌, map, refl, sym, ap, ◌∙◌}
+use Rattle.tables.proofs.Vocabulary.{◌≡◌, List, [], ◌∷◌, map, refl, sym, ap, ◌∙◌, all-map, map-map, AreEntries, Auth, Claim, EntryRow, Group, AreAuths, HasNoAuths, NumbersRise, claim_of, entry_rows_of, AllApart, AreGroups, HasNoGroups, claim_entry, group_rows}
 use Rattle.sqlite_keyed.proofs.ListLemmas.{flat_map-map}
-use Rattle.sqlite_trees.proofs.ListLemmas.{all-map, map-map}
-use Rattle.registry.specs.RoaPrefixes.{AreEntries}
-use Rattle.registry.specs.declared.authorization.Auth.{Auth}
-use Rattle.tables.specs.declared.claim.Claim.{Claim}
-use Rattle.tables.specs.declared.entry.EntryRow.{EntryRow}
-use Rattle.tables.specs.declared.groups.Group.{Group}
-use Rattle.tables.specs.Authorizations.{AreAuths, HasNoAuths, NumbersRise, claim_of, entry_rows_of}
-use Rattle.tables.specs.Groups.{AllApart, AreGroups, HasNoGroups, claim_entry, group_rows}
 use Rattle.tables.specs.steps.Ungrouping.{auth_of, group_of}
 use Rattle.tables.proofs.GroupNeeds.{claims_grouped_once, numbers_apart}
 

@@ -1,28 +1,6 @@
 -- What UPDATE does, whatever the table.
-use Rattle.std.proofs.Common.{◌≡◌, ℕ, Bool, true, false, cond, if◌then◌else◌, not, List, [], ◌∷◌, ◌++◌, map, filter, drop, length, slice_get, unwrap_or, Some, None, Ok, refl, sym, ap, subst, subst₂, ◌∙◌, IsPermutation}
-use Rattle.std.proofs.lemmas.List.{map-append, length-map}
-use Rattle.std.proofs.lemmas.List.Sorted.{IsPermutation-map, IsPermutation-trans, IsPermutation-append_left, IsPermutation-filter_both}
-use Rattle.sqlite.specs.Does.{Tally, Does, AtPlace, OnRows}
-use Rattle.sqlite.specs.Effect.{Database, Answers}
-use Rattle.sqlite.specs.Rows.{Written}
-use Rattle.sqlite.specs.State.{State, mode_of, Writes}
-use Rattle.sqlite.proofs.Callers.{one_step}
-use Rattle.sqlite_value.specs.declared.value.Value.TheVariants.{Null}
-use Rattle.sqlite_value.specs.Order.{Row}
-use Rattle.sqlite_trees.proofs.ListLemmas.{map-map, ascending-filter, all-filter}
-use Rattle.sqlite_sql.specs.Term.{Term, col, eval_all}
-use Rattle.sqlite_schema.specs.declared.schema.Keys.TheVariants.{Enforced}
-use Rattle.sqlite_schema.specs.declared.schema.Schema.{Schema}
-use Rattle.sqlite_schema.specs.declared.schema.Table.{Table}
-use Rattle.sqlite_schema.specs.declared.program.Program.{Program}
-use Rattle.sqlite_schema.specs.declared.command.Command.TheVariants.{Update}
-use Rattle.sqlite_rules.specs.declared.error.Rowids.TheVariants.{Given}
-use Rattle.sqlite_rules.specs.Calls.{ids_of}
-use Rattle.sqlite_rules.specs.Cast.{cast_all, cast_row}
-use Rattle.sqlite_rules.specs.Edit.{Applies, edit_of, numbered, put_all, without_all, have_rowids, are_fresh}
+use Rattle.tables.proofs.Vocabulary.{◌≡◌, ℕ, Bool, true, false, cond, if◌then◌else◌, not, List, [], ◌∷◌, ◌++◌, map, filter, drop, length, slice_get, unwrap_or, Some, None, Ok, refl, sym, ap, subst, subst₂, ◌∙◌, IsPermutation, map-append, length-map, IsPermutation-map, IsPermutation-trans, IsPermutation-append_left, IsPermutation-filter_both, Tally, Does, AtPlace, OnRows, Database, Answers, Written, State, mode_of, Writes, one_step, Null, Row, map-map, ascending-filter, all-filter, Term, col, eval_all, Enforced, Schema, Table, Program, Update, Given, ids_of, cast_all, cast_row, Applies, edit_of, numbered, put_all, without_all, have_rowids, are_fresh, as_strict, with_tables, desk_beside, desk_tables, contents, IsTree, EditsAmong, Edits}
 use Rattle.sqlite_rules.proofs.PlaceLemmas.{given}
-use Rattle.tables.specs.Tables.{as_strict, with_tables, desk_beside, desk_tables, contents, IsTree}
-use Rattle.tables.specs.steps.Edits.{EditsAmong, Edits}
 use Rattle.tables.proofs.Actions.{any_acts_at, updates_quietly}
 use Rattle.tables.proofs.TreeRows.{without_picked, put_all_permutes, put_all_tree}
 use Rattle.tables.proofs.Inserting.{went, same_value, at_table}

@@ -1,4 +1,4 @@
-use Rattle.payload.proofs.Names.{◌+◌, ◌-◌, ◌<◌, ◌≤◌, arith, refl, ap, width, first_below}
+use Rattle.payload.proofs.Vocabulary.{◌+◌, ◌-◌, ◌<◌, ◌≤◌, arith, refl, ap, width, first_below}
 use Rattle.payload.proofs.Prefixes.{top-fits, cut-aligned, cut-fits, round-both, round-length}
 use Rattle.payload.proofs.search.common_bound.Goals as goal
 

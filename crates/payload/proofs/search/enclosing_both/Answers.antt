@@ -1,4 +1,4 @@
-use Rattle.payload.proofs.Names.{◌<◌, subst, sym, same_family}
+use Rattle.payload.proofs.Vocabulary.{◌<◌, subst, sym, same_family}
 use Rattle.payload.proofs.Fronts.{enclosing-from_front}
 use Rattle.payload.proofs.Lengths.{none-so_short}
 use Rattle.payload.proofs.Prefixes.{apart-before}

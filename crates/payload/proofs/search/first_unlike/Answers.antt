@@ -1,4 +1,4 @@
-use Rattle.payload.proofs.Names.{◌≡◌, ◌≤◌, arith}
+use Rattle.payload.proofs.Vocabulary.{◌≡◌, ◌≤◌, arith}
 use Rattle.payload.proofs.Unlike.{unlike-between}
 use Rattle.payload.proofs.search.first_unlike.Goals as goal
 use Rattle.payload.proofs.search.first_unlike.Goals.{then-route-vrp, else-route-vrp}

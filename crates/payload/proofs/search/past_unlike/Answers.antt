@@ -1,4 +1,4 @@
-use Rattle.payload.proofs.Names.{rules, IsPartitionPoint-from_clause, is_below}
+use Rattle.payload.proofs.Vocabulary.{rules, IsPartitionPoint-from_clause, is_below}
 use Rattle.payload.proofs.Unlike.{rising-below, front-below}
 use Rattle.payload.proofs.search.past_unlike.Goals as goal
 

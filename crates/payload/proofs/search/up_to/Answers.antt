@@ -1,4 +1,4 @@
-use Rattle.payload.proofs.Names.{rules, IsPartitionPoint-from_clause, is_at_most}
+use Rattle.payload.proofs.Vocabulary.{rules, IsPartitionPoint-from_clause, is_at_most}
 use Rattle.payload.proofs.Fronts.{rising-partitioned, front-up_to}
 use Rattle.payload.proofs.search.up_to.Goals as goal
 

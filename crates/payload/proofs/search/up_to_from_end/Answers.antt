@@ -1,4 +1,4 @@
-use Rattle.payload.proofs.Names.{◌≡◌, true, rules, sym, subst, arith, IsPartitionPoint-from_clause, AllWithin, is_at_most}
+use Rattle.payload.proofs.Vocabulary.{◌≡◌, true, rules, sym, subst, arith, IsPartitionPoint-from_clause, AllWithin, is_at_most}
 use Rattle.payload.proofs.Fronts.{after-onwards, upto-before, range-partitioned, front-in_range}
 use Rattle.payload.proofs.search.up_to_from_end.Goals as goal
 use Rattle.payload.proofs.search.up_to_from_end.Goals.{then-loop-step-test+else-not-is_up_to, else-loop-step-test}

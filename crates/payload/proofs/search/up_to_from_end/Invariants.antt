@@ -1,4 +1,4 @@
-use Rattle.payload.proofs.Names.{◌≡◌, ◌<◌, ◌≤◌, false, length, AllWithin, is_at_most}
+use Rattle.payload.proofs.Vocabulary.{◌≡◌, ◌<◌, ◌≤◌, false, length, AllWithin, is_at_most}
 use Rattle.payload.proofs.search.up_to_from_end.Given as goal
 
 abbrev pub invariant-loop-step : goal.invariant-loop-step

@@ -1,4 +1,4 @@
-use Rattle.payload.proofs.Names.{sym}
+use Rattle.payload.proofs.Vocabulary.{sym}
 use Rattle.payload.proofs.Lengths.{no_shorter-front}
 use Rattle.payload.proofs.Left.{left-start, left-skip, left-covering, left-rising, left-before, left-last, left-less}
 use Rattle.payload.proofs.search.validity.Goals as goal

@@ -1,4 +1,4 @@
-use Rattle.payload.proofs.Names.{length, AreNoShorter}
+use Rattle.payload.proofs.Vocabulary.{length, AreNoShorter}
 use Rattle.payload.proofs.Left.{IsLeft}
 use Rattle.payload.proofs.search.validity.Given as goal
 

@@ -1,4 +1,4 @@
-use Rattle.payload.proofs.Names.{rules, true, false, refl, sym, ap, ◌∙◌, subst, arith, width, state_of, top_of, shrinks, IsPruned, subtree, tree, state_among, vrps_at}
+use Rattle.payload.proofs.Vocabulary.{rules, true, false, refl, sym, ap, ◌∙◌, subst, arith, width, state_of, top_of, shrinks, IsPruned, subtree, tree, state_among, vrps_at}
 use Rattle.payload.proofs.Bits.{is_one}
 use Rattle.payload.proofs.Grown.{pruned-past}
 use Rattle.payload.proofs.Halves.{contains-longer}

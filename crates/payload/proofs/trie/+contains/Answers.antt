@@ -1,4 +1,4 @@
-use Rattle.payload.proofs.Names.{rules, ◌<◌, ◌∙◌, length, false, sym, arith, ne_eqb, shrinks, top_of, common, bits_from, originator_of}
+use Rattle.payload.proofs.Vocabulary.{rules, ◌<◌, ◌∙◌, length, false, sym, arith, ne_eqb, shrinks, top_of, common, bits_from, originator_of}
 use Rattle.payload.proofs.Grown.{common-least, has-apart, has-grown, pruned-past}
 use Rattle.payload.proofs.Bits.{bits_from-next}
 use Rattle.payload.proofs.Trees.{has-leaf}

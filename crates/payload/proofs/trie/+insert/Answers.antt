@@ -1,4 +1,4 @@
-use Rattle.payload.proofs.Names.{rules, ◌+◌, length, IfOk, false, true, not, ◌||◌, ◌≡◌, ◌≤◌, refl, sym, ap, ◌∙◌, subst, arith, length-take-le, OnErr, on_ok_weaker, width, top_of, shrinks, grown, weight, Leaf, IsPruned, is_bare, tree, bits_from, originator_of}
+use Rattle.payload.proofs.Vocabulary.{rules, ◌+◌, length, IfOk, false, true, not, ◌||◌, ◌≡◌, ◌≤◌, refl, sym, ap, ◌∙◌, subst, arith, length-take-le, OnErr, on_ok_weaker, width, top_of, shrinks, grown, weight, Leaf, IsPruned, is_bare, tree, bits_from, originator_of}
 use Rattle.payload.proofs.Grown.{has-apart, has-grown, pruned-after, pruned-chain, pruned-past}
 use Rattle.payload.proofs.Skips.{common-some}
 use Rattle.payload.proofs.Bits.{bits_from-next, length-bits_from}

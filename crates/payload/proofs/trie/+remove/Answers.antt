@@ -1,4 +1,4 @@
-use Rattle.payload.proofs.Names.{rules, ◌+◌, ◌∙◌, ◌≡◌, false, true, not, ◌&&◌, refl, sym, arith, top_of, shrinks, is_bare, tree, bits_from, originator_of}
+use Rattle.payload.proofs.Vocabulary.{rules, ◌+◌, ◌∙◌, ◌≡◌, false, true, not, ◌&&◌, refl, sym, arith, top_of, shrinks, is_bare, tree, bits_from, originator_of}
 use Rattle.payload.proofs.Grown.{has-apart, has-grown, pruned-grown, pruned-past, removed-apart, removed-last}
 use Rattle.payload.proofs.Bits.{bits_from-next}
 use Rattle.payload.proofs.Trees.{changed-grown, changed-one, changed-zero, has-leaf, originators-removed, removed-bare, removed-leaf}

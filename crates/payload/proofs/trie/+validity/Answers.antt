@@ -1,4 +1,4 @@
-use Rattle.payload.proofs.Names.{◌+◌, true, false, sym, ◌∙◌, arith, top_of, authorizes, bits_from, state_of, subtree}
+use Rattle.payload.proofs.Vocabulary.{◌+◌, true, false, sym, ◌∙◌, arith, top_of, authorizes, bits_from, state_of, subtree}
 use Rattle.payload.proofs.Grown.{nodes-apart, nodes-grown}
 use Rattle.payload.proofs.TrieStates.{walked-apart, walked-grown, nodes-next, walked-leaf, walked-next}
 use Rattle.payload.proofs.Bits.{bits_from-next}

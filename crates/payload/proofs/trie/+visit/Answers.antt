@@ -1,4 +1,4 @@
-use Rattle.payload.proofs.Names.{rules, refl, subst, sym, ◌∙◌, All, on_err_weaker, width, IsPruned, grown, tree, shrinks, vrps_at, top_of}
+use Rattle.payload.proofs.Vocabulary.{rules, refl, subst, sym, ◌∙◌, All, on_err_weaker, width, IsPruned, grown, tree, shrinks, vrps_at, top_of}
 use Rattle.payload.proofs.Grown.{pruned-past}
 use Rattle.payload.proofs.Halves.{above-half}
 use Rattle.payload.proofs.TrieVisits.{node-beginning, node-took, node-took_all}

@@ -1,4 +1,4 @@
-use Rattle.payload.proofs.Names.{◌≡◌, false, take, node_vrps}
+use Rattle.payload.proofs.Vocabulary.{◌≡◌, false, take, node_vrps}
 use Rattle.payload.proofs.trie.+visit.Given as goal
 
 abbrev pub invariant-node::Branch::visit-loop-originator : goal.invariant-node::Branch::visit-loop-originator

@@ -1,7 +1,4 @@
-use Rattle.std.proofs.Common.{◌≡◌, ◌≤◌, ap, sym, ◌∙◌, arith, inl, length, map, take}
-use Rattle.std.proofs.lemmas.List.{length-take, length-map}
-use Rattle.httparse.specs.Spans.{header_bytes, name_and_value}
-use Rattle.requests.specs.RequestHeads.{head_of}
+use Rattle.requests.proofs.Vocabulary.{◌≡◌, ◌≤◌, ap, sym, ◌∙◌, arith, inl, length, map, take, length-take, length-map, header_bytes, name_and_value, head_of}
 use Rattle.requests.proofs.head.read_request_head.Goals as goal
 
 pub returns : goal.returns

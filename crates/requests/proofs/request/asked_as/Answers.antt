@@ -1,7 +1,4 @@
-use Rattle.std.proofs.Common.{refl}
-use Rattle.json_values.proofs.PartsLemmas.{mapped-unless}
-use Rattle.requests.specs.RequestFaults.{fault_order}
-use Rattle.requests.specs.steps.RequestReading.{asked_terms}
+use Rattle.requests.proofs.Vocabulary.{refl, mapped-unless, fault_order, asked_terms}
 use Rattle.requests.proofs.AskedLemmas.{asked_terms-parts}
 use Rattle.requests.proofs.request.asked_as.Goals as goal
 

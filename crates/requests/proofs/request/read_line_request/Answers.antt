@@ -1,6 +1,5 @@
-use Rattle.std.proofs.Common.{◌≡◌, Some, ap, ◌∙◌}
+use Rattle.requests.proofs.Vocabulary.{◌≡◌, Some, ap, ◌∙◌, Malformed}
 use Rattle.requests.proofs.RequestReadLemmas.{line-read, line-refused}
-use Rattle.requests.specs.declared.malformed.Malformed.{Malformed}
 use Rattle.requests.proofs.request.read_line_request.Goals as goal
 
 pub returns-in-Ok-Ok-clause-ok : goal.returns-in-Ok-Ok-clause-ok

@@ -1,5 +1,4 @@
-use Rattle.std.proofs.Common.{subst, sym}
-use Rattle.tables.specs.Authorizations.{AreAuths}
+use Rattle.tables.proofs.Vocabulary.{subst, sym, AreAuths}
 use Rattle.tables.proofs.Ungrouping.{no_auths, ungrouped}
 use Rattle.tables.proofs.authorizations.auths_of.Goals as goal
 

@@ -1,5 +1,4 @@
-use Rattle.std.proofs.Common.{◌≡◌, ◌<◌, ◌++◌, [], ◌∷◌, arith, rules, sym, ◌∙◌, get_or}
-use Rattle.std.proofs.lemmas.List.{take_more}
+use Rattle.tables.proofs.Vocabulary.{◌≡◌, ◌<◌, ◌++◌, [], ◌∷◌, arith, rules, sym, ◌∙◌, get_or, take_more}
 use Rattle.tables.proofs.AddressBytes.{room, below_more, bytes_next, address_read}
 use Rattle.tables.proofs.decode.address_from_bytes.Goals as goal
 

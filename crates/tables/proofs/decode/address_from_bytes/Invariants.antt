@@ -1,5 +1,4 @@
-use Rattle.std.proofs.Common.{◌≡◌, ◌^◌, ◌<◌, take}
-use Rattle.std.specs.Int.{bytes_high_first}
+use Rattle.tables.proofs.Vocabulary.{◌≡◌, ◌^◌, ◌<◌, take, bytes_high_first}
 use Rattle.tables.proofs.decode.address_from_bytes.Given as goal
 
 abbrev pub invariant-loop-byte : goal.invariant-loop-byte

@@ -1,7 +1,4 @@
-use Rattle.std.proofs.Common.{[], ◌∷◌, arith, sym, subst}
-use Rattle.std.specs.Prelude.{⊤}
-use Rattle.tables.specs.Cells.{prefix_cells}
-use Rattle.tables.specs.Decode.{Decodes}
+use Rattle.tables.proofs.Vocabulary.{[], ◌∷◌, arith, sym, subst, ⊤, prefix_cells, Decodes}
 use Rattle.tables.proofs.ReadLemmas.{prefix_reads}
 use Rattle.tables.proofs.decode.decode_prefix.Goals as goal
 

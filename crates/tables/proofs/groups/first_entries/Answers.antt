@@ -1,4 +1,4 @@
-use Rattle.std.proofs.Common.{arith, refl, sym, ◌∙◌}
+use Rattle.tables.proofs.Vocabulary.{arith, refl, sym, ◌∙◌}
 use Rattle.tables.proofs.Grouping.{no_more_entries, no_more_rows, one_entry_more}
 use Rattle.tables.proofs.groups.first_entries.Goals as goal
 use Rattle.tables.proofs.groups.first_entries.Goals.{else-loop-row-test, then-loop-row-test+in_default}

@@ -1,5 +1,4 @@
-use Rattle.std.proofs.Common.{◌≡◌, ◌++◌, drop}
-use Rattle.tables.specs.steps.Groups.{first_entries}
+use Rattle.tables.proofs.Vocabulary.{◌≡◌, ◌++◌, drop, first_entries}
 use Rattle.tables.proofs.groups.first_entries.Given as goal
 
 abbrev pub invariant-loop-row : goal.invariant-loop-row

@@ -1,4 +1,4 @@
-use Rattle.std.proofs.Common.{arith, ap, length}
+use Rattle.tables.proofs.Vocabulary.{arith, ap, length}
 use Rattle.tables.proofs.Grouping.{claim_unfit, no_claim_left, no_more_than, one_claim_more, walked_none}
 use Rattle.tables.proofs.groups.group_entries.Goals as goal
 

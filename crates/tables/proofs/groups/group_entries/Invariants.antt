@@ -1,4 +1,4 @@
-use Rattle.std.proofs.Common.{drop}
+use Rattle.tables.proofs.Vocabulary.{drop}
 use Rattle.tables.proofs.Grouping.{Walked}
 use Rattle.tables.proofs.groups.group_entries.Given as goal
 

@@ -1,5 +1,4 @@
-use Rattle.std.proofs.Common.{arith}
-use Rattle.tables.specs.Decode.{first_columns}
+use Rattle.tables.proofs.Vocabulary.{arith, first_columns}
 use Rattle.tables.proofs.ReadLemmas.{any_mapped}
 use Rattle.tables.proofs.rows.in_rows.Goals as goal
 

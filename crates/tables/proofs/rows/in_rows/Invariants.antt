@@ -1,6 +1,6 @@
-use Rattle.std.proofs.Common.{◌≡◌, ◌≤◌, map, length, take, All}
+use Rattle.tables.proofs.Vocabulary.{◌≡◌, ◌≤◌, map, length, take, first_columns}
+use Rattle.std.proofs.Common.{All}
 use Rattle.std.specs.Vec.{vec_capacity}
-use Rattle.tables.specs.Decode.{first_columns}
 use Rattle.tables.proofs.rows.in_rows.Given as goal
 
 abbrev pub invariant-loop-row : goal.invariant-loop-row

@@ -1,4 +1,4 @@
-use Rattle.payload.proofs.Names.{subst, AreNoShorter}
+use Rattle.payload.proofs.Vocabulary.{subst, AreNoShorter}
 use Rattle.payload.proofs.Places.{rising-from_sorted, same-members}
 use Rattle.payload.proofs.list.ListIndexFromVecVrp.from.Goals as goal
 

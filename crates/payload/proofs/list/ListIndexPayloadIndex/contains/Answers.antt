@@ -1,4 +1,4 @@
-use Rattle.payload.proofs.Names.{◌∙◌}
+use Rattle.payload.proofs.Vocabulary.{◌∙◌}
 use Rattle.payload.proofs.Places.{contains-derived}
 use Rattle.payload.proofs.list.ListIndexPayloadIndex.contains.Goals as goal
 

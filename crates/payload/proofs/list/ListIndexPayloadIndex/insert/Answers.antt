@@ -1,4 +1,4 @@
-use Rattle.payload.proofs.Names.{not, sym, ap, ◌∙◌}
+use Rattle.payload.proofs.Vocabulary.{not, sym, ap, ◌∙◌}
 use Rattle.payload.proofs.Lengths.{no_shorter-inserted}
 use Rattle.payload.proofs.Places.{contains-derived, inserted-defined, rise-defined}
 use Rattle.payload.proofs.Sets.{members-insert}

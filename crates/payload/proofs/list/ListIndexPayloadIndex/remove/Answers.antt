@@ -1,4 +1,4 @@
-use Rattle.payload.proofs.Names.{◌∙◌}
+use Rattle.payload.proofs.Vocabulary.{◌∙◌}
 use Rattle.payload.proofs.Lengths.{no_shorter-removed}
 use Rattle.payload.proofs.Places.{contains-derived, removed-defined, rise-defined}
 use Rattle.payload.proofs.Sets.{members-remove}

@@ -1,4 +1,4 @@
-use Rattle.payload.proofs.Names.{ap, ◌∙◌, validation_state}
+use Rattle.payload.proofs.Vocabulary.{ap, ◌∙◌, validation_state}
 use Rattle.payload.proofs.Places.{listed}
 use Rattle.payload.proofs.list.ListIndexPayloadIndex.validity.Goals as goal
 

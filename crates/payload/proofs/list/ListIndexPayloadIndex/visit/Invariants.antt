@@ -1,4 +1,4 @@
-use Rattle.payload.proofs.Names.{◌≡◌, false, take}
+use Rattle.payload.proofs.Vocabulary.{◌≡◌, false, take}
 use Rattle.payload.proofs.list.ListIndexPayloadIndex.visit.Given as goal
 
 abbrev pub invariant-loop-vrp : goal.invariant-loop-vrp

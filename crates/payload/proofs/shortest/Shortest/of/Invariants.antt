@@ -1,4 +1,4 @@
-use Rattle.payload.proofs.Names.{take, AreNoShorter}
+use Rattle.payload.proofs.Vocabulary.{take, AreNoShorter}
 use Rattle.payload.proofs.shortest.Shortest.of.Given as goal
 
 abbrev pub invariant-loop-vrp : goal.invariant-loop-vrp

@@ -1,4 +1,4 @@
-use Rattle.payload.proofs.Names.{◌+◌, ◌||◌, sym, ap, ◌∙◌, take, slice_index_or, arith, or_comm, list_any, list_any_more}
+use Rattle.payload.proofs.Vocabulary.{◌+◌, ◌||◌, sym, ap, ◌∙◌, take, slice_index_or, arith, or_comm, list_any, list_any_more}
 use Rattle.payload.proofs.Sets.{is_vrp, members-insert}
 use Rattle.payload.proofs.trie.Trie.of.Goals as goal
 

@@ -1,4 +1,4 @@
-use Rattle.payload.proofs.Names.{◌≡◌, take}
+use Rattle.payload.proofs.Vocabulary.{◌≡◌, take}
 use Rattle.payload.specs.VrpSet as set
 use Rattle.payload.proofs.trie.Trie.of.Given as goal
 

@@ -1,4 +1,4 @@
-use Rattle.payload.proofs.Names.{filter, sym, ap, ◌∙◌, NotFound, validation_state, tree, state_among, vrps_at, whole}
+use Rattle.payload.proofs.Vocabulary.{filter, sym, ap, ◌∙◌, NotFound, validation_state, tree, state_among, vrps_at, whole}
 use Rattle.payload.proofs.TrieValidity.{among-four, among-six, trie-items}
 use Rattle.payload.proofs.trie.Trie.validity_among.Goals as goal
 

@@ -1,4 +1,4 @@
-use Rattle.payload.proofs.Names.{length, sym, ap, ◌∙◌, arith, validation_state, search_depths, tree, trie_vrps}
+use Rattle.payload.proofs.Vocabulary.{length, sym, ap, ◌∙◌, arith, validation_state, search_depths, tree, trie_vrps}
 use Rattle.payload.proofs.TrieValidity.{depths-four, depths-six, search_depths-most, state-four, state-six, trie-items}
 use Rattle.payload.proofs.trie.Trie.validity_counted.Goals as goal
 

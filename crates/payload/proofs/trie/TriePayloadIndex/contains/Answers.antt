@@ -1,4 +1,4 @@
-use Rattle.payload.proofs.Names.{◌∙◌, tree}
+use Rattle.payload.proofs.Vocabulary.{◌∙◌, tree}
 use Rattle.payload.proofs.Tries.{contains-in_four, contains-in_six}
 use Rattle.payload.proofs.trie.TriePayloadIndex.contains.Goals as goal
 

@@ -1,4 +1,4 @@
-use Rattle.payload.proofs.Names.{◌≡◌, false, not, ◌||◌, refl, subst, IfOk, OnErr, on_ok_weaker, width, IsPruned, tree, trie_vrps}
+use Rattle.payload.proofs.Vocabulary.{◌≡◌, false, not, ◌||◌, refl, subst, IfOk, OnErr, on_ok_weaker, width, IsPruned, tree, trie_vrps}
 use Rattle.payload.proofs.Sets.{members-insert}
 use Rattle.payload.proofs.Tries.{changed-four, changed-six, contains-in_four, contains-in_six}
 use Rattle.payload.proofs.trie.TriePayloadIndex.insert.Goals as goal

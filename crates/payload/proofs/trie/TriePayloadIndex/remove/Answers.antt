@@ -1,4 +1,4 @@
-use Rattle.payload.proofs.Names.{not, ◌&&◌, refl, ◌∙◌, subst, width, IsPruned, tree, trie_vrps}
+use Rattle.payload.proofs.Vocabulary.{not, ◌&&◌, refl, ◌∙◌, subst, width, IsPruned, tree, trie_vrps}
 use Rattle.payload.proofs.Sets.{members-remove}
 use Rattle.payload.proofs.Tries.{changed-four, changed-six, contains-in_four, contains-in_six}
 use Rattle.payload.proofs.trie.TriePayloadIndex.remove.Goals as goal

@@ -1,4 +1,4 @@
-use Rattle.payload.proofs.Names.{subst, on_err_weaker, on_ok_weaker, V4, V6, TookBeginning, tree, vrps_at, whole}
+use Rattle.payload.proofs.Vocabulary.{subst, on_err_weaker, on_ok_weaker, V4, V6, TookBeginning, tree, vrps_at, whole}
 use Rattle.payload.proofs.TrieValidity.{trie-items}
 use Rattle.payload.proofs.Visits.{beginning-later, beginning-longer, on-err}
 use Rattle.payload.proofs.trie.TriePayloadIndex.visit.Goals as goal

@@ -1,4 +1,4 @@
-use Rattle.payload.proofs.Names.{rules, ◌≡◌, true, false, refl, sym, ap, ◌∙◌, Valid, state_of, joined_state}
+use Rattle.payload.proofs.Vocabulary.{rules, ◌≡◌, true, false, refl, sym, ap, ◌∙◌, Valid, state_of, joined_state}
 use denote.Enum.Bare.{same_true}
 use Rattle.payload.specs.contracts.validity.Validity.{the_type}
 use Rattle.payload.proofs.TrieValidity.{among-more, among-part, among-same, joined-none}

@@ -1,4 +1,4 @@
-use Rattle.payload.proofs.Names.{◌≡◌, take, state_of, node_vrps, state_among}
+use Rattle.payload.proofs.Vocabulary.{◌≡◌, take, state_of, node_vrps, state_among}
 use Rattle.payload.proofs.trie.among.with_originators.Given as goal
 
 -- the state by the originators so far

@@ -1,4 +1,4 @@
-use Rattle.payload.proofs.Names.{◌≡◌, true, false, ap, ◌∙◌, top_of, bare, grown, tree}
+use Rattle.payload.proofs.Vocabulary.{◌≡◌, true, false, ap, ◌∙◌, top_of, bare, grown, tree}
 use Rattle.payload.proofs.Grown.{grown-cut}
 use Rattle.payload.proofs.trie.insert.cut.Goals as goal
 

@@ -1,4 +1,4 @@
-use Rattle.payload.proofs.Names.{◌<◌, length, sym, ap, arith, nat_tests, state_of, state_below}
+use Rattle.payload.proofs.Vocabulary.{◌<◌, length, sym, ap, arith, nat_tests, state_of, state_below}
 use Rattle.payload.proofs.TrieStates.{some-here}
 use Rattle.payload.proofs.trie.validity.unmatched.Goals as goal
 

@@ -1,4 +1,4 @@
-use Rattle.payload.proofs.Names.{◌+◌, ap, arith}
+use Rattle.payload.proofs.Vocabulary.{◌+◌, ap, arith}
 use Rattle.payload.proofs.Halves.{past-shifted, past-small}
 use Rattle.payload.proofs.trie.visit.past.Goals as goal
 

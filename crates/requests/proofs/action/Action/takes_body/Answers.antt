@@ -1,5 +1,4 @@
-use Rattle.std.proofs.Common.{refl}
-use Rattle.std.proofs.lemmas.List.{length-map}
+use Rattle.requests.proofs.Vocabulary.{refl, length-map}
 use Rattle.requests.proofs.action.Action.takes_body.Goals as goal
 
 pub returns : goal.returns

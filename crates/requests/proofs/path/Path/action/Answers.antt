@@ -1,6 +1,4 @@
-use Rattle.std.proofs.Common.{sym, ◌∙◌}
-use Rattle.requests.specs.RequestFaults.{all_actions, form_of}
-use Rattle.requests.specs.Routes.{is_asked_by}
+use Rattle.requests.proofs.Vocabulary.{sym, ◌∙◌, all_actions, form_of, is_asked_by}
 use Rattle.requests.proofs.TableLemmas.{find-past}
 use Rattle.requests.proofs.path.Path.action.Goals as goal
 

@@ -1,6 +1,4 @@
-use Rattle.std.proofs.Common.{◌≡◌, drop, find}
-use Rattle.requests.specs.RequestFaults.{form_of}
-use Rattle.requests.specs.Routes.{action_at, is_asked_by}
+use Rattle.requests.proofs.Vocabulary.{◌≡◌, drop, find, form_of, action_at, is_asked_by}
 use Rattle.requests.proofs.path.Path.action.Given as goal
 
 abbrev pub invariant-loop-action : goal.invariant-loop-action

@@ -1,4 +1,4 @@
-use Rattle.std.proofs.Common.{refl}
+use Rattle.requests.proofs.Vocabulary.{refl}
 use Rattle.requests.proofs.EntryOrder.{made_arranged}
 use Rattle.requests.proofs.request.entries.arranged.Goals as goal
 

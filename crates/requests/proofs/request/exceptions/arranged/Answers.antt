@@ -1,4 +1,4 @@
-use Rattle.std.proofs.Common.{Err, ap, refl}
+use Rattle.requests.proofs.Vocabulary.{Err, ap, refl}
 use Rattle.requests.proofs.FileOrder.{made_arranged, repeated_arranged}
 use Rattle.requests.proofs.request.exceptions.arranged.Goals as goal
 

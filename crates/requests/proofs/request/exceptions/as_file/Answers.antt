@@ -1,8 +1,5 @@
-use Rattle.std.proofs.Common.{ap}
-use Rattle.std.proofs.lemmas.Bool.{false≢true}
-use Rattle.std.specs.Result.{result_map_both}
+use Rattle.requests.proofs.Vocabulary.{ap, false≢true, result_map_both, File}
 use Rattle.serde_json.specs.View.{view}
-use Rattle.requests.specs.declared.request.fault.Fault.TheVariants.{File}
 use Rattle.requests.proofs.SlurmReadLemmas.{read_ok, read_err}
 use Rattle.requests.proofs.request.exceptions.as_file.Goals as goal
 

@@ -1,5 +1,4 @@
-use Rattle.std.proofs.Common.{[], ◌∷◌, codes, ap, ◌∙◌}
-use Rattle.std.proofs.lemmas.Option.{same_Some}
+use Rattle.requests.proofs.Vocabulary.{[], ◌∷◌, codes, ap, ◌∙◌, same_Some}
 use Rattle.requests.proofs.SlurmReadLemmas.{still_alone}
 use Rattle.requests.proofs.request.exceptions.main_alone.Goals as goal
 

@@ -1,5 +1,4 @@
-use Rattle.std.proofs.Common.{sym, ◌∙◌}
-use Rattle.requests.specs.RequestFaults.{all_actions, is_word, word_of}
+use Rattle.requests.proofs.Vocabulary.{sym, ◌∙◌, all_actions, is_word, word_of}
 use Rattle.requests.proofs.TableLemmas.{find-past}
 use Rattle.requests.proofs.request.form.action_of.Goals as goal
 

@@ -1,5 +1,4 @@
-use Rattle.std.proofs.Common.{◌≡◌, drop, find}
-use Rattle.requests.specs.RequestFaults.{action_of, is_word, word_of}
+use Rattle.requests.proofs.Vocabulary.{◌≡◌, drop, find, action_of, is_word, word_of}
 use Rattle.requests.proofs.request.form.action_of.Given as goal
 
 abbrev pub invariant-loop-action : goal.invariant-loop-action

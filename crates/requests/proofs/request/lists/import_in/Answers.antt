@@ -1,4 +1,4 @@
-use Rattle.std.proofs.Common.{refl}
+use Rattle.requests.proofs.Vocabulary.{refl}
 use Rattle.requests.proofs.AskedLemmas.{import-parts}
 use Rattle.requests.proofs.request.lists.import_in.Goals as goal
 

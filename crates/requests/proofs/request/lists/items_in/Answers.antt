@@ -1,8 +1,5 @@
-use Rattle.std.proofs.Common.{refl}
-use Rattle.std.proofs.lemmas.List.{length-map}
-use Rattle.json_values.proofs.PartsLemmas.{mapped-unless}
+use Rattle.requests.proofs.Vocabulary.{refl, length-map, mapped-unless, fault_order}
 use Rattle.json_values.proofs.TreeLemmas.{list_of-items_view}
-use Rattle.requests.specs.RequestFaults.{fault_order}
 use Rattle.requests.proofs.request.lists.items_in.Goals as goal
 
 pub returns : goal.returns

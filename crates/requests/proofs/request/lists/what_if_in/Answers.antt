@@ -1,4 +1,4 @@
-use Rattle.std.proofs.Common.{refl}
+use Rattle.requests.proofs.Vocabulary.{refl}
 use Rattle.requests.proofs.AskedLemmas.{what_if-parts}
 use Rattle.requests.proofs.request.lists.what_if_in.Goals as goal
 

@@ -1,4 +1,4 @@
-use Rattle.std.proofs.Common.{Ok, refl}
+use Rattle.requests.proofs.Vocabulary.{Ok, refl}
 use Rattle.requests.proofs.AskedLemmas.{asked_terms-parts}
 use Rattle.requests.proofs.request.message.asked_of.Goals as goal
 

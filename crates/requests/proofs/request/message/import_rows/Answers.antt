@@ -1,8 +1,5 @@
-use Rattle.std.proofs.Common.{◌≡◌, ap, subst, ◌∙◌}
+use Rattle.requests.proofs.Vocabulary.{◌≡◌, ap, subst, ◌∙◌, result_map_both, fault_of_import, import_rows}
 use Rattle.std.specs.Prelude.{Err}
-use Rattle.std.specs.Result.{result_map_both}
-use Rattle.requests.specs.HttpFaults.{fault_of_import}
-use Rattle.requests.specs.steps.HttpReading.{import_rows}
 use Rattle.requests.proofs.HttpReadLemmas.{import_rows-read}
 use Rattle.requests.proofs.request.message.import_rows.Goals as goal
 

@@ -1,7 +1,4 @@
-use Rattle.std.proofs.Common.{refl}
-use Rattle.json_values.proofs.PartsLemmas.{mapped-unless}
-use Rattle.requests.specs.RequestFaults.{fault_order}
-use Rattle.requests.specs.steps.RequestReading.{request_terms}
+use Rattle.requests.proofs.Vocabulary.{refl, mapped-unless, fault_order, request_terms}
 use Rattle.requests.proofs.request.message.object_request.Goals as goal
 
 pub returns : goal.returns

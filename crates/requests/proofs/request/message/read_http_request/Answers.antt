@@ -1,8 +1,5 @@
-use Rattle.std.proofs.Common.{◌≡◌, Some, ap, ◌∙◌}
-use Rattle.std.specs.Option.{option_copied}
-use Rattle.requests.specs.RequestHeads.{head_view}
+use Rattle.requests.proofs.Vocabulary.{◌≡◌, Some, ap, ◌∙◌, option_copied, head_view, Malformed}
 use Rattle.requests.proofs.HttpReadLemmas.{http-read, http-refused}
-use Rattle.requests.specs.declared.malformed.Malformed.{Malformed}
 use Rattle.requests.proofs.request.message.read_http_request.Goals as goal
 
 pub returns-in-Ok-Ok-clause-ok : goal.returns-in-Ok-Ok-clause-ok

@@ -1,4 +1,4 @@
-use Rattle.std.proofs.Common.{refl}
+use Rattle.requests.proofs.Vocabulary.{refl}
 use Rattle.requests.proofs.request.terms.row_members_in.Goals as goal
 
 pub returns : goal.returns

@@ -1,4 +1,4 @@
-use Rattle.requests.specs.Paths.{path_routes, with_path}
+use Rattle.requests.proofs.Vocabulary.{path_routes, with_path}
 use Rattle.requests.proofs.TableLemmas.{fold-past}
 use Rattle.requests.proofs.router.Routes.new.Goals as goal
 

@@ -1,5 +1,4 @@
-use Rattle.std.proofs.Common.{◌≡◌, drop, fold, map}
-use Rattle.requests.specs.Paths.{path_routes, with_path}
+use Rattle.requests.proofs.Vocabulary.{◌≡◌, drop, fold, map, path_routes, with_path}
 use Rattle.requests.proofs.router.Routes.new.Given as goal
 
 abbrev pub invariant-loop-template : goal.invariant-loop-template

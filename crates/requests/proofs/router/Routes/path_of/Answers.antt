@@ -1,5 +1,4 @@
-use Rattle.std.proofs.Common.{ap, sym, ◌∙◌}
-use Rattle.requests.specs.Paths.{path_at}
+use Rattle.requests.proofs.Vocabulary.{ap, sym, ◌∙◌, path_at}
 use Rattle.requests.proofs.PathLemmas.{path_of-bytes, path_of-text}
 use Rattle.requests.proofs.router.Routes.path_of.Goals as goal
 

@@ -1,11 +1,4 @@
-use Rattle.std.proofs.Common.{◌≡◌, [], ◌∷◌, take, drop, subst, sym, ap, ◌∙◌}
-use Rattle.addr.specs.Address.{FitsMaxLength}
-use Rattle.addr.specs.declared.prefix.Prefix.{Prefix}
-use Rattle.sqlite_value.specs.declared.value.Value.{Value}
-use Rattle.sqlite_value.specs.Order.{Row, column}
-use Rattle.tables.specs.Cells.{entry_cells, prefix_cells, number_cell}
-use Rattle.tables.specs.Decode.{first_columns}
-use Rattle.tables.specs.declared.entry.EntryRow.{EntryRow}
+use Rattle.tables.proofs.Vocabulary.{◌≡◌, [], ◌∷◌, take, drop, subst, sym, ap, ◌∙◌, FitsMaxLength, Prefix, Value, Row, column, entry_cells, prefix_cells, number_cell, first_columns, EntryRow}
 use Rattle.tables.proofs.CellsOnce.{one_prefix}
 use Rattle.tables.proofs.entry.EntryRowFromRow.in_row.Goals as goal
 

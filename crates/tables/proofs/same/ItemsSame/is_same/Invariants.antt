@@ -1,4 +1,5 @@
-use Rattle.std.proofs.Common.{◌≡◌, All, take}
+use Rattle.tables.proofs.Vocabulary.{◌≡◌, take}
+use Rattle.std.proofs.Common.{All}
 use Rattle.tables.proofs.same.ItemsSame.is_same.Given as goal
 
 -- the items before this one are plain and the same

@@ -1,4 +1,4 @@
-use Rattle.payload.proofs.Names.{sym, ◌∙◌, ne_eqb, top_of}
+use Rattle.payload.proofs.Vocabulary.{sym, ◌∙◌, ne_eqb, top_of}
 use Rattle.payload.proofs.Grown.{full-grown}
 use Rattle.payload.proofs.trie.node.Node.is_bare.Goals as goal
 

@@ -1,4 +1,4 @@
-use Rattle.payload.proofs.Names.{◌-◌, sym, arith}
+use Rattle.payload.proofs.Vocabulary.{◌-◌, sym, arith}
 use Rattle.payload.proofs.Skips.{drop-low_bits, size_of}
 use Rattle.payload.proofs.trie.skipped.Skipped.after.Goals as goal
 

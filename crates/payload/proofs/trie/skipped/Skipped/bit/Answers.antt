@@ -1,4 +1,4 @@
-use Rattle.payload.proofs.Names.{arith}
+use Rattle.payload.proofs.Vocabulary.{arith}
 use Rattle.payload.proofs.Skips.{size_of, low_bits-next}
 use Rattle.payload.proofs.trie.skipped.Skipped.bit.Goals as goal
 

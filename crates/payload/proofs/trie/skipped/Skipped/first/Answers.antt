@@ -1,4 +1,4 @@
-use Rattle.payload.proofs.Names.{◌-◌, arith}
+use Rattle.payload.proofs.Vocabulary.{◌-◌, arith}
 use Rattle.payload.proofs.Skips.{size_of, take-low_bits}
 use Rattle.payload.proofs.trie.skipped.Skipped.first.Goals as goal
 

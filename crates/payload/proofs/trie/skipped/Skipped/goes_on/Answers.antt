@@ -1,4 +1,4 @@
-use Rattle.payload.proofs.Names.{◌+◌, ◌∙◌, ap, arith, drop, common}
+use Rattle.payload.proofs.Vocabulary.{◌+◌, ◌∙◌, ap, arith, drop, common}
 use Rattle.payload.proofs.Bits.{bits_from-end, bits_from-next}
 use Rattle.payload.proofs.Grown.{common-nil, common-same, common-unlike}
 use Rattle.payload.proofs.trie.skipped.Skipped.goes_on.Goals as goal

@@ -1,4 +1,4 @@
-use Rattle.payload.proofs.Names.{◌%◌, sym, ap, ◌∙◌, one_shl}
+use Rattle.payload.proofs.Vocabulary.{◌%◌, sym, ap, ◌∙◌, one_shl}
 use Rattle.payload.proofs.Skips.{number-low_bits}
 use Rattle.payload.proofs.trie.skipped.Skipped.number.Goals as goal
 

@@ -1,4 +1,4 @@
-use Rattle.payload.proofs.Names.{◌-◌, arith}
+use Rattle.payload.proofs.Vocabulary.{◌-◌, arith}
 use Rattle.payload.proofs.Skips.{last-low_bits}
 use Rattle.payload.proofs.trie.skipped.Skipped.of.Goals as goal
 

@@ -1,4 +1,4 @@
-use Rattle.payload.proofs.Names.{arith, bits_from}
+use Rattle.payload.proofs.Vocabulary.{arith, bits_from}
 use Rattle.payload.proofs.Grown.{common-least}
 use Rattle.payload.proofs.Skips.{common-all, size_of}
 use Rattle.payload.proofs.trie.skipped.Skipped.shared.Goals as goal

@@ -1,4 +1,4 @@
-use Rattle.payload.proofs.Names.{◌≡◌, ◌+◌, ◌≤◌, drop, common, bits_from}
+use Rattle.payload.proofs.Vocabulary.{◌≡◌, ◌+◌, ◌≤◌, drop, common, bits_from}
 use Rattle.payload.proofs.trie.skipped.Skipped.shared.Given as goal
 
 -- the bits before this one are in common

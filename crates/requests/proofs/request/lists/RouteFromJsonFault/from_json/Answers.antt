@@ -1,4 +1,4 @@
-use Rattle.std.proofs.Common.{refl}
+use Rattle.requests.proofs.Vocabulary.{refl}
 use Rattle.requests.proofs.request.lists.RouteFromJsonFault.from_json.Goals as goal
 
 pub returns : goal.returns
