@@ -4,7 +4,7 @@ pub mod Loading
 mod NumberFound
 pub mod GivenAuths
 mod HeldEntries
-mod LastClaim
+mod ClaimCount
 mod Overlapping
 mod Claimed
 mod InForce

@@ -6,7 +6,7 @@ use Rattle.std.specs.List.{AllByRecursion}
 use Rattle.std.proofs.Math.Bool.{or-false}
 use Rattle.std.proofs.lemmas.Bool.Decides.{nat_tests}
 use Rattle.std.proofs.lemmas.List.Elements.{All-nil, All-cons, All-from_recursion, recursion_from_All}
-use Rattle.std.proofs.lemmas.List.{length-map, nil_from_length}
+use Rattle.std.proofs.lemmas.List.{nil_from_length}
 use Rattle.std.proofs.lemmas.List.Folds.{list_any-append}
 use Rattle.std.proofs.lemmas.List.Sorted.{list_any-IsPermutation, length_permutation, IsPermutation-refl}
 use Rattle.sqlite.specs.Effect.{Database}
@@ -28,7 +28,7 @@ use Rattle.tables.specs.Cells.{grant_cells}
 use Rattle.tables.specs.Decode.{ClaimFits, EntryRowFits}
 use Rattle.tables.specs.Groups.{claim_entry}
 use Rattle.tables.specs.TablesHold.{items_if_any, TablesHold}
-use Rattle.loads.specs.Loads.{IsOf, IsOpenWith, AreCounted, AreGrants, AreInOrder, HaveSame, AreLoaded, auths_held}
+use Rattle.loads.specs.Loads.{IsOf, IsOpenWith, AreCounted, AreGrants, AreInOrder, HaveSame, AreLoaded}
 use Rattle.loads.specs.steps.Queries.{by_column, counters_if_any}
 use Rattle.tables.specs.declared.claim.Claim.{Claim}
 use Rattle.tables.specs.declared.holder.Counters.{Counters}
@@ -85,11 +85,6 @@ claims_fit None fit = All-nil ClaimFits
 claims_fit (Some r) fit =
     All-from_recursion ClaimFits (map claim_of r.auths)
     (all-map ClaimFits claim_of r.auths (all_weaker AuthFits (λ x. ClaimFits (claim_of x)) claim_fits r.auths (recursion_from_All AuthFits r.auths fit.auths)))
-
--- each authorization has one claim
-pub length-claims : (o : Option Rows) (claims : List Claim) → IsPermutation (items_if_any (λ r. map claim_of r.auths) o) claims → length claims ≡ length (auths_held o)
-length-claims None claims same = length_permutation _ _ same
-length-claims (Some r) claims same = length_permutation _ _ same ∙ length-map r.auths claim_of
 
 pub entries_fit : (o : Option Rows) → FitIfAny o → All EntryRowFits (items_if_any (λ r. flat_map entry_rows_of r.auths) o)
 entries_fit None fit = All-nil EntryRowFits

@@ -1,5 +1,5 @@
 //! What the rules of a command read, loaded from the tables.
-ghost use Rattle.std.specs.Prelude.{◌≡◌, ◌∷◌, ◌↔◌, [], true, ℕ, Option, Some, Err, IfOk, IfSome, IsPermutation, IsTrue, length, nat_le, option_copied};
+ghost use Rattle.std.specs.Prelude.{◌≡◌, ◌≢◌, ◌∷◌, ◌↔◌, [], true, ℕ, Option, Some, Err, IfOk, IfSome, IsPermutation, IsTrue, length, nat_le, option_copied};
 ghost use Rattle.std.specs.List.{list_any};
 ghost use Rattle.sqlite.specs.Held.{state};
 ghost use Rattle.registry.specs.declared.limits.TheConstants.{MOST_AUTHORIZATIONS};
@@ -12,7 +12,9 @@ ghost use Rattle.transactions.specs.Queries.{IsAsked, IsClean, IsReadyToAsk};
 ghost use Rattle.loads.specs.Loads.{AreAnswers, AreCounted, AreHeld, IsForAmend, IsForCreate, IsForDelegate, IsOf, IsOfAll, IsOpenWith, IsToldWhereApart, auths_held, created_if_any, entries_given, entries_up_to, is_other, some_gives};
 
 use crate::below::{is_held, is_taken};
-use crate::load::{load_counters, load_grants, load_holdings, load_numbered, load_selected};
+use crate::load::{
+    count_auths, load_counters, load_grants, load_holdings, load_numbered, load_selected,
+};
 use addr::{Asn, Holdings, Name, Prefix};
 use registry::{
     Answers, Auth, AuthTerms, HolderRows, MOST_AUTHORIZATIONS, RoaPrefix, auth_of_number,
@@ -20,10 +22,10 @@ use registry::{
 use sqlite::{Alter, Connection, Error};
 use std::alloc::Global;
 use tables::{
-    Counters, EntryRow, SELECT_ENTRIES_UP_TO, SELECT_GIVEN_ENTRIES, SELECT_THOUSANDTH_CLAIM,
-    address_bytes, given_values, name_values, up_to_values,
+    Counters, EntryRow, SELECT_ENTRIES_UP_TO, SELECT_GIVEN_ENTRIES, address_bytes, given_values,
+    up_to_values,
 };
-use transactions::{StoreFault, ask};
+use transactions::StoreFault;
 
 /// What is loaded for a command: rows with at least what its rules read, of the holder that it
 /// names, and of the taker of a transfer; and what the rules read beside rows.
@@ -247,11 +249,10 @@ fn load_full<S: Alter>(conn: &mut Connection<S>, holder: &Name) -> Result<bool, 
     ensures found { IsClean S.Store conn.new → IfOk result (λ is_full.
         IsOf (λ rows. is_full ≡ nat_le MOST_AUTHORIZATIONS (length (auths_held rows)))
         holder.now (state S.Store conn.old)) }
-    ensures schema { IsClean S.Store conn.new → result ≡ Err StoreFault.Schema
-        → IsOpenWith (λ all. ¬ FitIfAny (all.of_holder holder.now)) (state S.Store conn.old) }
+    ensures no_schema { result ≢ Err StoreFault.Schema }
 {
-    let found = ask(conn, SELECT_THOUSANDTH_CLAIM, &name_values(holder))?;
-    Ok(!found.is_empty())
+    let count = count_auths(conn, holder)?;
+    Ok(count as usize >= MOST_AUTHORIZATIONS)
 }
 
 /// What the rules of a create read beside the grants, if so many authorizations were made at the

@@ -26,8 +26,8 @@ use sqlite::types::ValueRef;
 use sqlite::{Alter, Connection};
 use std::alloc::{AllocError, Global};
 use tables::{
-    Claim, Counters, EntryRow, FromRow, SELECT_NUMBERED_CLAIM, SELECT_NUMBERED_ENTRIES, auths_of,
-    name_values, number_values,
+    COUNT_HOLDER_CLAIMS, Claim, Counters, EntryRow, FromRow, SELECT_NUMBERED_CLAIM,
+    SELECT_NUMBERED_ENTRIES, auths_of, count_in, name_values, number_values,
 };
 use transactions::{StoreFault, ask, read_all};
 
@@ -213,21 +213,19 @@ fn load_auths<S: Alter>(
     auths_of(alloc, &claims, &rows)?.ok_or(StoreFault::Schema)
 }
 
-/// How many authorizations the holder has.
-pub fn count_auths<S: Alter>(
-    conn: &mut Connection<S>,
-    alloc: Global,
-    holder: &Name,
-) -> Result<usize, StoreFault>
+/// How many authorizations the holder has. Fault `Database`: 2 ^ 32 or more.
+pub fn count_auths<S: Alter>(conn: &mut Connection<S>, holder: &Name) -> Result<u32, StoreFault>
     requires { IsReadyToAsk S.Store conn.old }
     ensures asked { IsAsked S.Store conn.old conn.new result }
     ensures found { IsClean S.Store conn.new → IfOk result (λ count.
         IsOf (λ rows. count ≡ length (auths_held rows)) holder.now (state S.Store conn.old)) }
-    ensures schema { IsClean S.Store conn.new → result ≡ Err StoreFault.Schema
-        → IsOpenWith (λ all. ¬ FitIfAny (all.of_holder holder.now)) (state S.Store conn.old) }
+    ensures no_schema { result ≢ Err StoreFault.Schema }
 {
-    let claims: Vec<Claim> = load_values(conn, alloc, holder)?;
-    Ok(claims.len())
+    let found = ask(conn, COUNT_HOLDER_CLAIMS, &name_values(holder))?;
+    let Some(row) = found.first() else {
+        return Err(StoreFault::Database);
+    };
+    count_in(row).ok_or(StoreFault::Database)
 }
 
 /// The authorizations of the holder that have the number. In a history there is one at most.

@@ -1,5 +1,5 @@
 //! What is loaded for hypothetical changes.
-ghost use Rattle.std.specs.Prelude.{◌≡◌, ◌≤◌, ◌+◌, ◌<◌, ◌||◌, ◌⊎◌, ◌++◌, ℕ, map, filter, length, Err, IfOk, OnOk, IsTrue};
+ghost use Rattle.std.specs.Prelude.{◌≡◌, ◌≢◌, ◌≤◌, ◌+◌, ◌<◌, ◌||◌, ◌⊎◌, ◌++◌, ℕ, map, filter, length, Err, IfOk, OnOk, IsTrue};
 ghost use Rattle.std.specs.List.Sorted.{IsStrictlySortedBy};
 ghost use Rattle.std.specs.Ordering.{nat_cmp};
 ghost use Rattle.sqlite.specs.Held.{state};
@@ -174,7 +174,6 @@ fn load_looked_for<S: Alter>(
 /// and 0 is answered, if fewer than it may have were made, with so many more.
 fn count_others<S: Alter>(
     conn: &mut Connection<S>,
-    alloc: Global,
     holder: &Name,
     created: u32,
     more: usize,
@@ -187,17 +186,13 @@ fn count_others<S: Alter>(
         loaded ≤ length (auths_held rows) → (others + loaded ≡ length (auths_held rows))
         ⊎ ((others ≡ 0) × (created + more < MOST_AUTHORIZATIONS)))
         holder.now (state S.Store conn.old)) }
-    ensures schema { IsClean S.Store conn.new → result ≡ Err StoreFault.Schema
-        → IsOpenWith (λ all. ¬ FitIfAny (all.of_holder holder.now)) (state S.Store conn.old) }
+    ensures no_schema { result ≢ Err StoreFault.Schema }
 {
     if (created as usize).saturating_add(more) < MOST_AUTHORIZATIONS {
         return Ok(0);
     }
-    let count = count_auths(conn, alloc, holder)?;
-    match u32::try_from(count.saturating_sub(loaded)) {
-        Ok(others) => Ok(others),
-        Err(_) => Err(StoreFault::Database),
-    }
+    let count = count_auths(conn, holder)?;
+    Ok((count as usize).saturating_sub(loaded) as u32)
 }
 
 /// What the rules of the changes read of the holder.
@@ -223,7 +218,7 @@ pub(crate) fn load_part<S: Alter>(
     let holdings = load_runs(conn, alloc, holder)?;
     let auths = load_looked_for(conn, alloc, holder, changes)?;
     let created = counted.created;
-    let left_out = count_others(conn, alloc, holder, created, changes.len(), auths.len())?;
+    let left_out = count_others(conn, holder, created, changes.len(), auths.len())?;
     let rows = HolderRows {
         holdings,
         grants: counted.grants,

@@ -1,10 +1,10 @@
 -- What the statements of claims and entries mean over the tables of a desk. Each fact is computed.
-use Rattle.tables.proofs.Vocabulary.{List, [], ◌∷◌, ◌-◌, pos, codes, refl, Binary, Int, Values, Insert, Update, Delete, Select, Le, Ge, Compare, Term, lit, col, op2}
+use Rattle.tables.proofs.Vocabulary.{List, [], ◌∷◌, codes, refl, Binary, Values, Insert, Update, Delete, Select, Le, Ge, Compare, Term, col, op2}
 use Rattle.sqlite.specs.Listing.{understood}
 use Rattle.sqlite_tied.specs.Compute.{everything}
-use Rattle.registry.specs.declared.limits.TheConstants.{MOST_AUTHORIZATIONS}
-use Rattle.tables.specs.declared.claim.TheConstants.{INSERT_CLAIM, UPDATE_CLAIM, DELETE_CLAIM, SELECT_HOLDER_CLAIMS, SELECT_NUMBERED_CLAIM, SELECT_THOUSANDTH_CLAIM, SELECT_ALL_CLAIMS, SELECT_CLAIMS_IN_FORCE}
+use Rattle.tables.specs.declared.claim.TheConstants.{INSERT_CLAIM, UPDATE_CLAIM, DELETE_CLAIM, SELECT_HOLDER_CLAIMS, SELECT_NUMBERED_CLAIM, COUNT_HOLDER_CLAIMS, SELECT_ALL_CLAIMS, SELECT_CLAIMS_IN_FORCE}
 use Rattle.tables.specs.declared.entry.TheConstants.{INSERT_ENTRY, DELETE_ENTRIES, SELECT_HOLDER_ENTRIES, SELECT_NUMBERED_ENTRIES, SELECT_GIVEN_ENTRIES, SELECT_ENTRIES_UP_TO, SELECT_ALL_ENTRIES, SELECT_PAYLOADS}
+use Rattle.tables.proofs.Counting.{count_from}
 use Rattle.tables.proofs.Selecting.{from_table, no_limit}
 use Rattle.tables.proofs.Texts.{Means, equals, upwards, put_terms}
 
@@ -48,10 +48,10 @@ pub numbered_claim_is : Means SELECT_NUMBERED_CLAIM.now (Select (record { lets =
 unfolding understood everything
 numbered_claim_is = record { is = λ s. refl; plain = λ s. (refl, refl); unlisted = λ s. refl }
 
--- the row of the last claim that the holder ?1 may have
-pub thousandth_claim_is : Means SELECT_THOUSANDTH_CLAIM.now (Select (record { lets = []; body = record (from_table 17 (equals 1 0 ∷ []) (lit (Int (pos 1)) ∷ []) [] (lit (Int (pos 1)))) { offset = lit (Int (pos (MOST_AUTHORIZATIONS - 1))) } }) (codes "1" ∷ []))
+-- the number of the claims of the holder ?1
+pub count_claims_is : Means COUNT_HOLDER_CLAIMS.now (Select (record { lets = []; body = count_from 17 (equals 1 0 ∷ []) }) (codes "COUNT(*)" ∷ []))
 unfolding understood everything
-thousandth_claim_is = record { is = λ s. refl; plain = λ s. (refl, refl); unlisted = λ s. refl }
+count_claims_is = record { is = λ s. refl; plain = λ s. (refl, refl); unlisted = λ s. refl }
 
 pub numbered_entries_is : Means SELECT_NUMBERED_ENTRIES.now (Select (record { lets = []; body = from_table 19 of_number_tests (col 1 2 ∷ col 1 3 ∷ col 1 4 ∷ col 1 5 ∷ col 1 6 ∷ col 1 7 ∷ []) (upwards 2 ∷ upwards 4 ∷ upwards 5 ∷ upwards 6 ∷ []) no_limit }) (codes "number" ∷ codes "asn" ∷ codes "family" ∷ codes "lo" ∷ codes "len" ∷ codes "max" ∷ []))
 unfolding understood everything

@@ -7,6 +7,7 @@ pub mod Childless
 pub mod ClaimTexts
 pub mod Claims
 pub mod Columns
+pub mod Counting
 pub mod Deleting
 pub mod DeskTables
 pub mod ExceptionTexts

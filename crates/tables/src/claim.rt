@@ -38,10 +38,8 @@ pub const SELECT_HOLDER_CLAIMS: &str = "\
 pub const SELECT_NUMBERED_CLAIM: &str = "\
     SELECT number, asn, opens, ends FROM claim WHERE holder = ?1 AND number = ?2 ORDER BY number";
 
-/// One row if the holder has 1000 claims, as many as it may have. The offset is
-/// `MOST_AUTHORIZATIONS` minus 1.
-pub const SELECT_THOUSANDTH_CLAIM: &str = "\
-    SELECT 1 FROM claim WHERE holder = ?1 LIMIT 1 OFFSET 999";
+/// The number of claims of a holder.
+pub const COUNT_HOLDER_CLAIMS: &str = "SELECT COUNT(*) FROM claim WHERE holder = ?1";
 
 /// All claims, the names of their holders, and their rowids.
 pub const SELECT_ALL_CLAIMS: &str = "\

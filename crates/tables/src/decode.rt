@@ -48,6 +48,13 @@ pub(crate) fn decode_u32(value: ValueRef<'_>) -> Option<u32>
     }
 }
 
+/// The number in a row of one number, such as that of `SELECT COUNT(*)`, if it is below 2 ^ 32.
+pub fn count_in(row: &Row) -> Option<u32>
+    ensures { Decodes number_cell IsU32 (column row.now 0) result }
+{
+    decode_u32(cell(row, 0))
+}
+
 /// How many grants or authorizations were made.
 pub(crate) fn decode_count(value: ValueRef<'_>) -> Option<u32>
     ensures { Decodes number_cell IsCount (owned value.entry) result }

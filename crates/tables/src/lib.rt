@@ -24,11 +24,11 @@ pub use auth::{CREATE_AUTH, SELECT_ALL_AUTHS};
 pub use authorizations::auths_of;
 pub use cells::{address_bytes, family_number, name_values, number_values, prefix_values};
 pub use claim::{
-    CREATE_CLAIM, Claim, DELETE_CLAIM, INSERT_CLAIM, SELECT_ALL_CLAIMS, SELECT_CLAIMS_IN_FORCE,
-    SELECT_HOLDER_CLAIMS, SELECT_NUMBERED_CLAIM, SELECT_THOUSANDTH_CLAIM, UPDATE_CLAIM, claim_of,
+    COUNT_HOLDER_CLAIMS, CREATE_CLAIM, Claim, DELETE_CLAIM, INSERT_CLAIM, SELECT_ALL_CLAIMS,
+    SELECT_CLAIMS_IN_FORCE, SELECT_HOLDER_CLAIMS, SELECT_NUMBERED_CLAIM, UPDATE_CLAIM, claim_of,
     claim_values,
 };
-pub use decode::cell;
+pub use decode::{cell, count_in};
 pub use entry::{
     CREATE_ENTRY, DELETE_ENTRIES, EntryRow, INSERT_ENTRY, SELECT_ALL_ENTRIES, SELECT_ENTRIES_UP_TO,
     SELECT_GIVEN_ENTRIES, SELECT_HOLDER_ENTRIES, SELECT_NUMBERED_ENTRIES, SELECT_PAYLOADS,

@@ -45,15 +45,7 @@ returns-in_err-answers-clause-schema g c clean is =
 
 pub returns-in_err-answers-2-clause-schema : goal.returns-in_err-answers-2-clause-schema
 returns-in_err-answers-2-clause-schema g c clean is =
-    let old = state g.S.Store c.args.conn.now in
-    let mid = state g.S.Store c.are_held.new.conn in
-    let mid_2 = state g.S.Store c.some_given.new.conn in
-    let before_2 : HasCleanDisk mid_2 = omega (arith, clean, c.load_full.ensures.asked.survives.clean) in
-    let before : HasCleanDisk mid = omega (arith, before_2, c.some_given.ensures.asked.survives.clean) in
-    let read = c.in_ok-holds.ensures.asked.same before in
-    refused_before (λ all. ¬ FitIfAny (all.of_holder c.args.holder.now)) old mid_2 read.0.was_open
-    ((c.in_ok-answers.ensures.asked.same before_2).0.now_is ∙ read.0.now_is)
-    (c.load_full.ensures.schema clean (refused_by c.load_full.result c.from_residual-in_err-answers-2.result c.in_err-answers-2.field-0.0 c.in_err-answers-2.was c.from_residual-in_err-answers-2.ensures.1 is))
+    absurd (c.load_full.ensures.no_schema (refused_by c.load_full.result c.from_residual-in_err-answers-2.result c.in_err-answers-2.field-0.0 c.in_err-answers-2.was c.from_residual-in_err-answers-2.ensures.1 is))
 
 pub returns-clause-found : goal.returns-clause-found
 returns-clause-found g c clean charter all holds made =

@@ -1,16 +1,17 @@
-use Rattle.std.proofs.Common.{map, arith}
+use Rattle.std.proofs.Common.{ap, arith, slice_get, sym, ◌∙◌}
 use Rattle.sqlite.specs.Held.{state}
-use Rattle.tables.specs.Authorizations.{claim_of}
-use Rattle.tables.specs.Decode.{ClaimFits}
-use Rattle.transactions.proofs.QueryLemmas.{refused_by}
-use Rattle.loads.proofs.Loading.{claims_fit, length-claims, never_fit_first}
+use Rattle.sqlite.specs.State.{HasCleanDisk}
+use Rattle.tables.proofs.ClaimTexts.{count_claims_is}
+use Rattle.loads.proofs.ClaimCount.{if-read, number-read, row-is}
 use Rattle.loads.proofs.load.count_auths.Goals as goal
 
-pub returns-in_err-claims-clause-schema : goal.returns-in_err-claims-clause-schema
-returns-in_err-claims-clause-schema g c clean is =
-    never_fit_first ClaimFits (λ r. map claim_of r.auths) claims_fit c.args.holder.now (state g.S.Store c.args.conn.now)
-    (c.load_values.ensures.schema clean (refused_by c.load_values.result c.from_residual.result c.in_err-claims.field-0.0 c.in_err-claims.was c.from_residual.ensures.1 is))
+pub ask-requires-clause-plain : goal.ask-requires-clause-plain
+ask-requires-clause-plain g c = count_claims_is.plain
 
 pub returns-clause-found : goal.returns-clause-found
-returns-clause-found g c clean charter all holds =
-    omega (arith, c.len.ensures, c.in_ok-claims.claims.ok.0, length-claims (all.of_holder c.args.holder.now) c.in_ok-claims.claims.items (c.in_ok-claims.ensures.found clean charter all holds))
+returns-clause-found g c clean =
+    let old = state g.S.Store c.args.conn.now in
+    let begun : HasCleanDisk old = omega (arith, clean, c.ask.ensures.asked.survives.clean) in
+    let answer = row-is c.args.holder.now old (state g.S.Store c.ask.new.conn) (c.requires.tables begun) _ c.name_values.ensures c.in_ok-found.found.items (c.in_ok-found.ensures.shown clean) in
+    let first = sym (c.in-Some.ensures.value ∙ ap (λ l. slice_get l 0) c.deref.ensures.value) in
+    rw c.ok_or.ensures.value (if-read c.count_in.result _ c.in-Some.row.now _ (λ m fits shown charter all holds. number-read _ m _ _ (answer charter all holds) first fits shown) c.count_in.ensures)

@@ -35,13 +35,7 @@ returns-in_err-auths-clause-schema g c clean is =
 
 pub returns-in_err-left_out-clause-schema : goal.returns-in_err-left_out-clause-schema
 returns-in_err-left_out-clause-schema g c clean is =
-    let old = state g.S.Store c.args.conn.now in
-    let mid = state g.S.Store c.load_looked_for.new.conn in
-    let counted = c.in_ok-counted.ensures.asked.same (omega (arith, clean, c.load_runs.ensures.asked.survives.clean, c.load_looked_for.ensures.asked.survives.clean, c.count_others.ensures.asked.survives.clean)) in
-    let held = c.in_ok-holdings.ensures.asked.same (omega (arith, clean, c.load_looked_for.ensures.asked.survives.clean, c.count_others.ensures.asked.survives.clean)) in
-    let found = c.in_ok-auths.ensures.asked.same (omega (arith, clean, c.count_others.ensures.asked.survives.clean)) in
-    refused_before (λ all. ¬ FitIfAny (all.of_holder c.args.holder.now)) old mid counted.0.was_open (found.0.now_is ∙ held.0.now_is ∙ counted.0.now_is)
-    (c.count_others.ensures.schema clean (refused_by c.count_others.result c.from_residual-in_err-left_out.result c.in_err-left_out.field-0.0 c.in_err-left_out.was c.from_residual-in_err-left_out.ensures.1 is))
+    absurd (c.count_others.ensures.no_schema (refused_by c.count_others.result c.from_residual-in_err-left_out.result c.in_err-left_out.field-0.0 c.in_err-left_out.was c.from_residual-in_err-left_out.ensures.1 is))
 
 pub returns-clause-found : goal.returns-clause-found
 returns-clause-found g c clean charter all holds =
