@@ -7,4 +7,5 @@ pub mod Name
 pub mod Day
 pub mod Digits
 pub mod PrefixText
+pub mod VrpParts
 pub mod steps

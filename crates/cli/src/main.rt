@@ -1,12 +1,12 @@
 //! The program `roadesk`, a hosted route origin authorization desk.
 #![tactic(auto)]
 
-use command_line::{ProgramFault, read_words};
+use cli_tasks::fault::fault_of_error;
+use cli_tasks::{Host, run_task};
+use cli_texts::{ProgramFault, read_words};
 use std::env;
 use std::process::ExitCode;
 use std::rt::HostRuntime;
-use tasks::fault::fault_of_error;
-use tasks::{Host, run_task};
 
 fn main(rt: HostRuntime) -> ExitCode {
     match run_program(&rt) {

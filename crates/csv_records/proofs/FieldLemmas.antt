@@ -8,27 +8,27 @@ use Rattle.std.specs.Borrow.{Bor}
 use Rattle.std.proofs.lemmas.Slice.Eq.{bytes_eq-Decides}
 use Rattle.std.specs.Str.{bytes_eq}
 use Rattle.csv.specs.Records.{field_at}
-use Rattle.csv_records.specs.Fields.{Fields, field_in, two_of, three_of, fields_eq, rows_after, texts_of}
+use Rattle.csv_records.specs.Fields.{RecordFields, field_in, two_of, three_of, fields_eq, rows_after, texts_of}
 
-pub three_of-no_first : (xs : Fields) → None ≡ field_at xs 0 → None ≡ three_of xs
+pub three_of-no_first : (xs : RecordFields) → None ≡ field_at xs 0 → None ≡ three_of xs
 unfolding field_at
 three_of-no_first [] e = refl
 three_of-no_first (a ∷ xs) e = cc
 
-pub three_of-no_second : (xs : Fields) → None ≡ field_at xs 1 → None ≡ three_of xs
+pub three_of-no_second : (xs : RecordFields) → None ≡ field_at xs 1 → None ≡ three_of xs
 unfolding field_at
 three_of-no_second [] e = refl
 three_of-no_second (a ∷ []) e = refl
 three_of-no_second (a ∷ b ∷ xs) e = cc
 
-pub three_of-no_third : (xs : Fields) → None ≡ field_at xs 2 → None ≡ three_of xs
+pub three_of-no_third : (xs : RecordFields) → None ≡ field_at xs 2 → None ≡ three_of xs
 unfolding field_at
 three_of-no_third [] e = refl
 three_of-no_third (a ∷ []) e = refl
 three_of-no_third (a ∷ b ∷ []) e = refl
 three_of-no_third (a ∷ b ∷ c ∷ xs) e = cc
 
-pub three_of-all : (xs : Fields) (x y z : List ℕ) → length xs ≡ 3 → Some x ≡ field_at xs 0 → Some y ≡ field_at xs 1 → Some z ≡ field_at xs 2 → Some (x, (y, z)) ≡ three_of xs
+pub three_of-all : (xs : RecordFields) (x y z : List ℕ) → length xs ≡ 3 → Some x ≡ field_at xs 0 → Some y ≡ field_at xs 1 → Some z ≡ field_at xs 2 → Some (x, (y, z)) ≡ three_of xs
 unfolding field_at
 three_of-all [] x y z n e f g = cc
 three_of-all (a ∷ []) x y z n e f g = cc
@@ -36,31 +36,31 @@ three_of-all (a ∷ b ∷ []) x y z n e f g = cc
 three_of-all (a ∷ b ∷ c ∷ []) x y z n e f g = cc
 three_of-all (a ∷ b ∷ c ∷ d ∷ xs) x y z n e f g = absurd (omega arith)
 
-pub two_of-no_first : (xs : Fields) → None ≡ field_at xs 0 → None ≡ two_of xs
+pub two_of-no_first : (xs : RecordFields) → None ≡ field_at xs 0 → None ≡ two_of xs
 unfolding field_at
 two_of-no_first [] e = refl
 two_of-no_first (a ∷ xs) e = cc
 
-pub two_of-no_second : (xs : Fields) → None ≡ field_at xs 1 → None ≡ two_of xs
+pub two_of-no_second : (xs : RecordFields) → None ≡ field_at xs 1 → None ≡ two_of xs
 unfolding field_at
 two_of-no_second [] e = refl
 two_of-no_second (a ∷ []) e = refl
 two_of-no_second (a ∷ b ∷ xs) e = cc
 
-pub two_of-all : (xs : Fields) (x y : List ℕ) → length xs ≡ 2 → Some x ≡ field_at xs 0 → Some y ≡ field_at xs 1 → Some (x, y) ≡ two_of xs
+pub two_of-all : (xs : RecordFields) (x y : List ℕ) → length xs ≡ 2 → Some x ≡ field_at xs 0 → Some y ≡ field_at xs 1 → Some (x, y) ≡ two_of xs
 unfolding field_at
 two_of-all [] x y n e f = cc
 two_of-all (a ∷ []) x y n e f = cc
 two_of-all (a ∷ b ∷ []) x y n e f = cc
 two_of-all (a ∷ b ∷ d ∷ xs) x y n e f = absurd (omega arith)
 
-pub field_in-none : (xs : Fields) (i : ℕ) → None ≡ field_at xs i → [] ≡ field_in i xs
+pub field_in-none : (xs : RecordFields) (i : ℕ) → None ≡ field_at xs i → [] ≡ field_in i xs
 unfolding field_at
 field_in-none [] i e = refl
 field_in-none (a ∷ xs) zero e = cc
 field_in-none (a ∷ xs) (suc i) e = field_in-none xs i e
 
-pub same_fields : (xs ys : Fields) → fields_eq xs ys ≡ true → xs ≡ ys
+pub same_fields : (xs ys : RecordFields) → fields_eq xs ys ≡ true → xs ≡ ys
 same_fields [] [] e = refl
 same_fields [] (b ∷ ys) e = cc
 same_fields (a ∷ xs) [] e = cc
@@ -69,14 +69,14 @@ same_fields (a ∷ xs) (b ∷ ys) e = elim (cases_Bool (bytes_eq a b)) [
   | inr other ↦ let h = rw other at e in cc
 ]
 
-pub fields_eq-length : (xs ys : Fields) → (length xs ≡ length ys → ⊥) → false ≡ fields_eq xs ys
+pub fields_eq-length : (xs ys : RecordFields) → (length xs ≡ length ys → ⊥) → false ≡ fields_eq xs ys
 fields_eq-length xs ys other = elim (cases_Bool (fields_eq xs ys)) [
-  | inl same ↦ absurd (other (ap (λ (t : Fields). length t) (same_fields xs ys same)))
+  | inl same ↦ absurd (other (ap (λ (t : RecordFields). length t) (same_fields xs ys same)))
   | inr apart ↦ sym apart
 ]
 
 -- the fields from a place on are equal where the first of them is and the others are
-pub fields_eq-drop : (xs ys : Fields) (i : ℕ) (x : List ℕ) → Some x ≡ field_at xs i → i < length ys
+pub fields_eq-drop : (xs ys : RecordFields) (i : ℕ) (x : List ℕ) → Some x ≡ field_at xs i → i < length ys
     → fields_eq (drop i xs) (drop i ys) ≡ (bytes_eq x (get_or ys i []) && fields_eq (drop (i + 1) xs) (drop (i + 1) ys))
 unfolding field_at
 fields_eq-drop [] ys i x e inside = cc
@@ -87,7 +87,7 @@ fields_eq-drop (a ∷ xs) (b ∷ ys) (suc i) x e inside =
     rw next (fields_eq-drop xs ys i x e (omega arith))
 
 -- the same, where the other fields are texts and this one was compared with its text
-pub texts-next : (xs : Fields) (ts : List (Bor (List ℕ))) (i : ℕ) (x y : List ℕ) (d : Bor (List ℕ)) (same : Bool)
+pub texts-next : (xs : RecordFields) (ts : List (Bor (List ℕ))) (i : ℕ) (x y : List ℕ) (d : Bor (List ℕ)) (same : Bool)
     → Some x ≡ field_at xs i → i < length ts → y ≡ (get_or ts i d).now → bytes_eq x y ≡ same
     → fields_eq (drop i xs) (drop i (texts_of ts)) ≡ (same && fields_eq (drop (i + 1) xs) (drop (i + 1) (texts_of ts)))
 texts-next xs ts i x y d same e inside is eq =
@@ -110,16 +110,16 @@ line-parts number asn prefix max from until = simp (append_assoc, append-first, 
 
 -- ---- headers
 
-pub header-same : (header first : Fields) (all rest : List Fields) → all ≡ first ∷ rest → true ≡ fields_eq first header
+pub header-same : (header first : RecordFields) (all rest : List RecordFields) → all ≡ first ∷ rest → true ≡ fields_eq first header
     → rows_after header all ≡ Some rest
 header-same header first all rest e same = rw (e, ← same) refl
 
-pub header-other : (header first : Fields) (all rest : List Fields) → all ≡ first ∷ rest → false ≡ fields_eq first header
+pub header-other : (header first : RecordFields) (all rest : List RecordFields) → all ≡ first ∷ rest → false ≡ fields_eq first header
     → rows_after header all ≡ None
 header-other header first all rest e other = rw (e, ← other) refl
 
 -- then the header is the first record
-pub header-there : (header : Fields) (all rest : List Fields) → rows_after header all ≡ Some rest → all ≡ header ∷ rest
+pub header-there : (header : RecordFields) (all rest : List RecordFields) → rows_after header all ≡ Some rest → all ≡ header ∷ rest
 header-there header [] rest is = cc
 header-there header (first ∷ rows) rest is = elim (cases_Bool (fields_eq first header)) [
   | inl same ↦ let h = same_Some _ _ (rw same at is) in rw (same_fields first header same, h) refl

@@ -16,17 +16,17 @@ use Rattle.json_values.proofs.ReadingLemmas.{Reads, reads-both, reads-each, read
 use Rattle.json_values.specs.Faults.{fault_unless, lower_of, lowest}
 use Rattle.json_values.specs.Parts.{and_then, each, lower, mapped}
 use Rattle.csv_records.specs.CsvRecords.{csv_records}
-use Rattle.csv_records.specs.Fields.{Fields, field_in, fields_eq, rows_after}
+use Rattle.csv_records.specs.Fields.{RecordFields, field_in, fields_eq, rows_after}
 use Rattle.csv_records.specs.Imports.{import_fault, import_fault_number, import_faults, import_header, is_row_count, IsImportText, max_in, named_asn, row_faults, SaysRow}
 use Rattle.csv_records.specs.declared.imports.ImportFault.{ImportFault}
 use Rattle.csv_records.specs.declared.imports.ImportFault.TheVariants.{Form, Prefix, Asn, Max, Day, Count}
-use Rattle.csv_records.specs.steps.Importing.{counted, import_in, row_of_parts, row_in_fields, row_of, rows_in}
+use Rattle.csv_records.specs.steps.Importing.{counted, import_in, row_of_parts, row_in_fields, row_or_fault, rows_in_records}
 use Rattle.csv_records.proofs.FieldLemmas.{same_fields}
 
 -- ---- rows
 
-pub row_in_fields-five : (xs : Fields) → length xs ≡ 5
-    → row_in_fields xs ≡ row_of (named_asn (field_in 0 xs)) (spelled_prefix (field_in 1 xs)) (max_in (field_in 2 xs))
+pub row_in_fields-five : (xs : RecordFields) → length xs ≡ 5
+    → row_in_fields xs ≡ row_or_fault (named_asn (field_in 0 xs)) (spelled_prefix (field_in 1 xs)) (max_in (field_in 2 xs))
     (day_in (field_in 3 xs)) (day_in (field_in 4 xs))
 row_in_fields-five (a ∷ b ∷ c ∷ d ∷ e ∷ []) five = refl
 row_in_fields-five other five = cc
@@ -38,7 +38,7 @@ module _ (asn : Option AsnNumber) (prefix : Option PrefixValue) (max from until 
       fault_unless (is_some asn) Asn ++ fault_unless (is_some prefix) Prefix ++ fault_unless (is_some max) Max
       ++ fault_unless (is_some from) Day ++ fault_unless (is_some until) Day
 
-  reads-of : Reads import_fault_number (row_of asn prefix max from until) of_fields
+  reads-of : Reads import_fault_number (row_or_fault asn prefix max from until) of_fields
       (λ t. (asn ≡ Some t.asn) × (prefix ≡ Some t.prefix) × (max ≡ Some t.max) × (from ≡ Some t.from) × (until ≡ Some t.until))
   reads-of =
       reads-mapped row_of_parts (λ p says. (says.0.0.0.0, says.0.0.0.1, says.0.0.1, says.0.1, says.1))
@@ -48,11 +48,11 @@ module _ (asn : Option AsnNumber) (prefix : Option PrefixValue) (max from until 
       (reads-both (reads-ok_or asn Asn) (reads-ok_or prefix Prefix))
       (reads-ok_or max Max)) (reads-ok_or from Day)) (reads-ok_or until Day))
 
-reads-row : (fields : Fields) → Reads import_fault_number (row_in_fields fields) (row_faults fields) (SaysRow fields)
+reads-row : (fields : RecordFields) → Reads import_fault_number (row_in_fields fields) (row_faults fields) (SaysRow fields)
 reads-row (a ∷ b ∷ c ∷ d ∷ e ∷ []) = reads-of (named_asn a) (spelled_prefix b) (max_in c) (day_in d) (day_in e)
 reads-row other = record { reported = record { is = refl }; value = tt }
 
-reads-rows : (rows : List Fields)
+reads-rows : (rows : List RecordFields)
     → Reads import_fault_number (each import_fault_number row_in_fields rows) (flat_map row_faults rows) (AllZip SaysRow rows)
 reads-rows rows = reads-each row_in_fields row_faults SaysRow rows reads-row
 
@@ -68,13 +68,13 @@ lower-count Max = refl
 lower-count Day = refl
 lower-count Count = refl
 
-zip-length : (rows : List Fields) (terms : List ImportRow) → AllZip SaysRow rows terms → length rows ≡ length terms
+zip-length : (rows : List RecordFields) (terms : List ImportRow) → AllZip SaysRow rows terms → length rows ≡ length terms
 zip-length [] [] zip = refl
 zip-length [] (t ∷ terms) zip = absurd zip
 zip-length (row ∷ rows) [] zip = absurd zip
 zip-length (row ∷ rows) (t ∷ terms) zip = ap suc (zip-length rows terms zip.1)
 
-err-counted : (rows : List Fields) (faults : List ImportFault) (r : Result (List ImportRow) ImportFault)
+err-counted : (rows : List RecordFields) (faults : List ImportFault) (r : Result (List ImportRow) ImportFault)
     → result_err r ≡ lowest import_fault_number faults → IfOk r (AllZip SaysRow rows)
     → result_err (and_then counted r)
     ≡ lowest import_fault_number (faults ++ fault_unless (is_row_count (length rows)) Count)
@@ -89,7 +89,7 @@ err-counted rows faults (Err fault) reported zip =
     first true = refl
     first false = ap Some (sym (lower-count fault))
 
-says-counted : (rows : List Fields) (r : Result (List ImportRow) ImportFault) → IfOk r (AllZip SaysRow rows)
+says-counted : (rows : List RecordFields) (r : Result (List ImportRow) ImportFault) → IfOk r (AllZip SaysRow rows)
     → IfOk (and_then counted r) (AllZip SaysRow rows)
 says-counted rows (Ok terms) zip = by_count (is_row_count (length terms)) (counted terms) refl
   where
@@ -100,7 +100,7 @@ says-counted rows (Err fault) zip = tt
 
 -- ---- a text says one list of rows
 
-same-row : (fields : Fields) (one other : ImportRow) → SaysRow fields one → SaysRow fields other → one ≡ other
+same-row : (fields : RecordFields) (one other : ImportRow) → SaysRow fields one → SaysRow fields other → one ≡ other
 same-row (a ∷ b ∷ c ∷ d ∷ e ∷ []) one other (asn, prefix, max, from, until) (asn_too, prefix_too, max_too, from_too, until_too) =
     ap (λ (v : AsnNumber). record { asn = v; prefix = one.prefix; max = one.max; from = one.from; until = one.until })
     (same_Some one.asn other.asn (sym asn ∙ asn_too))
@@ -114,7 +114,7 @@ same-row (a ∷ b ∷ c ∷ d ∷ e ∷ []) one other (asn, prefix, max, from, u
     (same_Some one.until other.until (sym until ∙ until_too))
 same-row fields one other says says_too = absurd says
 
-same-rows : (records : List Fields) (xs ys : List ImportRow) → AllZip SaysRow records xs → AllZip SaysRow records ys → xs ≡ ys
+same-rows : (records : List RecordFields) (xs ys : List ImportRow) → AllZip SaysRow records xs → AllZip SaysRow records ys → xs ≡ ys
 same-rows [] [] [] one other = refl
 same-rows [] [] (y ∷ ys) one other = absurd other
 same-rows [] (x ∷ xs) ys one other = absurd one
@@ -122,14 +122,14 @@ same-rows (r ∷ rs) [] ys one other = absurd one
 same-rows (r ∷ rs) (x ∷ xs) [] one other = absurd other
 same-rows (r ∷ rs) (x ∷ xs) (y ∷ ys) one other = rw (same-row r x y one.0 other.0, same-rows rs xs ys one.1 other.1) refl
 
-abbrev below_header : List Fields → List Fields
+abbrev below_header : List RecordFields → List RecordFields
 below_header [] = []
 below_header (_ ∷ rows) = rows
 
 same-import : (text : List ℕ) (xs ys : List ImportRow) → IsImportText text xs → IsImportText text ys → xs ≡ ys
 same-import text xs ys (records, is, says) (others, is_too, says_too) =
     let same : others ≡ records = ap below_header (sym is_too ∙ is) in
-    same-rows records xs ys says (subst (λ (rows : List Fields). AllZip SaysRow rows ys) same says_too)
+    same-rows records xs ys says (subst (λ (rows : List RecordFields). AllZip SaysRow rows ys) same says_too)
 
 -- ---- texts
 
@@ -147,7 +147,7 @@ form-first : (found : Option ImportFault) → Some Form ≡ lower_of import_faul
 form-first None = refl
 form-first (Some fault) = ap Some (sym (lower-form fault))
 
-err-rows : (records : List Fields) → result_err (rows_in (rows_after import_header records)) ≡ lowest import_fault_number (import_faults records)
+err-rows : (records : List RecordFields) → result_err (rows_in_records (rows_after import_header records)) ≡ lowest import_fault_number (import_faults records)
 err-rows [] = refl
 err-rows (first ∷ rows) = elim (cases_Bool (fields_eq first import_header)) [
   | inl same ↦ rw same (err-counted rows (flat_map row_faults rows) (each import_fault_number row_in_fields rows)
@@ -156,8 +156,8 @@ err-rows (first ∷ rows) = elim (cases_Bool (fields_eq first import_header)) [
       (flat_map row_faults rows ++ fault_unless (is_row_count (length rows)) Count)))
 ]
 
-says-rows : (records : List Fields) → IfOk (rows_in (rows_after import_header records))
-    (λ terms. (rows : List Fields) × (records ≡ import_header ∷ rows) × AllZip SaysRow rows terms)
+says-rows : (records : List RecordFields) → IfOk (rows_in_records (rows_after import_header records))
+    (λ terms. (rows : List RecordFields) × (records ≡ import_header ∷ rows) × AllZip SaysRow rows terms)
 says-rows [] = tt
 says-rows (first ∷ rows) = elim (cases_Bool (fields_eq first import_header)) [
   | inl same ↦ rw same (said (and_then counted (each import_fault_number row_in_fields rows)) (same_fields first import_header same)
@@ -166,8 +166,8 @@ says-rows (first ∷ rows) = elim (cases_Bool (fields_eq first import_header)) [
 ]
   where
     said : (r : Result (List ImportRow) ImportFault) → first ≡ import_header → IfOk r (AllZip SaysRow rows)
-        → IfOk r (λ terms. (others : List Fields) × (first ∷ rows ≡ import_header ∷ others) × AllZip SaysRow others terms)
-    said (Ok terms) is zip = (rows, ap (λ (f : Fields). f ∷ rows) is, zip)
+        → IfOk r (λ terms. (others : List RecordFields) × (first ∷ rows ≡ import_header ∷ others) × AllZip SaysRow others terms)
+    said (Ok terms) is zip = (rows, ap (λ (f : RecordFields). f ∷ rows) is, zip)
     said (Err fault) is zip = tt
 
 -- its fault

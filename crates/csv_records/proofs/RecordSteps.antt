@@ -5,7 +5,7 @@ use Rattle.csv.specs.Reading.{default_config, reader_config, reader_state, Reach
 use Rattle.csv.specs.declared.parser.State.{State}
 use Rattle.csv.specs.declared.reader.Reader.{Reader}
 use Rattle.csv.proofs.ReadFacts.{rows-more, rows-end}
-use Rattle.csv_records.specs.Fields.{Fields}
+use Rattle.csv_records.specs.Fields.{RecordFields}
 use Rattle.csv_records.specs.CsvRecords.{records_of_rest, unread, records_left, current, IsReading}
 use Rattle.csv_records.specs.declared.records.CsvRecords.{CsvRecords}
 use Rattle.csv_records.proofs.RecordsLeft.{records-next, records-end}
@@ -13,13 +13,13 @@ use Rattle.csv_records.proofs.RecordsLeft.{records-next, records-end}
 abbrev remaining : Bor (List ℕ) → Option (List ℕ)
 remaining text = Some text.now
 
-joined : (s s2 : State) (row : Fields) (xs rest : List ℕ) (old new : Option (List ℕ)) (r : Read)
+joined : (s s2 : State) (row : RecordFields) (xs rest : List ℕ) (old new : Option (List ℕ)) (r : Read)
     → old ≡ Some xs → new ≡ Some rest → next_record default_config s [] [] xs ≡ Some r → row ≡ r.0 → r.1 ≡ s2 → r.2 ≡ rest
     → records_of_rest s old ≡ row ∷ records_of_rest s2 new
 joined s s2 row xs rest old new r known left next same state bytes =
     rw (known, left, same, ← state, ← bytes) (records-next default_config s xs r next)
 
-more_left : (a b : Reader (Bor (List ℕ))) (row : Fields) (xs : List ℕ)
+more_left : (a b : Reader (Bor (List ℕ))) (row : RecordFields) (xs : List ℕ)
     → reader_config a ≡ default_config → unread a ≡ Some xs → ReadRecord remaining a b true row
     → ((rest : List ℕ) × (unread b ≡ Some rest))
     × (records_of_rest (reader_state a) (unread a) ≡ row ∷ records_of_rest (reader_state b) (unread b))

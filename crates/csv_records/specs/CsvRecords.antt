@@ -8,14 +8,14 @@ use Rattle.csv.specs.Records.{fields_of}
 use Rattle.csv.specs.declared.parser.State.{State}
 use Rattle.csv.specs.declared.reader.Reader.{Reader}
 use Rattle.csv.specs.declared.reader.Trim.TheVariants as trim
-use Rattle.csv_records.specs.Fields.{Fields}
+use Rattle.csv_records.specs.Fields.{RecordFields}
 use Rattle.csv_records.specs.declared.records.CsvRecords.{CsvRecords}
 
-abbrev pub csv_records : List ℕ → List Fields
+abbrev pub csv_records : List ℕ → List RecordFields
 csv_records text = records default_config (strip_bom text)
 
 -- the records of the bytes that a reader has left
-abbrev pub records_of_rest : State → Option (List ℕ) → List Fields
+abbrev pub records_of_rest : State → Option (List ℕ) → List RecordFields
 records_of_rest state None = []
 records_of_rest state (Some rest) = records_from default_config (length rest + 1) state rest
 
@@ -23,11 +23,11 @@ abbrev pub unread : Reader (Bor (List ℕ)) → Option (List ℕ)
 unread reader = source_of (λ (text : Bor (List ℕ)). Some text.now) reader
 
 -- the records that come after the one at hand
-abbrev pub records_left : CsvRecords → List Fields
+abbrev pub records_left : CsvRecords → List RecordFields
 records_left r = records_of_rest (reader_state r.reader) (unread r.reader)
 
 -- the record at hand
-abbrev pub current : CsvRecords → Fields
+abbrev pub current : CsvRecords → RecordFields
 current r = fields_of r.row
 
 -- each read takes a whole record, as it is in the text
@@ -39,6 +39,6 @@ pub record IsReading (r : CsvRecords) : Type 0 where
   pub known : unread r.reader ≡ Some rest
 
 -- a read of the next record found one, or found that there is none
-abbrev pub Takes : Bool → Fields → List Fields → List Fields → Type 0
+abbrev pub Takes : Bool → RecordFields → List RecordFields → List RecordFields → Type 0
 Takes true row old new = old ≡ row ∷ new
 Takes false row old new = old ≡ []

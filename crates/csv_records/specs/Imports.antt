@@ -9,12 +9,12 @@ use Rattle.addr.specs.declared.asn.Asn.{Asn}
 use Rattle.registry.specs.declared.authorization.ImportRow.{ImportRow}
 use Rattle.json_values.specs.Faults.{fault_unless, lowest}
 use Rattle.csv_records.specs.CsvRecords.{csv_records}
-use Rattle.csv_records.specs.Fields.{Fields, fields_eq}
+use Rattle.csv_records.specs.Fields.{RecordFields, fields_eq}
 use Rattle.csv_records.specs.declared.imports.ImportFault.{ImportFault}
 use Rattle.csv_records.specs.declared.imports.ImportFault.TheVariants.{Form, Prefix, Asn as AsnFault, Max, Day, Count}
 use Rattle.csv_records.specs.declared.imports.TheConstants.{MOST_ROWS}
 
-abbrev pub import_header : Fields
+abbrev pub import_header : RecordFields
 import_header = codes "asn" ∷ codes "prefix" ∷ codes "maxlength" ∷ codes "from" ∷ codes "until" ∷ []
 
 -- ---- fields
@@ -30,7 +30,7 @@ max_in text = option_and_then (λ n. if nat_le n 255 then Some n else None) (num
 -- ---- rows
 
 -- the fields of a record are those of this row
-abbrev pub SaysRow : Fields → ImportRow → Type 0
+abbrev pub SaysRow : RecordFields → ImportRow → Type 0
 SaysRow (asn ∷ prefix ∷ max ∷ from ∷ until ∷ []) row =
     (named_asn asn ≡ Some row.asn) × (spelled_prefix prefix ≡ Some row.prefix) × (max_in max ≡ Some row.max)
     × (day_in from ≡ Some row.from) × (day_in until ≡ Some row.until)
@@ -39,7 +39,7 @@ SaysRow _ row = ⊥
 -- the text is the header and a record for each of these rows
 abbrev pub IsImportText : List ℕ → List ImportRow → Type 0
 IsImportText text rows =
-    (records : List Fields) × (csv_records text ≡ import_header ∷ records) × AllZip SaysRow records rows
+    (records : List RecordFields) × (csv_records text ≡ import_header ∷ records) × AllZip SaysRow records rows
 
 -- ---- faults
 
@@ -51,7 +51,7 @@ import_fault_number Max = 7
 import_fault_number Day = 8
 import_fault_number Count = 12
 
-abbrev pub row_faults : Fields → List ImportFault
+abbrev pub row_faults : RecordFields → List ImportFault
 row_faults (asn ∷ prefix ∷ max ∷ from ∷ until ∷ []) =
     fault_unless (is_some (named_asn asn)) AsnFault
     ++ fault_unless (is_some (spelled_prefix prefix)) Prefix
@@ -65,7 +65,7 @@ abbrev pub is_row_count : ℕ → Bool
 is_row_count n = nat_le 1 n && nat_le n MOST_ROWS
 
 -- of the header and the rows
-abbrev pub import_faults : List Fields → List ImportFault
+abbrev pub import_faults : List RecordFields → List ImportFault
 import_faults [] = Form ∷ []
 import_faults (first ∷ rows) =
     fault_unless (fields_eq first import_header) Form

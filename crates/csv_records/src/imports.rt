@@ -6,7 +6,7 @@ ghost use Rattle.csv.specs.Records.{fields_of};
 ghost use Rattle.json_values.specs.Parts.{and_then, each, mapped};
 ghost use Rattle.csv_records.specs.CsvRecords.{records_left, IsReading};
 ghost use Rattle.csv_records.specs.Imports.{import_fault, import_fault_number, max_in, named_asn, IsImportText};
-ghost use Rattle.csv_records.specs.steps.Importing.{counted, import_in, row_of_parts, row_in_fields, row_of};
+ghost use Rattle.csv_records.specs.steps.Importing.{counted, import_in, row_of_parts, row_in_fields, row_or_fault};
 
 use crate::CsvRecords;
 use crate::fields::field;
@@ -136,7 +136,7 @@ fn row_of(
     from: Option<Day>,
     until: Option<Day>,
 ) -> Result<ImportRow, ImportFault>
-    ensures { result ≡ row_of asn prefix max from until }
+    ensures { result ≡ row_or_fault asn prefix max from until }
 {
     let vrp = both(
         both(

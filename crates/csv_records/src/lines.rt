@@ -3,11 +3,11 @@ ghost use Rattle.std.specs.Prelude.{◌≡◌, ◌+◌, ◌≤◌, ◌<◌, ◌+
 ghost use Rattle.std.specs.List.{flat_map};
 ghost use Rattle.addr.specs.Day.{day_text};
 ghost use Rattle.arrayvec.specs.ArrayString.{array_string_len};
-ghost use Rattle.csv_records.specs.Lines.{csv_line, csv_text, entry_row, fields_text, list_header, list_rows, payload_header, payload_row, vrp_fields};
+ghost use Rattle.csv_records.specs.Lines.{csv_line, csv_text, entry_fields, fields_text, list_header, list_rows, payload_header, payload_row, vrp_fields};
 
-use addr::{Asn, Day, Prefix, Vrp, digits_length, push_digits};
+use addr::{Asn, Day, Prefix, RoaPrefix, Vrp, digits_length, push_digits};
 use arrayvec::ArrayString;
-use registry::{Auth, RoaPrefix};
+use registry::Auth;
 use std::alloc::{AllocError, Global};
 
 /// The first line of the VRPs' CSV, with its line feed.
@@ -73,7 +73,7 @@ pub fn list_lines(alloc: Global, auths: &[Auth]) -> Result<Vec<u8>, AllocError>
 /// Adds a line of the authorization for each of these entries.
 fn push_lines(text: &mut Vec<u8>, auth: &Auth, entries: &[RoaPrefix]) -> Result<(), AllocError>
     ensures { OnOk result (text.new.items
-        ≡ text.old.items ++ flat_map csv_line (map (entry_row auth.now) entries.now)) }
+        ≡ text.old.items ++ flat_map csv_line (map (entry_fields auth.now) entries.now)) }
 {
     for entry in entries {
         text.extend_from_slice(entry_line(auth, entry).as_str().as_bytes())?;
@@ -83,7 +83,7 @@ fn push_lines(text: &mut Vec<u8>, auth: &Auth, entries: &[RoaPrefix]) -> Result<
 
 /// The line of an authorization and this entry, with its line feed.
 fn entry_line(auth: &Auth, entry: &RoaPrefix) -> ArrayString<160>
-    ensures { result.bytes ≡ csv_line (entry_row auth.now entry.now) }
+    ensures { result.bytes ≡ csv_line (entry_fields auth.now entry.now) }
 {
     let mut text = ArrayString::new();
     push_digits(&mut text, u64::from(auth.number));

@@ -5,8 +5,8 @@ use Rattle.std.proofs.lemmas.Bool.{true≢false}
 use Rattle.std.proofs.lemmas.List.Elements.{Contains-append_right}
 use Rattle.sqlite.specs.Store.{Ghosts}
 use Rattle.sqlite_trees.specs.Tree.{Trees}
-use Rattle.charters.specs.declared.charter.Charter.{Charter}
-use Rattle.histories.specs.Growth.{GrowthFits, GrowthIsLegal}
+use Rattle.registry.specs.declared.charter.Charter.{Charter}
+use Rattle.registry_laws.specs.Growth.{GrowthFits, GrowthIsLegal}
 use Rattle.registry.specs.Answer.{IsAccepted}
 use Rattle.registry.specs.Values.{EntryFits}
 use Rattle.registry.specs.History.{History}
@@ -17,11 +17,11 @@ use Rattle.registry.specs.declared.asked.Request.{Request}
 use Rattle.registry.specs.declared.asked.Request.TheVariants.{Command as CommandRequest, Query as QueryRequest}
 use Rattle.registry.specs.declared.change.Change.{Change}
 use Rattle.registry.specs.declared.command.Command.{Command}
-use Rattle.tables.specs.TablesHold.{TablesHold}
-use Rattle.transactions.specs.Databases.{IsDeskTrees}
+use Rattle.store_tables.specs.TablesHold.{TablesHold}
+use Rattle.store_transactions.specs.Databases.{IsDeskTrees}
 use Rattle.store.specs.StoreRows.{HoldsAfter, IsRead, MayLeave, LeavesOnly}
 use Rattle.desk.specs.Answer.{is_accepted, AnswersCommand, AnswersRequest, IsAnswered}
-use Rattle.desk.specs.CrashOutcomes.{asked_on, AreKept, IsKept, LeavesAlong, MayBeLeft, StaysOpen, pending_after, pending_after_all}
+use Rattle.desk.specs.CrashOutcomes.{asked_on, AreDurablyAnswered, IsDurablyAnswered, LeavesAlong, MayBeLeft, StaysOpen, pending_after, pending_after_all}
 use Rattle.desk.specs.Desk.{charter_of, HoldsHistory, HoldsRowsOf, IsOnCleanDisk}
 use Rattle.desk.specs.Run.{Runs}
 use Rattle.desk.specs.declared.desk.Desk.{Desk}
@@ -29,7 +29,7 @@ use Rattle.desk.specs.declared.reply.Reply.{Reply}
 use Rattle.desk.specs.declared.reply.Reply.TheVariants.{Denied, Done, Imported, Unavailable}
 use Rattle.desk.specs.steps.Accepting.{AnswersAccepted}
 use Rattle.desk.proofs.DeskLemmas.{rows_carried}
-use Rattle.transactions.proofs.StatementLemmas.{taken_more}
+use Rattle.store_transactions.proofs.StatementLemmas.{taken_more}
 use Rattle.desk.proofs.RunLemmas.{Runs-append}
 
 -- the newest of the pending requests
@@ -138,7 +138,7 @@ module _ {S : Type 0} (g : Ghosts S) where
   pub read_kept : (history : History) (asked : Asked) (reply : Reply) (old new : Desk S) → is_accepted reply ≡ false
       → IsRead g old.store new.store → IsOnCleanDisk g new → IsLegal (charter_of old) history
       → AnswersRequest (charter_of old) history asked.day asked.caller asked.request reply history → HoldsHistory g new history
-      → IsKept g (charter_of old) history asked reply old new
+      → IsDurablyAnswered g (charter_of old) history asked reply old new
   read_kept history asked reply old new not read clean legal answers held = record {
     answered = record {
       after = history;
@@ -155,7 +155,7 @@ module _ {S : Type 0} (g : Ghosts S) where
       → IsRead g old.store mid.store → IsOnCleanDisk g mid → IsLegal (charter_of old) history → HoldsRowsOf g mid history → HoldsHistory g new history
       → IsAccepted (charter_of old) history day caller command change → AnswersAccepted command change reply → is_accepted reply ≡ true
       → MayLeave g mid.store new.store (changed_rows change)
-      → IsKept g (charter_of old) history (asked_on day caller (CommandRequest command)) Unavailable old new
+      → IsDurablyAnswered g (charter_of old) history (asked_on day caller (CommandRequest command)) Unavailable old new
   failed_kept history day caller command change reply old mid new read clean legal was held accepted answers done crash = record {
     answered = record { after = history; legal = legal; values = λ fit. fit; answers = refl; rows_after = held };
     left = failed_leaves history day caller command change reply old mid new read clean was accepted answers done crash;
@@ -185,7 +185,7 @@ module _ {S : Type 0} (g : Ghosts S) where
       → EntryFits (record { day = day; caller = caller; command = command }) → IsRead g old.store mid.store → IsLegal (charter_of old) history → HoldsRowsOf g mid history
       → IsAccepted (charter_of old) history day caller command change → AnswersAccepted command change reply
       → HoldsAfter g mid.store new.store (changed_rows change) → LeavesOnly g mid.store new.store (changed_rows change) → IsOnCleanDisk g new → StaysOpen g new
-      → IsKept g (charter_of old) history (asked_on day caller (CommandRequest command)) reply old new
+      → IsDurablyAnswered g (charter_of old) history (asked_on day caller (CommandRequest command)) reply old new
   accepted_kept grown fits history day caller command change reply old mid new values read legal held accepted answers applied only clean opened = record {
     answered = accepted_answer grown fits history day caller command change reply old mid new values legal held accepted answers applied clean opened;
     left = made_leaves history day caller command change (pending_after (asked_on day caller (CommandRequest command)) reply) old mid new read held accepted only;
@@ -193,16 +193,16 @@ module _ {S : Type 0} (g : Ghosts S) where
 
   -- whatever the reply, a crash leaves the history before, or that with the request
   pub kept_crash : (charter : Charter) (before : History) (asked : Asked) (reply : Reply) (old new : Desk S)
-      → IsKept g charter before asked reply old new → LeavesAlong g charter old before (λ pending. asked ∷ pending) new before
+      → IsDurablyAnswered g charter before asked reply old new → LeavesAlong g charter old before (λ pending. asked ∷ pending) new before
   kept_crash charter before asked reply old new kept pending left trees leaves =
       as_pending charter before kept.answered.after asked reply pending trees kept.answered.answers (kept.left pending left trees leaves)
 
   -- the request at an index was answered after those before it
   left_next : (charter : Charter) (history : History) (asked : List Asked) (index : ℕ) (a : Asked) (replies : List Reply) (reply : Reply) (start old new : Desk S)
       → index < length asked → a ≡ get_or asked index a
-      → (so_far : AreKept g charter history (take index asked) replies start old)
-      → IsKept g charter so_far.answered.after a reply old new
-      → AreKept g charter history (take (index + 1) asked) (replies ++ reply ∷ []) start new
+      → (so_far : AreDurablyAnswered g charter history (take index asked) replies start old)
+      → IsDurablyAnswered g charter so_far.answered.after a reply old new
+      → AreDurablyAnswered g charter history (take (index + 1) asked) (replies ++ reply ∷ []) start new
   left_next charter history asked index a replies reply start old new below here so_far is =
       let grown : take (index + 1) asked ≡ take index asked ++ a ∷ [] = taken_more asked index a below here in
       record {
@@ -222,11 +222,11 @@ module _ {S : Type 0} (g : Ghosts S) where
   -- the same, by a desk that keeps each history of its rows, with the charter as it now is
   pub left_more : (charter here : Charter) (history : History) (asked : List Asked) (index : ℕ) (a : Asked) (replies grown : List Reply) (reply : Reply) (start old new : Desk S)
       → here ≡ charter → index < length asked → a ≡ get_or asked index a → grown ≡ replies ++ reply ∷ []
-      → AreKept g charter history (take index asked) replies start old
-      → ((h : History) → IsLegal here h → HoldsHistory g old h → IsKept g here h a reply old new)
-      → AreKept g charter history (take (index + 1) asked) grown start new
+      → AreDurablyAnswered g charter history (take index asked) replies start old
+      → ((h : History) → IsLegal here h → HoldsHistory g old h → IsDurablyAnswered g here h a reply old new)
+      → AreDurablyAnswered g charter history (take (index + 1) asked) grown start new
   left_more charter here history asked index a replies grown reply start old new same below at pushed so_far keeps =
       let after = so_far.answered.after in
-      let is = subst (λ (k : Charter). IsLegal k after → IsKept g k after a reply old new) same
+      let is = subst (λ (k : Charter). IsLegal k after → IsDurablyAnswered g k after a reply old new) same
       (λ legal. keeps after legal so_far.answered.rows_after) so_far.answered.legal in
       rw pushed (left_next charter history asked index a replies reply start old new below at so_far is)

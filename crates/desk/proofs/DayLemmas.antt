@@ -3,7 +3,7 @@ use Rattle.std.proofs.Common.{◌≡◌, ℕ, Bool, true, false, List, [], ◌�
 use Rattle.std.specs.Prelude.{option_map}
 use Rattle.std.proofs.lemmas.Bool.{true≢false}
 use Rattle.std.proofs.lemmas.Option.{none-some}
-use Rattle.kept.specs.KeptDay.{KeptDay}
+use Rattle.daily_vrps.specs.KeptDay.{KeptDay}
 use Rattle.payload.specs.VrpSet as set
 use Rattle.registry.specs.declared.asked.Asked.{Asked}
 use Rattle.sqlite.specs.Store.{Ghosts}

@@ -14,18 +14,18 @@ use Rattle.desk.specs.declared.reply.Reply.{Reply}
 use Rattle.desk.specs.declared.reply.Reply.TheVariants.{Denied as DeniedReply, Done, Imported, Unavailable}
 use Rattle.desk.specs.declared.desk.Desk.{Desk}
 use Rattle.desk.specs.declared.desk.following.Decided.{Decided}
-use Rattle.desk.specs.Desk.{charter_of, HoldsRowsOf, IsOnCleanDisk, KeepsRows, OfHistories, OfRows}
-use Rattle.desk.specs.HolderAnswers.{may_change, may_except, KeepsOthers}
+use Rattle.desk.specs.Desk.{charter_of, HoldsRowsOf, IsOnCleanDisk, RowsStay, EachHistory, EachHeld}
+use Rattle.desk.specs.HolderAnswers.{may_change, may_except, OthersStay}
 use Rattle.desk.specs.steps.Accepting.{AnswersAccepted, Decides}
 use Rattle.sqlite.specs.Store.{Ghosts}
-use Rattle.store.specs.StoreRows.{StoreView, IsRead, IfClean, HoldsAfter, OfHeldRows}
+use Rattle.store.specs.StoreRows.{StoreView, IsRead, OnCleanStore, HoldsAfter, EachHeldRows}
 use Rattle.registry.specs.declared.authorization.ImportRow.{ImportRow}
 use Rattle.registry.specs.declared.command.Command.{Command}
 use Rattle.registry.specs.declared.command.Command.TheVariants.{Import}
 use Rattle.registry.specs.declared.command.Query.{Query}
 use Rattle.registry.specs.declared.command.Query.TheVariants.{Show, Content, List as ListQuery, Payloads, Validity, WhatIf}
 use Rattle.registry.specs.Verdict.{IsLegal}
-use Rattle.charters.specs.declared.charter.Charter.{Charter}
+use Rattle.registry.specs.declared.charter.Charter.{Charter}
 use Rattle.registry.specs.RowsOfAll.{AllRows, changed_rows, HasRows}
 use Rattle.desk.proofs.HolderLemmas.{others_left, files_left}
 
@@ -41,7 +41,7 @@ rows_carried charter history day caller command change rows accepted has = recor
 
 module _ {S : Type 0} (g : Ghosts S) where
   -- where the rows are kept, those of a history are
-  pub still_held : (old new : Desk S) (history : History) → KeepsRows g old new → IsOnCleanDisk g new → HoldsRowsOf g old history → HoldsRowsOf g new history
+  pub still_held : (old new : Desk S) (history : History) → RowsStay g old new → IsOnCleanDisk g new → HoldsRowsOf g old history → HoldsRowsOf g new history
   still_held old new history keeps clean held = (held.0, held.1, keeps clean held.0 held.2)
 
   pub read_then : (a b c : StoreView S) → IsRead g a b → IsRead g b c → IsRead g a c
@@ -56,28 +56,28 @@ module _ {S : Type 0} (g : Ghosts S) where
   -- what was found of the rows is so of the histories
   pub of_held : {X E : Type 0} (so : X → AllRows → Type 0) (is : X → History → Type 0) (old new : Desk S)
       → ((x : X) (rows : AllRows) (history : History) → IsLegal (charter_of old) history → HasRows rows history → so x rows → is x history)
-      → (r : Result X E) → IfClean g new.store (IfOk r (λ x. OfHeldRows g old.store (so x))) → IfOk r (λ x. OfRows g old new (is x))
+      → (r : Result X E) → OnCleanStore g new.store (IfOk r (λ x. EachHeldRows g old.store (so x))) → IfOk r (λ x. EachHeld g old new (is x))
   of_held so is old new turn (Ok x) found = λ clean history legal held. turn x held.0 history legal held.1 (found clean held.0 held.2)
   of_held so is old new turn (Err e) found = tt
 
   -- what is so of the histories of the rows is so of those that the desk held
   pub of_rows : {X E : Type 0} (is : X → History → Type 0) (old new : Desk S) (r : Result X E)
-      → IfOk r (λ x. OfRows g old new (is x)) → IfOk r (λ x. OfHistories g old new (is x))
+      → IfOk r (λ x. EachHeld g old new (is x)) → IfOk r (λ x. EachHistory g old new (is x))
   of_rows is old new (Ok x) found = λ clean history legal held. found clean history legal (held.0, held.1, held.2)
   of_rows is old new (Err e) found = tt
 
   -- what is found after a first read is so of the histories before it
-  pub found_later : (so : History → Type 0) (old mid new : Desk S) → IsRead g old.store mid.store → IsRead g mid.store new.store → OfRows g mid new so → OfRows g old new so
+  pub found_later : (so : History → Type 0) (old mid new : Desk S) → IsRead g old.store mid.store → IsRead g mid.store new.store → EachHeld g mid new so → EachHeld g old new so
   found_later so old mid new first second found clean history legal held =
       found clean history (subst (λ (k : Charter). IsLegal k history) (sym first.charter) legal) (still_held old mid history first.rows (second.clean clean) held)
 
   -- where all rows are kept, so are those of other holders
-  pub all_kept : (changes : List ℕ → Bool) (excepts : Bool) (old new : Desk S) → KeepsRows g old new → IsOnCleanDisk g new → KeepsOthers g changes excepts old new
+  pub all_kept : (changes : List ℕ → Bool) (excepts : Bool) (old new : Desk S) → RowsStay g old new → IsOnCleanDisk g new → OthersStay g changes excepts old new
   all_kept changes excepts old new keeps clean rows holds = (rows, keeps clean rows holds, λ h other. refl, λ other. refl)
 
   -- and where a change was made of what the command names
-  pub changed_kept : (command : Command) (change : Change) (old mid new : Desk S) → IsOfCommand command change → KeepsRows g old mid → IsOnCleanDisk g mid
-      → HoldsAfter g mid.store new.store (changed_rows change) → KeepsOthers g (may_change (CommandRequest command)) (may_except (CommandRequest command)) old new
+  pub changed_kept : (command : Command) (change : Change) (old mid new : Desk S) → IsOfCommand command change → RowsStay g old mid → IsOnCleanDisk g mid
+      → HoldsAfter g mid.store new.store (changed_rows change) → OthersStay g (may_change (CommandRequest command)) (may_except (CommandRequest command)) old new
   changed_kept command change old mid new of keeps clean made rows holds =
       (changed_rows change rows, made rows (keeps clean rows holds), λ h unnamed. others_left command change h (rows.of_holder h) of unnamed, files_left command change rows.files of)
 
@@ -93,7 +93,7 @@ never_accepted Memory = refl
 
 module _ {S : Type 0} (g : Ghosts S) (day : ℕ) (caller : List ℕ) (command : Command) (old new : Desk S) where
   pub refuses : (refusal : Refusal) (r : Result Decided Reply) → IsErrAnd r (λ reply. reply ≡ refused_with refusal)
-      → OfRows g old new (λ history. IsAnswer (charter_of old) history day caller command (Err refusal)) → Decides g day caller command old new r
+      → EachHeld g old new (λ history. IsAnswer (charter_of old) history day caller command (Err refusal)) → Decides g day caller command old new r
   refuses refusal (Ok decided) none answer = absurd none
   refuses refusal (Err reply) is answer = rw is (record {
     shape = tt;

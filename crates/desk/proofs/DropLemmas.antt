@@ -2,7 +2,7 @@
 use Rattle.std.proofs.Common.{◌≡◌, ℕ, ◌+◌, ◌<◌, List, [], ◌∷◌, ◌++◌, Option, length, get_or, take, refl, subst}
 use Rattle.std.specs.Global.{Vec}
 use Rattle.sqlite.specs.Store.{Ghosts}
-use Rattle.histories.specs.Growth.{GrowthFits, GrowthIsLegal}
+use Rattle.registry_laws.specs.Growth.{GrowthFits, GrowthIsLegal}
 use Rattle.registry.specs.Answer.{IsAccepted}
 use Rattle.registry.specs.Edits.{HasEditsOf}
 use Rattle.registry.specs.History.{History}
@@ -15,17 +15,17 @@ use Rattle.registry.specs.declared.change.Change.{Change}
 use Rattle.registry.specs.declared.change.Change.TheVariants.{Holders, Exceptions}
 use Rattle.registry.specs.declared.command.Command.{Command}
 use Rattle.store.specs.Given.{GivenOnce}
-use Rattle.store.specs.StoreRows.{HoldsAfter, IsRead, OfHeldRows}
+use Rattle.store.specs.StoreRows.{HoldsAfter, IsRead, EachHeldRows}
 use Rattle.desk.specs.Answer.{AnswersRequest, IsAnswered}
 use Rattle.desk.specs.CrashOutcomes.{StaysOpen}
 use Rattle.desk.specs.DayAfter.{DayAfter, DropsForGainAll, DropsForGain}
 use Rattle.desk.specs.Desk.{charter_of, HoldsHistory, IsOnCleanDisk}
-use Rattle.desk.specs.DeskView.{HoldsKept}
+use Rattle.desk.specs.DeskView.{HoldsRowsAndDay}
 use Rattle.desk.specs.Prepared.{day_of}
-use Rattle.charters.specs.declared.charter.Charter.{Charter}
+use Rattle.registry.specs.declared.charter.Charter.{Charter}
 use Rattle.registry.specs.declared.asked.Asked.{Asked}
 use Rattle.desk.specs.Run.{AreAnswered}
-use Rattle.transactions.proofs.StatementLemmas.{taken_more}
+use Rattle.store_transactions.proofs.StatementLemmas.{taken_more}
 use Rattle.desk.proofs.RunLemmas.{Runs-append}
 use Rattle.desk.specs.declared.desk.Desk.{Desk}
 use Rattle.desk.specs.declared.reply.Reply.{Reply}
@@ -60,8 +60,8 @@ module _ {S : Type 0} (g : Ghosts S) where
       (one other : Option (Vec Auth)) → EntryFits (record { day = day; caller = caller; command = command }) → IsRead g old.store mid.store → IsOnCleanDisk g mid
       → IsLegal (charter_of old) history → HoldsHistory g old history
       → IsAccepted (charter_of old) history day caller command change → AnswersAccepted command change reply
-      → HoldsAfter g mid.store new.store (changed_rows change) → IsOnCleanDisk g new → StaysOpen g new → HoldsKept g old.store old.kept
-      → OfHeldRows g mid.store GivenOnce → OfHeldRows g old.store (AreEnoughFor change one other) → HasEditsOf command change
+      → HoldsAfter g mid.store new.store (changed_rows change) → IsOnCleanDisk g new → StaysOpen g new → HoldsRowsAndDay g old.store old.kept
+      → EachHeldRows g mid.store GivenOnce → EachHeldRows g old.store (AreEnoughFor change one other) → HasEditsOf command change
       → FollowsDay change one other old.kept new.kept
       → (is : IsAnswered g (charter_of old) history day caller (CommandRequest command) reply new)
       × DropsForGain (CommandRequest command) history is.after (day_of old.kept) (day_of new.kept)

@@ -3,9 +3,9 @@ use Rattle.std.proofs.Common.{◌≡◌, ℕ, Bool, true, false, not, ◌⊎◌,
 use Rattle.std.proofs.lemmas.Bool.{cases_Bool, false≢true}
 use Rattle.addr.specs.OriginValidation.{validation_state}
 use Rattle.addr.specs.declared.route.Route.{Route}
-use Rattle.histories.specs.Growth.{HypotheticalIsLegal}
-use Rattle.histories.specs.SharedVrps.{NoSharedVrp}
-use Rattle.isolation.specs.Isolation.{DifferAtMostAt, HypotheticalKeepsOthers}
+use Rattle.registry_laws.specs.Growth.{HypotheticalIsLegal}
+use Rattle.registry_laws.specs.SharedVrps.{NoSharedVrp}
+use Rattle.registry_laws.specs.Isolation.{DifferAtMostAt, HypotheticalKeepsOthers}
 use Rattle.payload.specs.VrpSet as set
 use Rattle.payload.specs.ValidityState.{state_of}
 use Rattle.payload.specs.declared.validity.Validity.{Validity}
@@ -18,7 +18,7 @@ use Rattle.registry.specs.RowsOfAll.{AllRows, HasRows}
 use Rattle.registry.specs.Terms.{IsActive}
 use Rattle.registry.specs.Verdict.{IsLegal}
 use Rattle.registry.specs.declared.authorization.Auth.{Auth}
-use Rattle.charters.specs.declared.charter.Charter.{Charter}
+use Rattle.registry.specs.declared.charter.Charter.{Charter}
 use Rattle.registry.specs.declared.command.Proposed.{Proposed}
 use Rattle.registry.specs.declared.rule.Refusal.{Refusal}
 use Rattle.registry.specs.declared.rule.Refusal.TheVariants.{Denied, Memory}
@@ -26,20 +26,20 @@ use Rattle.policy.specs.PartAnswer.{ExchangesAuths}
 use Rattle.slurm.specs.SlurmSets.{union}
 use Rattle.sqlite.specs.Store.{Ghosts}
 use Rattle.desk.specs.Answer.{refused_with, AnswersWhatIf, AreStatesOn}
-use Rattle.desk.specs.Desk.{charter_of, IsOnCleanDisk, OfRows}
+use Rattle.desk.specs.Desk.{charter_of, IsOnCleanDisk, EachHeld}
 use Rattle.desk.specs.declared.desk.Desk.{Desk}
 use Rattle.desk.proofs.ExportLemmas.{states_on}
 use Rattle.desk.specs.steps.WhatIf.{IsDayOfHeld, WouldExchange}
-use Rattle.kept.specs.Changes.{AreExchanged}
-use Rattle.kept.specs.Giving.{auths_if_any}
-use Rattle.kept.specs.Days.{ExchangesVrps}
-use Rattle.kept.specs.KeptDay.{KeptDay}
-use Rattle.kept.proofs.DayLemmas.{day_of_history}
-use Rattle.kept.proofs.Exchanges.{exchanged_day}
-use Rattle.kept.proofs.Members.{in_filter, none_in_nil}
-use Rattle.kept.proofs.States.{states_such}
-use Rattle.kept.specs.States.{states_after, states_now, HaveStates}
-use Rattle.kept.proofs.Turns.{active_rows, has_active, in_force_then, is_active, EndsAndBegins}
+use Rattle.daily_vrps.specs.Changes.{AreExchanged}
+use Rattle.daily_vrps.specs.Giving.{auths_of_rows}
+use Rattle.daily_vrps.specs.Days.{ExchangesVrps}
+use Rattle.daily_vrps.specs.KeptDay.{KeptDay}
+use Rattle.daily_vrps.proofs.DayLemmas.{day_of_history}
+use Rattle.daily_vrps.proofs.Exchanges.{exchanged_day}
+use Rattle.daily_vrps.proofs.Members.{in_filter, none_in_nil}
+use Rattle.daily_vrps.proofs.States.{states_such}
+use Rattle.daily_vrps.specs.States.{states_after, states_now, HaveStates}
+use Rattle.daily_vrps.proofs.Turns.{active_rows, has_active, in_force_then, is_active, EndsAndBegins}
 
 -- ---- the exchange that changes would make
 
@@ -77,7 +77,7 @@ part_turns charter before after holder all legal legal_after has differ ended be
   own = λ x. (goes x, comes x);
   others = λ h x different.
       let rows = all.of_holder h in
-      let auths = auths_if_any rows in
+      let auths = auths_of_rows rows in
       let were = active_rows charter before h rows legal (has.holders h) in
       let are = active_rows charter after h rows legal_after ((differ.others h rows different).0 (has.holders h)) in (
         λ active. is_active before h auths were x (has_active after h auths are x active),
@@ -152,7 +152,7 @@ module _ {S : Type 0} (g : Ghosts S) (old new : Desk S) (k : KeptDay) (day : ℕ
   -- the states over what is kept are those on the history
   pub judged_now : k.day ≡ day → (IsOnCleanDisk g new → IsDayOfHeld g old k)
       → map state_of (states_now states) ≡ map (λ (r : Route). validation_state (set.items k.vrps) r) routes
-      → OfRows g old new (λ history. AreStatesOn history day routes (states_now states))
+      → EachHeld g old new (λ history. AreStatesOn history day routes (states_now states))
   judged_now on is judged clean history legal held =
       states_on history day (set.items k.vrps)
       (λ v. rw on at (day_of_history (charter_of old) held.0 history legal held.1 k (is clean history legal held) v))
@@ -161,7 +161,7 @@ module _ {S : Type 0} (g : Ghosts S) (old new : Desk S) (k : KeptDay) (day : ℕ
   -- and those over an exchange of it are those on the history that it leaves
   pub judged_after : (ended begun : List Auth) → k.day ≡ day → (IsOnCleanDisk g new → IsDayOfHeld g old k)
       → HaveStates (AreExchanged k ended begun) routes (states_after states)
-      → OfRows g old new (λ history. (after : History) → ExchangesVrps history after day ended begun
+      → EachHeld g old new (λ history. (after : History) → ExchangesVrps history after day ended begun
       → AreStatesOn after day routes (states_after states))
   judged_after ended begun on is judged clean history legal held after exchanges =
       states_such (AreExchanged k ended begun) (IsVrpOn after day)

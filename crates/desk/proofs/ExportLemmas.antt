@@ -8,7 +8,7 @@ use Rattle.payload.specs.declared.validity.Validity.{Validity}
 use Rattle.registry.specs.DailyVrps.{IsVrpOn}
 use Rattle.registry.specs.History.{History}
 use Rattle.desk.specs.Answer.{AreStatesOn}
-use Rattle.kept.proofs.RouteStates.{state_has}
+use Rattle.daily_vrps.proofs.RouteStates.{state_has}
 
 -- states that are those over a list are those of the VRPs of the day, where the list has just these
 pub states_on : (history : History) (day : ℕ) (items : List Vrp) → ((v : Vrp) → Contains items v ↔ IsVrpOn history day v) → (routes : List Route) (states : List Validity) → map state_of states ≡ map (λ r. validation_state items r) routes → AreStatesOn history day routes states

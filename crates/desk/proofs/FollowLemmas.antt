@@ -6,15 +6,15 @@ use Rattle.std.proofs.lemmas.Bool.{false_from_ne_true, false≢true, true≢fals
 use Rattle.addr.specs.Address.{last_of, Address}
 use Rattle.addr.proofs.AddressLemmas.{between_at, first-last}
 use Rattle.addr.specs.declared.vrp.Vrp.{Vrp}
-use Rattle.kept.proofs.DayLemmas.{has_same}
-use Rattle.kept.proofs.Edits.{rows_stay}
-use Rattle.kept.proofs.ExceptionLemmas.{after_alike}
-use Rattle.kept.proofs.Follows.{follow_keeps, none_given, none_joined}
-use Rattle.kept.proofs.Members.{head_or_tail, none_in_nil}
-use Rattle.kept.specs.Changes.{AreJoined, IsSpared, IsWithSame}
-use Rattle.kept.specs.Days.{IsDayOf, IsDayOfRows}
-use Rattle.kept.proofs.DailyVrps.{given_on}
-use Rattle.charters.specs.declared.charter.Charter.{Charter}
+use Rattle.daily_vrps.proofs.DayLemmas.{has_same}
+use Rattle.daily_vrps.proofs.Edits.{rows_stay}
+use Rattle.daily_vrps.proofs.ExceptionLemmas.{after_alike}
+use Rattle.daily_vrps.proofs.Follows.{follow_keeps, none_given, none_joined}
+use Rattle.daily_vrps.proofs.Members.{head_or_tail, none_in_nil}
+use Rattle.daily_vrps.specs.Changes.{AreJoined, IsSpared, IsWithSame}
+use Rattle.daily_vrps.specs.Days.{IsDayOf, IsDayOfRows}
+use Rattle.daily_vrps.proofs.VrpsOfDay.{given_on}
+use Rattle.registry.specs.declared.charter.Charter.{Charter}
 use Rattle.registry.specs.DailyVrps.{IsVrpOn}
 use Rattle.registry.specs.History.{History}
 use Rattle.registry.specs.Verdict.{IsLegal}
@@ -24,8 +24,8 @@ use Rattle.registry.specs.declared.command.Query.{Query}
 use Rattle.slurm.specs.Filter.{FilterMatches}
 use Rattle.slurm.specs.declared.filter.Filter.{Filter}
 use Rattle.slurm.specs.declared.set.NamedSlurm.{NamedSlurm}
-use Rattle.kept.specs.Giving.{AreGivingOn}
-use Rattle.kept.specs.KeptDay.{exceptions_of, HasExceptions, KeptDay}
+use Rattle.daily_vrps.specs.Giving.{AreGivingOn}
+use Rattle.daily_vrps.specs.KeptDay.{kept_exceptions, HasExceptions, KeptDay}
 use Rattle.registry.specs.Answer.{edit_imported, holder_of, imported}
 use Rattle.payload.specs.VrpSet as set
 use Rattle.registry.specs.Edits.{begun, ended, AreRuled, HasEditsOf, IsEditOf, IsHold, IsHoldEndingNone}
@@ -33,10 +33,10 @@ use Rattle.registry.specs.Rows.{Rows}
 use Rattle.registry.specs.RowsOfAll.{AllRows, HasRows, IsGivenOn, changed_rows}
 use Rattle.registry.specs.declared.authorization.Auth.{Auth}
 use Rattle.registry.specs.declared.authorization.AuthTerms.{AuthTerms}
-use Rattle.registry.specs.declared.authorization.RoaPrefix.{RoaPrefix}
+use Rattle.addr.specs.declared.roa_prefix.RoaPrefix.{RoaPrefix}
 use Rattle.registry.specs.RoaPrefixes.{AreInNumber}
 use Rattle.registry.specs.Terms.{entries_have}
-use Rattle.tables.specs.TablesHold.{items_if_any}
+use Rattle.store_tables.specs.TablesHold.{items_if_any}
 use Rattle.registry.specs.declared.change.Change.{Change}
 use Rattle.registry.specs.declared.change.Change.TheVariants.{Holders, Exceptions}
 use Rattle.registry.specs.declared.change.Edit.{Edit}
@@ -47,8 +47,8 @@ use Rattle.registry.specs.declared.change.HolderChange.{HolderChange}
 use Rattle.registry.specs.declared.rows.HolderRows.{HolderRows}
 use Rattle.slurm.specs.SlurmSets.{union}
 use Rattle.store.specs.Given.{GivenOnce}
-use Rattle.loads.specs.declared.answers.Loaded.{Loaded}
-use Rattle.loads.specs.Loads.{auths_held, AreCounted, AreHeld, AreLoaded, AreNumbered, IsLoadedFor}
+use Rattle.store_read.specs.declared.answers.Loaded.{Loaded}
+use Rattle.store_read.specs.Loads.{auths_held, AreCounted, AreHeld, AreLoaded, AreNumbered, IsLoadedFor}
 use Rattle.desk.proofs.GivenEdits.{edits_given_by_enough, ending_keeps_once, enough_amended, enough_created, enough_loaded, enough_lost, enough_of_any, enough_of_runs, enough_withdrawn}
 use Rattle.desk.specs.DayAfter.{has_made_none, DayAfterCommand, DropsForGain, PutsOn, StaysUnless}
 use Rattle.desk.specs.Prepared.{day_of}
@@ -66,7 +66,7 @@ edit_followed rows change some old new once enough (same, are) is = record {
   given = λ v.
       let kept = follow_keeps (λ (w : Vrp). IsGivenOn rows old.day w) (ended_if_any change.edit (listed some)) (begun_if_any change.edit (listed some)) old new same are is.given v in
       let edits = edits_given_by_enough rows change (listed some) old.day v once enough in
-      let alike = after_alike (exceptions_of new) v edits.1 edits.0 in
+      let alike = after_alike (kept_exceptions new) v edits.1 edits.0 in
       rw same.day (λ there. alike.0 (kept.0 there), λ after. kept.1 (alike.1 after));
 }
 

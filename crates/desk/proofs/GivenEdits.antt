@@ -20,15 +20,15 @@ use Rattle.registry.specs.RowsOfAll.{AllRows, IsGivenOn, changed_rows}
 use Rattle.registry.specs.Terms.{IsVrpOf, terms_overlap}
 use Rattle.registry.proofs.Names.{same_name-same, same_name-true}
 use Rattle.store.specs.Given.{GivenOnce}
-use Rattle.tables.proofs.TreeRows.{list_any-map}
-use Rattle.loads.specs.Loads.{auths_held, AreLoaded, AreOverlapping, IsForLoss}
+use Rattle.store_tables.proofs.TreeRows.{list_any-map}
+use Rattle.store_read.specs.Loads.{auths_held, AreLoaded, AreOverlapping, IsForLoss}
 use Rattle.registry.specs.Edits.{begun, ended, ends, IsHoldEnding, IsHoldEndingNone}
 use Rattle.desk.specs.steps.EditsGiven.{auths_of, ended_if_any, begun_if_any, AreEnough, HaveSameAuths, IsGivenAfter, EditsGiven, EditsGivenByEnough, EditsNothing, EndingKeepsOnce}
 use Rattle.desk.specs.steps.Following.{listed}
-use Rattle.kept.specs.Giving.{AreGivingOn}
-use Rattle.kept.proofs.Edits.{begins, rows_edited, rows_stay, stays, was_or_begun}
-use Rattle.kept.proofs.Follows.{none_given}
-use Rattle.kept.proofs.Members.{in_filter, none_in_nil}
+use Rattle.daily_vrps.specs.Giving.{AreGivingOn}
+use Rattle.daily_vrps.proofs.Edits.{begins, rows_edited, rows_stay, stays, was_or_begun}
+use Rattle.daily_vrps.proofs.Follows.{none_given}
+use Rattle.daily_vrps.proofs.Members.{in_filter, none_in_nil}
 
 module _ (rows : AllRows) (change : HolderChange) (mine : Rows) (day : ℕ) (v : Vrp) (once : GivenOnce rows) (of : rows.of_holder change.holder ≡ Some mine) where
   -- an authorization that gives what an ended one gave is that one

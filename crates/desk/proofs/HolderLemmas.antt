@@ -2,14 +2,14 @@
 use Rattle.std.proofs.Common.{◌≡◌, ℕ, Bool, true, false, ◌↔◌, cond, List, [], ◌∷◌, Option, Some, None, IfSome, inl, inr, refl, sym, ap, ◌∙◌, subst}
 use Rattle.std.specs.Global.{Vec}
 use Rattle.std.proofs.lemmas.Bool.{cases_Bool, cond-false, or_parts, true≢false}
-use Rattle.histories.specs.Growth.{GrowthIsLegal}
-use Rattle.isolation.specs.Isolation.{concerns_all_holders, AreJudgedAlike, AreSeenAlike, GrowAlike, CommandsByEntries, HypotheticalByEntries, ImportsByEntries, QueriesByEntries}
+use Rattle.registry_laws.specs.Growth.{GrowthIsLegal}
+use Rattle.registry_laws.specs.Isolation.{concerns_all_holders, AreJudgedAlike, AreSeenAlike, GrowAlike, CommandsByEntries, HypotheticalByEntries, ImportsByEntries, QueriesByEntries}
 use Rattle.addr.specs.declared.route.Route.{Route}
 use Rattle.registry.specs.declared.authorization.ImportRow.{ImportRow}
 use Rattle.registry.specs.declared.change.Change.{Change}
 use Rattle.registry.specs.declared.change.Change.TheVariants.{Holders, Exceptions as Replace}
 use Rattle.registry.specs.declared.change.HolderChange.{HolderChange}
-use Rattle.charters.specs.declared.charter.Charter.{Charter}
+use Rattle.registry.specs.declared.charter.Charter.{Charter}
 use Rattle.registry.specs.declared.command.Command.{Command}
 use Rattle.registry.specs.declared.command.Command.TheVariants.{Import}
 use Rattle.registry.specs.declared.command.Proposed.{Proposed}

@@ -4,11 +4,11 @@ use Rattle.std.specs.Global.{Vec}
 use Rattle.std.specs.Prelude.{IfSome, IsTrue, is_some}
 use Rattle.std.proofs.lemmas.Bool.{true≢false}
 use Rattle.addr.specs.declared.vrp.Vrp.{Vrp}
-use Rattle.charters.specs.CharterSets.{CharterSets}
-use Rattle.kept.proofs.ExceptionLemmas.{after_alike}
-use Rattle.kept.proofs.DayLemmas.{day_of_history}
-use Rattle.kept.specs.Days.{IsDayOf, IsDayOfRows}
-use Rattle.kept.specs.KeptDay.{exceptions_of, HasExceptions, KeptDay}
+use Rattle.registry.specs.CharterSets.{CharterSets}
+use Rattle.daily_vrps.proofs.ExceptionLemmas.{after_alike}
+use Rattle.daily_vrps.proofs.DayLemmas.{day_of_history}
+use Rattle.daily_vrps.specs.Days.{IsDayOf, IsDayOfRows}
+use Rattle.daily_vrps.specs.KeptDay.{kept_exceptions, HasExceptions, KeptDay}
 use Rattle.registry.specs.History.{History}
 use Rattle.registry.specs.RowsOfAll.{AllRows, HasRows, blank_rows, changed_rows}
 use Rattle.registry.specs.Rows.{Rows, RowsIfAny}
@@ -28,14 +28,14 @@ use Rattle.sqlite.specs.Store.{Ghosts}
 use Rattle.sqlite.specs.State.{HasCleanDisk}
 use Rattle.sqlite_rules.specs.Lists.{Has}
 use Rattle.sqlite_trees.specs.Tree.{Trees}
-use Rattle.tables.specs.TablesHold.{TablesHold}
-use Rattle.loads.proofs.HeldAlike.{held_alike}
-use Rattle.tables.proofs.Once.{AreNumberedOnce, given_alike, once_by_numbers}
+use Rattle.store_tables.specs.TablesHold.{TablesHold}
+use Rattle.store_read.proofs.HeldAlike.{held_alike}
+use Rattle.store_tables.proofs.Once.{AreNumberedOnce, given_alike, once_by_numbers}
 use Rattle.store.specs.Given.{GivenOnce}
-use Rattle.loads.specs.Loads.{AreFilesOf}
-use Rattle.store.specs.StoreRows.{connection_state, Holds, HoldsAfter, IsRead, OfHeldRows, StoreView}
-use Rattle.desk.specs.Desk.{charter_of, HoldsHistory, IsOnCleanDisk, KeepsRows, OfHistories, OfRows}
-use Rattle.desk.specs.DeskView.{HoldsKept}
+use Rattle.store_read.specs.Loads.{AreFilesOf}
+use Rattle.store.specs.StoreRows.{connection_state, Holds, HoldsAfter, IsRead, EachHeldRows, StoreView}
+use Rattle.desk.specs.Desk.{charter_of, HoldsHistory, IsOnCleanDisk, RowsStay, EachHistory, EachHeld}
+use Rattle.desk.specs.DeskView.{HoldsRowsAndDay}
 use Rattle.desk.specs.declared.desk.Desk.{Desk}
 use Rattle.desk.specs.steps.Following.{AreEnoughFor, Follows}
 use Rattle.desk.specs.steps.WhatIf.{IsDayOfHeld}
@@ -88,7 +88,7 @@ pub day_alike : (c d : CharterSets) (a b : AllRows) (trees : Trees) → AreNumbe
 day_alike c d a b trees once one other k is = record {
   exceptions = subst (HasExceptions k) (ap union (held_alike a.files b.files _ one.files other.files)) is.exceptions;
   given = λ v.
-      let alike = after_alike (exceptions_of k) v (given_alike c d a b trees once one other k.day v) (given_alike d c b a trees once other one k.day v) in
+      let alike = after_alike (kept_exceptions k) v (given_alike c d a b trees once one other k.day v) (given_alike d c b a trees once other one k.day v) in
       (λ there. alike.0 ((is.given v).0 there), λ after. (is.given v).1 (alike.1 after));
 }
 
@@ -96,36 +96,36 @@ module _ {S : Type 0} (g : Ghosts S) where
   -- ---- the invariant of a desk
 
   -- where the rows stay, what is kept of them stays so
-  pub kept_where : (old new : StoreView S) (kept : Option KeptDay) → HoldsKept g old kept
+  pub kept_where : (old new : StoreView S) (kept : Option KeptDay) → HoldsRowsAndDay g old kept
       → (HasCleanDisk (connection_state g new) → HasCleanDisk (connection_state g old))
-      → (HasCleanDisk (connection_state g new) → (rows : AllRows) → Holds g old rows → Holds g new rows) → HoldsKept g new kept
+      → (HasCleanDisk (connection_state g new) → (rows : AllRows) → Holds g old rows → Holds g new rows) → HoldsRowsAndDay g new kept
   kept_where old new kept holds before stay clean =
       let was = holds (before clean) in
       (was.0, stay clean was.0 was.1, was.2)
 
-  pub kept_read : (old new : StoreView S) (kept : Option KeptDay) → HoldsKept g old kept → IsRead g old new → HoldsKept g new kept
+  pub kept_read : (old new : StoreView S) (kept : Option KeptDay) → HoldsRowsAndDay g old kept → IsRead g old new → HoldsRowsAndDay g new kept
   kept_read old new kept holds read = kept_where old new kept holds read.clean read.rows
 
   -- nothing is kept after a read
-  pub none_read : (old new : StoreView S) (kept : Option KeptDay) → HoldsKept g old kept → IsRead g old new → HoldsKept g new None
+  pub none_read : (old new : StoreView S) (kept : Option KeptDay) → HoldsRowsAndDay g old kept → IsRead g old new → HoldsRowsAndDay g new None
   none_read old new kept holds read clean =
       let was = holds (read.clean clean) in
       (was.0, read.rows clean was.0 was.1, tt)
 
   -- or a day that was read
-  pub kept_anew : (old new : StoreView S) (kept : Option KeptDay) (k : KeptDay) → HoldsKept g old kept → IsRead g old new
-      → (HasCleanDisk (connection_state g new) → (rows : AllRows) → Holds g old rows → IsDayOfRows rows k) → HoldsKept g new (Some k)
+  pub kept_anew : (old new : StoreView S) (kept : Option KeptDay) (k : KeptDay) → HoldsRowsAndDay g old kept → IsRead g old new
+      → (HasCleanDisk (connection_state g new) → (rows : AllRows) → Holds g old rows → IsDayOfRows rows k) → HoldsRowsAndDay g new (Some k)
   kept_anew old new kept k holds read found clean =
       let was = holds (read.clean clean) in
       (was.0, read.rows clean was.0 was.1, found clean was.0 was.1)
 
   -- after a change that was made, what is kept follows it
-  pub kept_followed : (old mid new : StoreView S) (was kept : Option KeptDay) (change : Change) (one other : Option (Vec Auth)) → HoldsKept g old was → IsRead g old mid
+  pub kept_followed : (old mid new : StoreView S) (was kept : Option KeptDay) (change : Change) (one other : Option (Vec Auth)) → HoldsRowsAndDay g old was → IsRead g old mid
       → (HasCleanDisk (connection_state g new) → HasCleanDisk (connection_state g mid))
       → (HasCleanDisk (connection_state g new) → HoldsAfter g mid new (changed_rows change))
-      → (HasCleanDisk (connection_state g mid) → OfHeldRows g old (AreEnoughFor change one other))
-      → (HasCleanDisk (connection_state g new) → OfHeldRows g mid GivenOnce)
-      → Follows change one other was kept → HoldsKept g new kept
+      → (HasCleanDisk (connection_state g mid) → EachHeldRows g old (AreEnoughFor change one other))
+      → (HasCleanDisk (connection_state g new) → EachHeldRows g mid GivenOnce)
+      → Follows change one other was kept → HoldsRowsAndDay g new kept
   kept_followed old mid new was kept change one other holds read before after enough once follows clean =
       let in_mid = before clean in
       let of = holds (read.clean in_mid) in
@@ -136,7 +136,7 @@ module _ {S : Type 0} (g : Ghosts S) where
   -- ---- a desk that holds a history
 
   -- what it keeps is of the history
-  pub kept_of : (desk : Desk S) (history : History) → HoldsKept g desk.store desk.kept → IsOnCleanDisk g desk
+  pub kept_of : (desk : Desk S) (history : History) → HoldsRowsAndDay g desk.store desk.kept → IsOnCleanDisk g desk
       → IsLegal (charter_of desk) history → HoldsHistory g desk history → IfSome desk.kept (IsDayOf history)
   kept_of desk history keeps clean legal held = go (connection_state g desk.store).is_open refl
     where
@@ -160,7 +160,7 @@ module _ {S : Type 0} (g : Ghosts S) where
   same_files store a b clean opened one other = held_alike a.files b.files _ (one clean opened).files (other clean opened).files
 
   -- where a change was made that brings no files, what was kept has the exceptions of whatever rows were held
-  pub exceptions_held : (old mid new : StoreView S) (was : Option KeptDay) (first : HolderChange) (second : Option HolderChange) (rows : AllRows) → HoldsKept g old was → IsRead g old mid
+  pub exceptions_held : (old mid new : StoreView S) (was : Option KeptDay) (first : HolderChange) (second : Option HolderChange) (rows : AllRows) → HoldsRowsAndDay g old was → IsRead g old mid
       → HasCleanDisk (connection_state g mid) → HasCleanDisk (connection_state g new) → IsTrue (connection_state g new).is_open
       → HoldsAfter g mid new (changed_rows (Holders first second)) → Holds g mid rows → IfSome was (λ k. HasExceptions k (union rows.files))
   exceptions_held old mid new was first second rows keeps read before clean opened after held =
@@ -174,7 +174,7 @@ module _ {S : Type 0} (g : Ghosts S) where
 
   -- an answer whether a holder is registered is one of an open connection: of a shut one nothing is known
   answered_open : (store : StoreView S) (holder : List ℕ) (registered : Bool)
-      → OfHeldRows g store (λ rows. registered ≡ is_some (rows.of_holder holder)) → IsTrue (connection_state g store).is_open
+      → EachHeldRows g store (λ rows. registered ≡ is_some (rows.of_holder holder)) → IsTrue (connection_state g store).is_open
   answered_open store holder registered found = go (connection_state g store).is_open refl
     where
       registers : AllRows
@@ -187,8 +187,8 @@ module _ {S : Type 0} (g : Ghosts S) where
           absurd (true≢false (sym (found registers (any registers)) ∙ found blank_rows (any blank_rows)))
 
   -- so what is kept is of the rows of each history that the tables hold
-  pub kept_held : (desk : Desk S) (k : KeptDay) (holder : List ℕ) (registered : Bool) → HoldsKept g desk.store desk.kept → desk.kept ≡ Some k
-      → IsOnCleanDisk g desk → OfHeldRows g desk.store (λ rows. registered ≡ is_some (rows.of_holder holder)) → IsDayOfHeld g desk k
+  pub kept_held : (desk : Desk S) (k : KeptDay) (holder : List ℕ) (registered : Bool) → HoldsRowsAndDay g desk.store desk.kept → desk.kept ≡ Some k
+      → IsOnCleanDisk g desk → EachHeldRows g desk.store (λ rows. registered ≡ is_some (rows.of_holder holder)) → IsDayOfHeld g desk k
   kept_held desk k holder registered keeps is clean found history legal held =
       let opened = answered_open desk.store holder registered found in
       let of = keeps clean in
@@ -199,17 +199,17 @@ module _ {S : Type 0} (g : Ghosts S) where
 
   -- a day that was read is of each history of the rows
   pub day_read : (old new : Desk S) (k : KeptDay) → (IsOnCleanDisk g new → (rows : AllRows) → Holds g old.store rows → IsDayOfRows rows k)
-      → OfRows g old new (λ history. IsDayOf history k)
+      → EachHeld g old new (λ history. IsDayOf history k)
   day_read old new k found clean history legal held =
       day_of_history (charter_of old) held.0 history legal held.1 k (found clean held.0 held.2)
 
   -- where the rows stay, and what is kept of a day, each history is held still
-  pub held_where : (old new : Desk S) → HoldsKept g old.store old.kept → (IsOnCleanDisk g new → IsOnCleanDisk g old)
-      → KeepsRows g old new → new.kept ≡ old.kept → OfHistories g old new (HoldsHistory g new)
+  pub held_where : (old new : Desk S) → HoldsRowsAndDay g old.store old.kept → (IsOnCleanDisk g new → IsOnCleanDisk g old)
+      → RowsStay g old new → new.kept ≡ old.kept → EachHistory g old new (HoldsHistory g new)
   held_where old new keeps before stay same clean history legal held =
       let is = kept_of old history keeps (before clean) legal held in
       (held.0, held.1, stay clean held.0 held.2, λ _ _. subst (λ (kept : Option KeptDay). IfSome kept (IsDayOf history)) (sym same) is)
 
-  pub held_read : (old new : Desk S) → HoldsKept g old.store old.kept → IsRead g old.store new.store → new.kept ≡ old.kept
-      → OfHistories g old new (HoldsHistory g new)
+  pub held_read : (old new : Desk S) → HoldsRowsAndDay g old.store old.kept → IsRead g old.store new.store → new.kept ≡ old.kept
+      → EachHistory g old new (HoldsHistory g new)
   held_read old new keeps read same = held_where old new keeps read.clean read.rows same

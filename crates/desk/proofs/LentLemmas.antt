@@ -3,8 +3,8 @@ use Rattle.std.proofs.Common.{◌≡◌, ◌≢◌, ℕ, Bool, true, false, ◌�
 use Rattle.std.specs.Prelude.{IfSome, is_ok, option_copied, option_map, OnErr, OnOk}
 use Rattle.std.proofs.lemmas.Bool.{true≢false}
 use Rattle.std.proofs.lemmas.Option.{none-some, same_Some}
-use Rattle.kept.specs.Days.{IsDayOf}
-use Rattle.kept.specs.KeptDay.{KeptDay}
+use Rattle.daily_vrps.specs.Days.{IsDayOf}
+use Rattle.daily_vrps.specs.KeptDay.{KeptDay}
 use Rattle.payload.proofs.Sets.{items_rise}
 use Rattle.payload.specs.VrpSet as set
 use Rattle.registry.specs.DailyVrps.{IsVrpOn}
@@ -14,8 +14,8 @@ use Rattle.desk.proofs.DayLemmas.{day_there}
 use Rattle.desk.proofs.FollowLemmas.{when_ok}
 use Rattle.desk.proofs.KeptLemmas.{kept_of}
 use Rattle.desk.specs.Answer.{AreVrpsOn}
-use Rattle.desk.specs.Desk.{OfHistories, OfRows}
-use Rattle.desk.specs.DeskView.{HoldsKept}
+use Rattle.desk.specs.Desk.{EachHistory, EachHeld}
+use Rattle.desk.specs.DeskView.{HoldsRowsAndDay}
 use Rattle.desk.specs.Lent.{HasLent}
 use Rattle.desk.specs.Prepared.{day_of, IsPrepared}
 use Rattle.desk.specs.declared.desk.Desk.{Desk}
@@ -39,7 +39,7 @@ module _ {S : Type 0} (g : Ghosts S) where
   }
 
   -- the day is kept already
-  pub prepared_same : (desk : Desk S) (day : ℕ) → HoldsKept g desk.store desk.kept → day_of desk.kept ≡ Some day → IsPrepared g day true desk desk
+  pub prepared_same : (desk : Desk S) (day : ℕ) → HoldsRowsAndDay g desk.store desk.kept → day_of desk.kept ≡ Some day → IsPrepared g day true desk desk
   prepared_same desk day keeps on = record {
     read = read_nothing desk.store;
     kept = λ _. on;
@@ -51,7 +51,7 @@ module _ {S : Type 0} (g : Ghosts S) where
 
   -- or was read, or could not be read
   pub prepared_anew : {T E : Type 0} (old new : Desk S) (day : ℕ) (r : Result T E) → day_of old.kept ≢ Some day → IsRead g old.store new.store
-      → OnOk r (day_of new.kept ≡ Some day) → OnErr r (new.kept ≡ None) → OfRows g old new (λ history. IfSome new.kept (IsDayOf history))
+      → OnOk r (day_of new.kept ≡ Some day) → OnErr r (new.kept ≡ None) → EachHeld g old new (λ history. IfSome new.kept (IsDayOf history))
       → IsPrepared g day (is_ok r) old new
   prepared_anew old new day r differs read done failed found = record {
     read = read;
@@ -65,7 +65,7 @@ module _ {S : Type 0} (g : Ghosts S) where
 
   -- the VRPs that are kept are those of the day
   lent_day : (old new : Desk S) (day : ℕ) (vrps : set.VrpSet) → IsPrepared g day true old new → Some vrps ≡ vrps_of new.kept
-      → OfHistories g old new (λ history. AreVrpsOn history day (set.items vrps))
+      → EachHistory g old new (λ history. AreVrpsOn history day (set.items vrps))
   lent_day old new day vrps prepared is clean history legal held = go new.kept refl
     where
       go : (kept : Option KeptDay) → new.kept ≡ kept → AreVrpsOn history day (set.items vrps)
@@ -81,7 +81,7 @@ module _ {S : Type 0} (g : Ghosts S) where
           )
 
   pub lent_kept : (old new : Desk S) (day : ℕ) (done : Bool) (vrps : set.VrpSet) → IsPrepared g day done old new
-      → Some vrps ≡ option_map (λ (k : KeptDay). k.vrps) new.kept → OfHistories g old new (λ history. AreVrpsOn history day (set.items vrps))
+      → Some vrps ≡ option_map (λ (k : KeptDay). k.vrps) new.kept → EachHistory g old new (λ history. AreVrpsOn history day (set.items vrps))
   lent_kept old new day true vrps prepared is = lent_day old new day vrps prepared is
   lent_kept old new day false vrps prepared is = λ clean history legal held. absurd (none-some vrps (sym (is ∙ ap vrps_of (prepared.none refl))))
 

@@ -1,3 +1,4 @@
+pub mod ContentLemmas
 pub mod HolderLemmas
 pub mod DeskLemmas
 pub mod RunLemmas

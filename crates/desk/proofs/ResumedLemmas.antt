@@ -5,17 +5,17 @@ use Rattle.sqlite.specs.Effect.{IsDatabase}
 use Rattle.sqlite.specs.State.{State, IsLive}
 use Rattle.sqlite.specs.Store.{Ghosts}
 use Rattle.sqlite_trees.specs.Tree.{Trees}
-use Rattle.charters.specs.CharterSets.{IsCharter}
-use Rattle.charters.specs.declared.charter.Charter.{Charter}
-use Rattle.histories.specs.Growth.{GrowthFits, GrowthIsLegal}
+use Rattle.registry.specs.CharterSets.{IsCharter}
+use Rattle.registry.specs.declared.charter.Charter.{Charter}
+use Rattle.registry_laws.specs.Growth.{GrowthFits, GrowthIsLegal}
 use Rattle.registry.specs.History.{History}
 use Rattle.registry.specs.Values.{AskedFits, HistoryFits, RequestFits}
 use Rattle.registry.specs.Verdict.{IsLegal}
 use Rattle.registry.specs.declared.asked.Asked.{Asked}
 use Rattle.registry.specs.declared.asked.Request.{Request}
 use Rattle.registry.specs.declared.asked.Request.TheVariants.{Command as CommandRequest, Query as QueryRequest}
-use Rattle.database.specs.Opening.{IsOfAnotherSchema}
-use Rattle.database.specs.Laws.{DeskTreesHaveTables, OldDeskTreesHaveSchema}
+use Rattle.store_open.specs.Opening.{IsOfAnotherSchema}
+use Rattle.store_open.specs.Laws.{DeskTreesHaveTables, OldDeskTreesHaveSchema}
 use Rattle.store.specs.Laws.{HistoriesRead, OldHistoriesRead, OldTablesThatReadAreOurs, TablesThatReadAreOurs}
 use Rattle.store.specs.StoreRows.{IsOpened}
 use Rattle.desk.specs.Answer.{AnswersRequest}

@@ -4,12 +4,12 @@ use Rattle.std.specs.List.{list_any}
 use Rattle.std.proofs.lemmas.Bool.{or_parts}
 use Rattle.std.proofs.lemmas.List.Folds.{list_any-append, list_any_more}
 use Rattle.registry.specs.History.{History}
-use Rattle.charters.specs.declared.charter.Charter.{Charter}
+use Rattle.registry.specs.declared.charter.Charter.{Charter}
 use Rattle.desk.specs.Answer.{is_accepted, AnswersRequest}
 use Rattle.sqlite.specs.Store.{Ghosts}
-use Rattle.desk.specs.Desk.{IsOnCleanDisk, KeepsRows}
+use Rattle.desk.specs.Desk.{IsOnCleanDisk, RowsStay}
 use Rattle.desk.specs.declared.desk.Desk.{Desk}
-use Rattle.desk.specs.HolderAnswers.{may_change, may_change_any, may_except, may_except_any, KeepsOthers}
+use Rattle.desk.specs.HolderAnswers.{may_change, may_change_any, may_except, may_except_any, OthersStay}
 use Rattle.desk.specs.Run.{Runs}
 use Rattle.registry.specs.declared.asked.Asked.{Asked}
 use Rattle.desk.specs.declared.reply.Reply.{Reply}
@@ -28,8 +28,8 @@ Runs-append charter before middle after (x ∷ asked) (r ∷ replies) a reply ru
 -- one more reply that accepts nothing keeps the rows, where those before it accept nothing either
 pub kept_more : {S : Type 0} (g : Ghosts S) (replies grown : List Reply) (reply : Reply) (start old new : Desk S)
     → grown ≡ replies ++ reply ∷ [] → (IsOnCleanDisk g new → IsOnCleanDisk g old)
-    → (list_any is_accepted replies ≡ false → KeepsRows g start old) → (is_accepted reply ≡ false → KeepsRows g old new)
-    → list_any is_accepted grown ≡ false → KeepsRows g start new
+    → (list_any is_accepted replies ≡ false → RowsStay g start old) → (is_accepted reply ≡ false → RowsStay g old new)
+    → list_any is_accepted grown ≡ false → RowsStay g start new
 kept_more g replies grown reply start old new pushed before first second none clean rows holds =
     let both : (list_any is_accepted replies || (is_accepted reply || false)) ≡ false = sym (list_any-append is_accepted replies (reply ∷ [])) ∙ ap (list_any is_accepted) (sym pushed) ∙ none in
     let parts = or_parts (list_any is_accepted replies) (is_accepted reply || false) both in
@@ -38,9 +38,9 @@ kept_more g replies grown reply start old new pushed before first second none cl
 -- one more request leaves the rows of those that neither it nor those before it may change
 pub others_more : {S : Type 0} (g : Ghosts S) (asked : List Asked) (index : ℕ) (a : Asked) (start old new : Desk S)
     → index < length asked → a ≡ get_or asked index a
-    → KeepsOthers g (may_change_any (take index asked)) (may_except_any (take index asked)) start old
-    → KeepsOthers g (may_change a.request) (may_except a.request) old new
-    → KeepsOthers g (may_change_any (take (index + 1) asked)) (may_except_any (take (index + 1) asked)) start new
+    → OthersStay g (may_change_any (take index asked)) (may_except_any (take index asked)) start old
+    → OthersStay g (may_change a.request) (may_except a.request) old new
+    → OthersStay g (may_change_any (take (index + 1) asked)) (may_except_any (take (index + 1) asked)) start new
 others_more g asked index a start old new below here first second rows holds =
     let one = first rows holds in
     let two = second one.0 one.1 in

@@ -17,7 +17,7 @@ use Rattle.registry.specs.HypotheticalHistory.{HypotheticalHistory, IsChangeDeni
 use Rattle.registry.specs.Values.{HistoryFits}
 use Rattle.registry.specs.Verdict.{ShowVerdict, ListVerdict, IsLegal}
 use Rattle.registry.specs.declared.authorization.Auth.{Auth}
-use Rattle.charters.specs.declared.charter.Charter.{Charter}
+use Rattle.registry.specs.declared.charter.Charter.{Charter}
 use Rattle.registry.specs.declared.command.Command.{Command}
 use Rattle.registry.specs.declared.command.Command.TheVariants.{Import}
 use Rattle.registry.specs.declared.command.Proposed.{Proposed}
@@ -25,8 +25,8 @@ use Rattle.registry.specs.declared.command.Query.{Query}
 use Rattle.registry.specs.declared.command.Query.TheVariants.{Show as ShowQuery, Content as ContentQuery, List as ListQuery, Payloads as PayloadsQuery, Validity as ValidityQuery, WhatIf as WhatIfQuery}
 use Rattle.registry.specs.declared.rule.Refusal.{Refusal}
 use Rattle.registry.specs.declared.rule.Refusal.TheVariants.{Denied as Refused, Memory}
-use Rattle.contents.specs.ContentText.{IsContentText}
-use Rattle.kept.specs.States.{states_after, states_now, HaveStates}
+use Rattle.desk.specs.ContentText.{IsContentText}
+use Rattle.daily_vrps.specs.States.{states_after, states_now, HaveStates}
 use Rattle.sqlite.specs.Store.{Ghosts}
 use Rattle.desk.specs.Desk.{HoldsHistory}
 use Rattle.desk.specs.declared.desk.Desk.{Desk}

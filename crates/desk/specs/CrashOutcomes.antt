@@ -4,13 +4,13 @@
 use Rattle.std.specs.Prelude.{◌≡◌, ◌⊎◌, ℕ, true, List, [], ◌∷◌, Contains, IsTrue}
 use Rattle.sqlite.specs.Store.{Ghosts}
 use Rattle.sqlite_trees.specs.Tree.{Trees}
-use Rattle.charters.specs.declared.charter.Charter.{Charter}
+use Rattle.registry.specs.declared.charter.Charter.{Charter}
 use Rattle.registry.specs.History.{History}
 use Rattle.registry.specs.RowsOfAll.{AllRows, HasRows}
 use Rattle.registry.specs.declared.asked.Asked.{Asked}
 use Rattle.registry.specs.declared.asked.Request.{Request}
-use Rattle.tables.specs.TablesHold.{TablesHold}
-use Rattle.transactions.specs.Databases.{IsDeskTrees}
+use Rattle.store_tables.specs.TablesHold.{TablesHold}
+use Rattle.store_transactions.specs.Databases.{IsDeskTrees}
 use Rattle.store.specs.StoreRows.{connection_state}
 use Rattle.desk.specs.Answer.{is_accepted, AnswersRequest, IsAnswered}
 use Rattle.desk.specs.Desk.{charter_of, store_of, HoldsHistory, IsOnCleanDisk}
@@ -77,13 +77,13 @@ LeavesAlong g charter old before to new after =
     → LeavesAtMost g charter new after (to pending)
 
 -- a request was answered, and a crash leaves no more than that
-pub record IsKept {S : Type 0} (g : Ghosts S) (charter : Charter) (before : History)
+pub record IsDurablyAnswered {S : Type 0} (g : Ghosts S) (charter : Charter) (before : History)
     (asked : Asked) (reply : Reply) (old new : Desk S) : Type 0 where
   pub answered : IsAnswered g charter before asked.day asked.caller asked.request reply new
   pub left : LeavesAlong g charter old before (pending_after asked reply) new answered.after
 
 -- requests were answered, and a crash leaves no more than that
-pub record AreKept {S : Type 0} (g : Ghosts S) (charter : Charter) (before : History)
+pub record AreDurablyAnswered {S : Type 0} (g : Ghosts S) (charter : Charter) (before : History)
     (asked : List Asked) (replies : List Reply) (old new : Desk S) : Type 0 where
   pub answered : AreAnswered g charter before asked replies new
   pub left : LeavesAlong g charter old before (pending_after_all asked replies) new answered.after

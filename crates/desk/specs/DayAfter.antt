@@ -1,7 +1,7 @@
 -- What a request makes of the day whose VRPs are kept.
 use Rattle.std.specs.Prelude.{◌≡◌, ◌≢◌, ◌⊎◌, ℕ, zero, ◌≤◌, Bool, true, false, List, [], ◌∷◌, Contains, Option, Some, None, IfSome, ⊤}
 use Rattle.addr.specs.declared.vrp.Vrp.{Vrp}
-use Rattle.charters.specs.declared.charter.Charter.{Charter}
+use Rattle.registry.specs.declared.charter.Charter.{Charter}
 use Rattle.registry.specs.DailyVrps.{IsVrpOn}
 use Rattle.registry.specs.History.{History}
 use Rattle.registry.specs.declared.authorization.ImportRow.{ImportRow}

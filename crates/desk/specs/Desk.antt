@@ -1,15 +1,15 @@
 -- What a desk keeps: its charter, in the tables of its store the rows of each holder and the SLURM files,
 -- and beside them the VRPs of a day.
 use Rattle.std.specs.Prelude.{◌≡◌, false, IfSome}
-use Rattle.kept.specs.Days.{IsDayOf}
+use Rattle.daily_vrps.specs.Days.{IsDayOf}
 use Rattle.sqlite.specs.State.{State, HasCleanDisk}
 use Rattle.sqlite.specs.Store.{Ghosts}
-use Rattle.charters.specs.CharterSets.{IsCharter}
+use Rattle.registry.specs.CharterSets.{IsCharter}
 use Rattle.registry.specs.History.{History}
 use Rattle.registry.specs.RowsOfAll.{AllRows, HasRows}
 use Rattle.registry.specs.Verdict.{IsLegal}
-use Rattle.charters.specs.declared.charter.Charter.{Charter}
-use Rattle.moving.specs.EitherSchema.{EitherSchemaHolds}
+use Rattle.registry.specs.declared.charter.Charter.{Charter}
+use Rattle.store_schema.specs.EitherSchema.{EitherSchemaHolds}
 use Rattle.store.specs.StoreRows.{connection_state, Holds, StoreView}
 use Rattle.desk.specs.declared.desk.Desk.{Desk}
 
@@ -30,32 +30,32 @@ abbrev pub HoldsRowsOf : {S : Type 0} → Ghosts S → Desk S → History → Ty
 HoldsRowsOf g desk history = (rows : AllRows) × HasRows rows history × Holds g (store_of desk) rows
 
 -- Once the connection is shut, nothing is known of the tables. The kept day is then still that of the history.
-abbrev pub KeepsWhileShut : {S : Type 0} → Ghosts S → Desk S → History → Type 0
-KeepsWhileShut g desk history =
+abbrev pub DayStaysWhileShut : {S : Type 0} → Ghosts S → Desk S → History → Type 0
+DayStaysWhileShut g desk history =
     IsOnCleanDisk g desk → (connection_state g (store_of desk)).is_open ≡ false
     → IfSome desk.kept (IsDayOf history)
 
 -- the tables of the desk hold the rows of the history, and the day that is kept over a shut connection is of it too
 abbrev pub HoldsHistory : {S : Type 0} → Ghosts S → Desk S → History → Type 0
 HoldsHistory g desk history =
-    (rows : AllRows) × HasRows rows history × Holds g (store_of desk) rows × KeepsWhileShut g desk history
+    (rows : AllRows) × HasRows rows history × Holds g (store_of desk) rows × DayStaysWhileShut g desk history
 
 -- this holds for each legal history that the desk held before, if the disk returned what was written
-abbrev pub OfHistories : {S : Type 0} → Ghosts S → Desk S → Desk S → (History → Type 0) → Type 0
-OfHistories g old new so =
+abbrev pub EachHistory : {S : Type 0} → Ghosts S → Desk S → Desk S → (History → Type 0) → Type 0
+EachHistory g old new so =
     IsOnCleanDisk g new → (history : History) → IsLegal (charter_of old) history
     → HoldsHistory g old history → so history
 
 -- this holds for each legal history whose rows the tables held before, if the disk returned what
 -- was written
-abbrev pub OfRows : {S : Type 0} → Ghosts S → Desk S → Desk S → (History → Type 0) → Type 0
-OfRows g old new so =
+abbrev pub EachHeld : {S : Type 0} → Ghosts S → Desk S → Desk S → (History → Type 0) → Type 0
+EachHeld g old new so =
     IsOnCleanDisk g new → (history : History) → IsLegal (charter_of old) history
     → HoldsRowsOf g old history → so history
 
 -- the tables hold the rows that they held
-abbrev pub KeepsRows : {S : Type 0} → Ghosts S → Desk S → Desk S → Type 0
-KeepsRows g old new =
+abbrev pub RowsStay : {S : Type 0} → Ghosts S → Desk S → Desk S → Type 0
+RowsStay g old new =
     IsOnCleanDisk g new → (rows : AllRows)
     → Holds g (store_of old) rows → Holds g (store_of new) rows
 

@@ -1,8 +1,8 @@
 -- What a desk shows: its store, and the VRPs of a day that it keeps beside the tables.
 use Rattle.std.specs.Prelude.{Option, IfSome, refl}
 use Rattle.std.specs.Coded.{Coded, code_by, coded×, coded_option}
-use Rattle.kept.specs.Days.{IsDayOfRows}
-use Rattle.kept.specs.KeptDay.{day_code, KeptDay}
+use Rattle.daily_vrps.specs.Days.{IsDayOfRows}
+use Rattle.daily_vrps.specs.KeptDay.{day_code, KeptDay}
 use Rattle.registry.specs.RowsOfAll.{AllRows}
 use Rattle.sqlite.specs.State.{HasCleanDisk}
 use Rattle.sqlite.specs.Store.{Ghosts}
@@ -19,7 +19,7 @@ desk_code {S} store =
 
 -- the tables hold some rows, and what is kept of a day is theirs, unless the disk returned what was not
 -- written
-abbrev pub HoldsKept : {S : Type 0} → Ghosts S → StoreView S → Option KeptDay → Type 0
-HoldsKept g store kept =
+abbrev pub HoldsRowsAndDay : {S : Type 0} → Ghosts S → StoreView S → Option KeptDay → Type 0
+HoldsRowsAndDay g store kept =
     HasCleanDisk (connection_state g store)
     → (rows : AllRows) × Holds g store rows × IfSome kept (IsDayOfRows rows)

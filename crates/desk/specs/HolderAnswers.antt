@@ -2,8 +2,8 @@
 -- a request may change.
 use Rattle.std.specs.Prelude.{◌≡◌, ℕ, Bool, false, List, [], ◌∷◌, Option, Some, None, IfSome, option_map, if◌then◌else◌}
 use Rattle.std.specs.List.{list_any}
-use Rattle.isolation.specs.Isolation.{concerns_all_holders}
-use Rattle.charters.specs.declared.charter.Charter.{Charter}
+use Rattle.registry_laws.specs.Isolation.{concerns_all_holders}
+use Rattle.registry.specs.declared.charter.Charter.{Charter}
 use Rattle.registry.specs.declared.command.Query.TheVariants.{WhatIf}
 use Rattle.registry.specs.ExceptionsInForce.{brings_exceptions}
 use Rattle.registry.specs.History.{History}
@@ -81,8 +81,8 @@ may_except_any asked = list_any (λ a. may_except a.request) asked
 
 -- of each holder for which the test is false the tables hold, in every one, the rows that they held; and
 -- the SLURM files that they held, unless these may change
-abbrev pub KeepsOthers : {S : Type 0} → Ghosts S → (List ℕ → Bool) → Bool → Desk S → Desk S → Type 0
-KeepsOthers g changes excepts old new =
+abbrev pub OthersStay : {S : Type 0} → Ghosts S → (List ℕ → Bool) → Bool → Desk S → Desk S → Type 0
+OthersStay g changes excepts old new =
     (rows : AllRows) → Holds g (store_of old) rows
     → (after : AllRows) × Holds g (store_of new) after
     × ((h : List ℕ) → changes h ≡ false → after.of_holder h ≡ rows.of_holder h)

@@ -5,7 +5,7 @@ use Rattle.std.specs.Io.BufRead.{Rests}
 use Rattle.payload.specs.VrpSet as set
 use Rattle.sqlite.specs.Store.{Ghosts}
 use Rattle.desk.specs.Answer.{AreVrpsOn}
-use Rattle.desk.specs.Desk.{OfHistories}
+use Rattle.desk.specs.Desk.{EachHistory}
 use Rattle.desk.specs.Prepared.{IsPrepared}
 use Rattle.desk.specs.contracts.desk.Desk.{the_row}
 use Rattle.desk.specs.declared.desk.Desk.{Desk}
@@ -17,7 +17,7 @@ pub record HasLent {S : Type 0} (g : Ghosts S) (day : ℕ) (old : Desk S) (resul
   pub prepared : IsPrepared g day (is_some result) old new
   pub lent : IfSome result (λ vrps. IfSome new.kept (λ kept. kept.vrps ≡ vrps.now))
   pub answered :
-      OfHistories g old new (λ history. IfSome result (λ vrps. AreVrpsOn history day (set.items vrps.now)))
+      EachHistory g old new (λ history. IfSome result (λ vrps. AreVrpsOn history day (set.items vrps.now)))
 
 -- it has once the loan is over
 abbrev pub Lends : (S : RattleType) → Ghosts S.Denot → ℕ → MutBor (Desk S.Denot) → Option (Bor set.VrpSet) → Fml

@@ -1,3 +1,4 @@
+pub mod ContentText
 pub mod Answer
 pub mod CrashOutcomes
 pub mod Resumed

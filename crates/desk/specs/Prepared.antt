@@ -1,10 +1,10 @@
 -- A day that a desk keeps for a query.
 use Rattle.std.specs.Prelude.{◌≡◌, ℕ, Bool, true, false, Option, Some, None, IfSome, option_map}
-use Rattle.kept.specs.Days.{IsDayOf}
-use Rattle.kept.specs.KeptDay.{KeptDay}
+use Rattle.daily_vrps.specs.Days.{IsDayOf}
+use Rattle.daily_vrps.specs.KeptDay.{KeptDay}
 use Rattle.sqlite.specs.Store.{Ghosts}
 use Rattle.store.specs.StoreRows.{IsRead}
-use Rattle.desk.specs.Desk.{store_of, HoldsHistory, OfHistories}
+use Rattle.desk.specs.Desk.{store_of, HoldsHistory, EachHistory}
 use Rattle.desk.specs.declared.desk.Desk.{Desk}
 
 abbrev pub day_of : Option KeptDay → Option ℕ
@@ -17,5 +17,5 @@ pub record IsPrepared {S : Type 0} (g : Ghosts S) (day : ℕ) (done : Bool) (old
   pub kept : done ≡ true → day_of new.kept ≡ Some day
   pub none : done ≡ false → new.kept ≡ None
   pub same : day_of old.kept ≡ Some day → (done ≡ true) × (new ≡ old)
-  pub held : OfHistories g old new (HoldsHistory g new)
-  pub found : OfHistories g old new (λ history. IfSome new.kept (IsDayOf history))
+  pub held : EachHistory g old new (HoldsHistory g new)
+  pub found : EachHistory g old new (λ history. IfSome new.kept (IsDayOf history))

@@ -5,16 +5,16 @@ use Rattle.sqlite.specs.State.{State}
 use Rattle.sqlite.specs.Store.{Ghosts}
 use Rattle.sqlite_trees.specs.Tree.{Trees}
 use Rattle.addr.specs.Name.{is_name}
-use Rattle.charters.specs.CharterSets.{IsCharter}
-use Rattle.charters.specs.declared.charter.Charter.{Charter}
+use Rattle.registry.specs.CharterSets.{IsCharter}
+use Rattle.registry.specs.declared.charter.Charter.{Charter}
 use Rattle.registry.specs.History.{History}
 use Rattle.registry.specs.RowsOfAll.{AllRows, HasRows}
 use Rattle.registry.specs.Values.{AskedFits, HistoryFits}
 use Rattle.registry.specs.Verdict.{IsLegal}
 use Rattle.registry.specs.declared.asked.Asked.{Asked}
-use Rattle.moving.specs.EitherSchema.{EitherSchemaHolds}
-use Rattle.moving.specs.OldTables.{OldTablesHold}
-use Rattle.database.specs.OldTrees.{IsOldDeskTrees}
+use Rattle.store_schema.specs.EitherSchema.{EitherSchemaHolds}
+use Rattle.store_schema.specs.OldTables.{OldTablesHold}
+use Rattle.store_open.specs.OldTrees.{IsOldDeskTrees}
 use Rattle.desk.specs.CrashOutcomes.{IsAcceptedOn, LeavesAtMost, MayBeLeft}
 use Rattle.desk.specs.Desk.{Represents}
 use Rattle.desk.specs.declared.desk.Desk.{Desk}

@@ -3,7 +3,7 @@ use Rattle.std.specs.Prelude.{◌≡◌, List, [], ◌∷◌}
 use Rattle.registry.specs.History.{History}
 use Rattle.registry.specs.Values.{HistoryFits}
 use Rattle.registry.specs.Verdict.{IsLegal}
-use Rattle.charters.specs.declared.charter.Charter.{Charter}
+use Rattle.registry.specs.declared.charter.Charter.{Charter}
 use Rattle.desk.specs.Answer.{AnswersRequest}
 use Rattle.sqlite.specs.Store.{Ghosts}
 use Rattle.desk.specs.Desk.{HoldsHistory}

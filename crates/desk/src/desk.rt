@@ -1,26 +1,26 @@
 //! The desk, and how it handles requests.
 ghost use Rattle.std.specs.Prelude.{◌≡◌, ◌≢◌, true, false, None, [], ◌∷◌, Err, IfOk, IfErr, OnOk, OnErr};
 ghost use Rattle.std.specs.List.{list_any};
-ghost use Rattle.registry.specs.Answer.{AnswersList, AnswersNumber};
+ghost use Rattle.registry.specs.Answer.{ListBasis, AnswersNumber};
 ghost use Rattle.registry.specs.History.{History};
 ghost use Rattle.registry.specs.Verdict.{auth_of_number};
 ghost use Rattle.sqlite.specs.Held.{state};
 ghost use Rattle.sqlite.specs.State.{HasCleanDisk};
 ghost use Rattle.sqlite.specs.Steps.{over_memory};
-ghost use Rattle.store.specs.StoreRows.{connection_state, IfClean, IsRead, IsOpened};
+ghost use Rattle.store.specs.StoreRows.{connection_state, OnCleanStore, IsRead, IsOpened};
 ghost use Rattle.store.specs.RefusedOpening.{IsGivenBack, IsNotMade};
-ghost use Rattle.transactions.specs.Databases.{IsDeskWhileOpen, IsNew, IsUnused, LeavesNew, IsHonest};
-ghost use Rattle.database.specs.Opening.{IsOfAnotherSchema};
+ghost use Rattle.store_transactions.specs.Databases.{IsDeskWhileOpen, IsNew, IsUnused, LeavesNew, IsHonest};
+ghost use Rattle.store_open.specs.Opening.{IsOfAnotherSchema};
 ghost use Rattle.desk.specs.Answer.{is_accepted, only_reads, IsAnswered};
-ghost use Rattle.desk.specs.CrashOutcomes.{asked_on, AreKept, HasNonePending, IsKept};
+ghost use Rattle.desk.specs.CrashOutcomes.{asked_on, AreDurablyAnswered, HasNonePending, IsDurablyAnswered};
 ghost use Rattle.desk.specs.CrashOutcomes.{LeavesAlong, LeavesAtMost, StaysOpen};
 ghost use Rattle.desk.specs.Resumed.{FindsLeft, ResumesHistories};
 ghost use Rattle.desk.specs.Run.{AreAnswered};
 ghost use Rattle.desk.specs.HolderAnswers.{may_change, may_change_any, may_except, may_except_any};
-ghost use Rattle.desk.specs.HolderAnswers.{IsAnswerByEntries, KeepsOthers, RunsByEntries};
+ghost use Rattle.desk.specs.HolderAnswers.{IsAnswerByEntries, OthersStay, RunsByEntries};
 ghost use Rattle.desk.specs.Desk.{charter_of, store_of, ContinuesHistories, HoldsHistory};
-ghost use Rattle.desk.specs.Desk.{IsOnCleanDisk, KeepsRows, OfHistories, OfRows};
-ghost use Rattle.desk.specs.DeskView.{HoldsKept};
+ghost use Rattle.desk.specs.Desk.{IsOnCleanDisk, RowsStay, EachHistory, EachHeld};
+ghost use Rattle.desk.specs.DeskView.{HoldsRowsAndDay};
 ghost use Rattle.desk.specs.DayAfter.{DayAfter, DayAfterAll, DropsForGainAll, DropsForGain};
 ghost use Rattle.desk.specs.Prepared.{day_of};
 
@@ -32,7 +32,7 @@ mod what_if;
 
 use crate::{Asked, Reply, Request};
 use addr::{Day, Name};
-use kept::Kept;
+use daily_vrps::DailyVrps;
 use registry::{Charter, HolderRows};
 use sqlite::{Alter, Connection, MemStore};
 use std::alloc::{AllocError, Global};
@@ -45,11 +45,11 @@ use store::{Store, StoreFault};
 pub struct Desk<S: Alter> {
     alloc: Global,
     store: Store<S>,
-    kept: Option<Kept>,
+    kept: Option<DailyVrps>,
 }
 
 impl<S: Alter> Model for Desk<S> {
-    ghost use Rattle.desk.specs.DeskView.{desk_code, DeskView, HoldsKept};
+    ghost use Rattle.desk.specs.DeskView.{desk_code, DeskView, HoldsRowsAndDay};
 
     ghost Value = { DeskView S };
 
@@ -57,7 +57,7 @@ impl<S: Alter> Model for Desk<S> {
 
     ghost view = { λ desk. record { store = desk.store; kept = desk.kept } };
 
-    ghost invariant = { λ desk. HoldsKept S.Store desk.store desk.kept };
+    ghost invariant = { λ desk. HoldsRowsAndDay S.Store desk.store desk.kept };
 }
 
 impl<S: Alter + Drop> Desk<S> {
@@ -75,11 +75,11 @@ impl<S: Alter + Drop> Desk<S> {
         ensures unused { OnOk result (IsUnused (state S.Store conn)) }
         ensures no_day { IfOk result (λ desk. desk.kept ≡ None) }
         ensures unlimited { IfOk result (λ desk. (store_of desk).connection.step_limit ≡ None) }
-        ensures made { IfOk result (λ desk. IfClean S.Store (store_of desk)
+        ensures made { IfOk result (λ desk. OnCleanStore S.Store (store_of desk)
             (IsNew charter.now (connection_state S.Store (store_of desk)))) }
         ensures clean { IfOk result (λ desk. IsOnCleanDisk S.Store desk
             → HasCleanDisk (state S.Store conn)) }
-        ensures left { IfOk result (λ desk. IfClean S.Store (store_of desk)
+        ensures left { IfOk result (λ desk. OnCleanStore S.Store (store_of desk)
             (LeavesNew charter.now (connection_state S.Store (store_of desk)))) }
         ensures none_pending { IfOk result (λ desk. IsOnCleanDisk S.Store desk
             → LeavesAtMost S.Store charter.now desk [] []) }
@@ -103,11 +103,11 @@ impl<S: Alter + Drop> Desk<S> {
         ensures unused { OnOk result (IsUnused (state S.Store conn)) }
         ensures no_day { IfOk result (λ desk. desk.kept ≡ None) }
         ensures unlimited { IfOk result (λ desk. (store_of desk).connection.step_limit ≡ None) }
-        ensures made { IfOk result (λ desk. IfClean S.Store (store_of desk)
+        ensures made { IfOk result (λ desk. OnCleanStore S.Store (store_of desk)
             (IsNew charter.now (connection_state S.Store (store_of desk)))) }
         ensures clean { IfOk result (λ desk. IsOnCleanDisk S.Store desk
             → HasCleanDisk (state S.Store conn)) }
-        ensures left { IfOk result (λ desk. IfClean S.Store (store_of desk)
+        ensures left { IfOk result (λ desk. OnCleanStore S.Store (store_of desk)
             (LeavesNew charter.now (connection_state S.Store (store_of desk)))) }
         ensures none_pending { IfOk result (λ desk. IsOnCleanDisk S.Store desk
             → LeavesAtMost S.Store charter.now desk [] []) }
@@ -124,7 +124,7 @@ impl<S: Alter + Drop> Desk<S> {
     /// a limit of its steps is lifted. What was done to a database that is refused is in no value:
     /// a caller that needs to know calls `open_or_return`.
     pub fn open_from(alloc: Global, conn: Connection<S>) -> Result<Self, StoreFault>
-        ensures opened { IfOk result (λ desk. IfClean S.Store (store_of desk)
+        ensures opened { IfOk result (λ desk. OnCleanStore S.Store (store_of desk)
             (IsOpened S.Store (state S.Store conn) (store_of desk))) }
         ensures history { IfOk result (λ desk. IsOnCleanDisk S.Store desk
             → ContinuesHistories S.Store (state S.Store conn) desk) }
@@ -151,7 +151,7 @@ impl<S: Alter + Drop> Desk<S> {
         alloc: Global,
         conn: Connection<S>,
     ) -> Result<Self, (StoreFault, Connection<S>)>
-        ensures opened { IfOk result (λ desk. IfClean S.Store (store_of desk)
+        ensures opened { IfOk result (λ desk. OnCleanStore S.Store (store_of desk)
             (IsOpened S.Store (state S.Store conn) (store_of desk))) }
         ensures history { IfOk result (λ desk. IsOnCleanDisk S.Store desk
             → ContinuesHistories S.Store (state S.Store conn) desk) }
@@ -168,9 +168,9 @@ impl<S: Alter + Drop> Desk<S> {
         ensures not_schema { IfErr result (λ refused. HasCleanDisk (state S.Store refused.1)
             → refused.0 ≡ StoreFault.Schema → ¬ FindsLeft (state S.Store conn)) }
     {
-        histories::laws::growth_is_legal();
-        database::laws::desk_trees_have_tables();
-        database::laws::old_desk_trees_have_schema();
+        registry_laws::histories::growth_is_legal();
+        store_open::laws::desk_trees_have_tables();
+        store_open::laws::old_desk_trees_have_schema();
         store::laws::tables_that_read_are_ours();
         store::laws::tables_of_a_history_read();
         store::laws::old_tables_of_a_history_read();
@@ -190,31 +190,31 @@ impl<S: Alter> Desk<S> {
     /// Replies to a request of the caller on the day. Only a reply of `Done` or `Imported` changes
     /// anything.
     pub fn handle(&mut self, day: Day, caller: &Name, request: &Request) -> Reply
-        ensures answered { OfHistories S.Store self.old self.new (λ history.
+        ensures answered { EachHistory S.Store self.old self.new (λ history.
             IsAnswered S.Store (charter_of self.old) history day caller.now request.now
             result self.new) }
         ensures charter { charter_of self.new ≡ charter_of self.old }
         ensures limit { (store_of self.new).connection.step_limit
             ≡ (store_of self.old).connection.step_limit }
         ensures clean { IsOnCleanDisk S.Store self.new → IsOnCleanDisk S.Store self.old }
-        ensures kept { is_accepted result ≡ false → KeepsRows S.Store self.old self.new }
+        ensures kept { is_accepted result ≡ false → RowsStay S.Store self.old self.new }
         ensures read { only_reads request.now result ≡ true
             → IsRead S.Store (store_of self.old) (store_of self.new) }
         ensures is_open { is_accepted result ≡ true → StaysOpen S.Store self.new }
-        ensures left { OfHistories S.Store self.old self.new (λ history.
-            IsKept S.Store (charter_of self.old) history
+        ensures left { EachHistory S.Store self.old self.new (λ history.
+            IsDurablyAnswered S.Store (charter_of self.old) history
             (asked_on day caller.now request.now) result self.old self.new) }
-        ensures crash { OfHistories S.Store self.old self.new (λ history.
+        ensures crash { EachHistory S.Store self.old self.new (λ history.
             LeavesAlong S.Store (charter_of self.old) self.old history
             (λ pending. asked_on day caller.now request.now ∷ pending) self.new history) }
-        ensures isolated { OfHistories S.Store self.old self.new (λ history.
+        ensures isolated { EachHistory S.Store self.old self.new (λ history.
             IsAnswerByEntries (charter_of self.old) history day caller.now request.now result) }
-        ensures others { OfHistories S.Store self.old self.new (λ _.
-            KeepsOthers S.Store (may_change request.now) (may_except request.now)
+        ensures others { EachHistory S.Store self.old self.new (λ _.
+            OthersStay S.Store (may_change request.now) (may_except request.now)
             self.old self.new) }
         ensures kept_day { DayAfter day request.now result
             (day_of self.old.kept) (day_of self.new.kept) }
-        ensures dropped { OfHistories S.Store self.old self.new (λ history.
+        ensures dropped { EachHistory S.Store self.old self.new (λ history.
             (is : IsAnswered S.Store (charter_of self.old) history day caller.now request.now
             result self.new)
             × DropsForGain request.now history is.after
@@ -230,10 +230,10 @@ impl<S: Alter> Desk<S> {
     /// Replies to each of the requests, in their order. Room is allocated for all replies first; if
     /// that fails, nothing is acted on.
     pub fn run(&mut self, asked: &[Asked]) -> Result<Vec<Reply>, AllocError>
-        ensures answered { IfOk result (λ replies. OfHistories S.Store self.old self.new (λ history.
+        ensures answered { IfOk result (λ replies. EachHistory S.Store self.old self.new (λ history.
             AreAnswered S.Store (charter_of self.old) history asked.now replies.items self.new)) }
-        ensures left { IfOk result (λ replies. OfHistories S.Store self.old self.new (λ history.
-            AreKept S.Store (charter_of self.old) history asked.now replies.items
+        ensures left { IfOk result (λ replies. EachHistory S.Store self.old self.new (λ history.
+            AreDurablyAnswered S.Store (charter_of self.old) history asked.now replies.items
             self.old self.new)) }
         ensures charter { charter_of self.new ≡ charter_of self.old }
         ensures limit { (store_of self.new).connection.step_limit
@@ -241,22 +241,22 @@ impl<S: Alter> Desk<S> {
         ensures clean { IsOnCleanDisk S.Store self.new → IsOnCleanDisk S.Store self.old }
         ensures err { OnErr result (self.new ≡ self.old) }
         ensures kept { IfOk result (λ replies. list_any is_accepted replies.items ≡ false
-            → KeepsRows S.Store self.old self.new) }
-        ensures isolated { IfOk result (λ replies. OfHistories S.Store self.old self.new (λ history.
+            → RowsStay S.Store self.old self.new) }
+        ensures isolated { IfOk result (λ replies. EachHistory S.Store self.old self.new (λ history.
             RunsByEntries (charter_of self.old) history asked.now replies.items)) }
-        ensures others { OfHistories S.Store self.old self.new (λ _.
-            KeepsOthers S.Store (may_change_any asked.now) (may_except_any asked.now)
+        ensures others { EachHistory S.Store self.old self.new (λ _.
+            OthersStay S.Store (may_change_any asked.now) (may_except_any asked.now)
             self.old self.new) }
         ensures kept_day { IfOk result (λ replies. DayAfterAll asked.now replies.items
             (day_of self.old.kept) (day_of self.new.kept)) }
-        ensures dropped { IfOk result (λ replies. OfHistories S.Store self.old self.new (λ history.
+        ensures dropped { IfOk result (λ replies. EachHistory S.Store self.old self.new (λ history.
             (are : AreAnswered S.Store (charter_of self.old) history asked.now replies.items
             self.new)
             × DropsForGainAll (charter_of self.old) history asked.now replies.items are.after
             (day_of self.old.kept) (day_of self.new.kept))) }
     {
         crate::laws::answers_by_entries();
-        histories::laws::growth_is_legal();
+        registry_laws::histories::growth_is_legal();
         let mut replies = Vec::with_capacity(self.alloc, asked.len())?;
         for one in asked {
             let reply = self.handle(one.day, &one.caller, &one.request);
@@ -267,7 +267,7 @@ impl<S: Alter> Desk<S> {
 
     /// For the proof: the kept day is of the rows that the tables hold.
     fn keeps_its_rows(&self)
-        ensures { HoldsKept S.Store self.now.store self.now.kept }
+        ensures { HoldsRowsAndDay S.Store self.now.store self.now.kept }
     {
         let _kept = &self.kept;
     }
@@ -276,8 +276,8 @@ impl<S: Alter> Desk<S> {
     fn load_listed(&mut self, holder: &Name) -> Result<HolderRows, StoreFault>
         ensures read { IsRead S.Store self.old.store self.new.store }
         ensures same { self.new.kept ≡ self.old.kept }
-        ensures rows { IfOk result (λ part. OfRows S.Store self.old self.new (λ history.
-            AnswersList history holder.now part.grants.items part.auths.items)) }
+        ensures rows { IfOk result (λ part. EachHeld S.Store self.old self.new (λ history.
+            ListBasis history holder.now part.grants.items part.auths.items)) }
     {
         store::laws::list_of_a_history();
         self.store.load_listed(self.alloc, holder)
@@ -288,7 +288,7 @@ impl<S: Alter> Desk<S> {
     fn load_numbered(&mut self, holder: &Name, number: u32) -> Result<HolderRows, StoreFault>
         ensures read { IsRead S.Store self.old.store self.new.store }
         ensures same { self.new.kept ≡ self.old.kept }
-        ensures rows { IfOk result (λ part. OfRows S.Store self.old self.new (λ history.
+        ensures rows { IfOk result (λ part. EachHeld S.Store self.old self.new (λ history.
             AnswersNumber history holder.now number part.grants.items
             (auth_of_number number part.auths.items))) }
     {

@@ -3,7 +3,7 @@
 ghost use Rattle.desk.specs.HolderAnswers.{AnswersByEntries};
 ghost use Rattle.desk.specs.Resumed.{PendingFits};
 
-pub use isolation::laws::{again, import_again, parts};
+pub use registry_laws::isolation::{again, import_again, parts};
 
 /// A reply that answers a request on a legal history also answers it on the entries that name the
 /// request's holders alone. Exceptions are a delegation, the VRPs of a day and the validity of
@@ -12,10 +12,10 @@ pub use isolation::laws::{again, import_again, parts};
 pub(crate) fn answers_by_entries()
     ensures { AnswersByEntries }
 {
-    isolation::laws::commands_by_entries();
-    isolation::laws::queries_by_entries();
-    isolation::laws::imports_by_entries();
-    isolation::laws::hypothetical_by_entries();
+    registry_laws::isolation::commands_by_entries();
+    registry_laws::isolation::queries_by_entries();
+    registry_laws::isolation::imports_by_entries();
+    registry_laws::isolation::hypothetical_by_entries();
 }
 
 /// Where the values of a history and of the pending requests are those of their types, so are those
@@ -23,5 +23,5 @@ pub(crate) fn answers_by_entries()
 pub fn pending_fits()
     ensures { PendingFits }
 {
-    histories::laws::growth_fits();
+    registry_laws::histories::growth_fits();
 }

@@ -1,6 +1,7 @@
 //! The desk: its requests, and its replies to them.
 #![tactic(auto)]
 
+mod content_text;
 mod desk;
 pub mod laws;
 mod reply;

@@ -19,19 +19,19 @@ use Rattle.sqlite.specs.Held.{AreDatabases, Held}
 use Rattle.sqlite.specs.Start.{FindsIn}
 use Rattle.sqlite.specs.State.{HasCleanDisk, IsLive}
 use Rattle.sqlite.proofs.Theorems.{opens_again}
-use Rattle.charters.specs.CharterSets.{IsCharter}
+use Rattle.registry.specs.CharterSets.{IsCharter}
 use Rattle.registry.specs.History.{History}
 use Rattle.registry.specs.declared.asked.Asked.{Asked}
-use Rattle.charters.specs.declared.charter.Charter.{Charter}
-use Rattle.tables.specs.TablesHold.{TablesHold}
-use Rattle.transactions.specs.Databases.{IsDeskTrees, IsDeskWhileOpen}
+use Rattle.registry.specs.declared.charter.Charter.{Charter}
+use Rattle.store_tables.specs.TablesHold.{TablesHold}
+use Rattle.store_transactions.specs.Databases.{IsDeskTrees, IsDeskWhileOpen}
 use Rattle.desk.specs.CrashOutcomes.{LeavesAtMost}
 use Rattle.desk.specs.Desk.{charter_of, ContinuesHistories, HoldsHistory, IsOnCleanDisk, Represents}
 use Rattle.desk.specs.Resumed.{FindsLeft, HoldHistory, MayBeFound, MayBeLeftInEitherSchema, ResumesHistories}
 use Rattle.desk.specs.declared.desk.Desk.{Desk}
-use Rattle.desk_files.specs.Refused.{KeepsUnclosed}
+use Rattle.desk_files.specs.Refused.{UnclosedLeaves}
 use Rattle.desk_files.specs.declared.file.CloseFault.{CloseFault}
-use Rattle.desk_files.specs.DeskFiles.{AreLeftFiles, AreLeftFilesInEitherSchema, AreLeftOfLegal, ContinuesFiles, HoldLeft, IsOver, KeepDesk, KeptLeaves, ResumesFiles, StoppedLeaves}
+use Rattle.desk_files.specs.DeskFiles.{AreLeftFiles, AreLeftFilesInEitherSchema, AreLeftOfLegal, ContinuesFiles, HoldLeft, IsOpenOver, FilesHoldDesk, HeldLeaves, ResumesFiles, StoppedLeaves}
 
 -- a disk that returned what was written until the close did so before
 pub closed_clean : {D : Type 0} {g : Ghosts D} (desk : Desk (FileStore D g)) (conn : Held (FileStore D g)) (files : Files D)
@@ -42,7 +42,7 @@ closed_clean desk conn files same copied = subst (λ h. HasCleanDisk (file_state
 pub closed_keeps : {D : Type 0} (g : Ghosts D) (desk : Desk (FileStore D g)) (conn : Held (FileStore D g)) (files : Files D)
     (history : History)
     → conn ≡ desk.store.connection → IsDeskWhileOpen (file_state conn) → IsLive (file_state conn) → IsCopied conn files
-    → HoldsHistory over_files desk history → KeepDesk g (charter_of desk) history files
+    → HoldsHistory over_files desk history → FilesHoldDesk g (charter_of desk) history files
 closed_keeps g desk conn files history same settled obeyed copied holds =
     let clean = closed_clean desk conn files same copied in
     let live = subst (λ h. IsTrue (file_state h).is_open) same copied.was_open in
@@ -63,7 +63,7 @@ closed_keeps g desk conn files history same settled obeyed copied holds =
 -- a store that was not closed leaves no more than the desk did
 pub unclosed_keeps : {D : Type 0} {g : Ghosts D} (desk : Desk (FileStore D g)) (conn : Held (FileStore D g))
     (fault : CloseFault D g) → conn ≡ desk.store.connection → IsQuiet view faults recovers is_shielded conn.store fault.store
-    → (IsClean (view fault.store) → FailsToClose conn fault.store fault.error) → KeepsUnclosed desk fault
+    → (IsClean (view fault.store) → FailsToClose conn fault.store fault.error) → UnclosedLeaves desk fault
 unclosed_keeps desk conn fault same quiet cause = record {
   clean = λ clean. subst (λ h. HasCleanDisk (file_state h)) same (omega (arith, quiet.clean, clean));
   cause = λ clean. subst (λ h. FailsToClose h fault.store fault.error) same (cause clean);
@@ -114,7 +114,7 @@ opened_finds_left image conn opened found it =
 -- a connection that found what the files held was opened over files that read so
 pub finds_over : {D : Type 0} {g : Ghosts D} (files : Files D) (conn : Held (FileStore D g))
     → (HasCleanDisk (file_state conn) → IsOpened conn) → (HasCleanDisk (file_state conn) → Finds files conn)
-    → IsOver conn (image_of g files)
+    → IsOpenOver conn (image_of g files)
 finds_over files conn opened found clean =
     let it = found clean in
     (opened clean, record { holds = it.holds; reads = it.reads })
@@ -122,11 +122,11 @@ finds_over files conn opened found clean =
 -- a desk that continues the files of one that was closed has its history
 pub reopened_same : {D : Type 0} (g : Ghosts D) (desk again : Desk (FileStore D g)) (files : Files D) (charter : Charter)
     (history : History)
-    → ((history : History) → HoldsHistory over_files desk history → KeepDesk g (charter_of desk) history files)
+    → ((history : History) → HoldsHistory over_files desk history → FilesHoldDesk g (charter_of desk) history files)
     → ContinuesFiles (image_of g files) again → IsCharter charter → Represents over_files charter desk history
     → Represents over_files charter again history
 reopened_same g desk again files charter history keeps continues chartered is =
-    let kept = subst (λ held. KeepDesk g held history files) is.chartered (keeps history is.rows) in
+    let kept = subst (λ held. FilesHoldDesk g held history files) is.chartered (keeps history is.rows) in
     continues charter history chartered is.legal (kept.trees, (kept.desk.0, kept.desk.1, inl kept.desk.2), kept.seen.both)
 
 pub if_ok_both : {T E : Type 0} (result : Result T E) (P Q R : T → Type 0) → ((x : T) → P x → Q x → R x) → IfOk result P
@@ -168,7 +168,7 @@ desk_left g desk conn now same holds charter history pending left image may =
       ∣ held.2 ∣₁,
     ) in r)
 
-pub kept_leaves_lem : {D : Type 0} (g : Ghosts D) → KeptLeaves g
+pub kept_leaves_lem : {D : Type 0} (g : Ghosts D) → HeldLeaves g
 kept_leaves_lem g charter history now kept image may = ∣ (kept.trees, inl (inl kept.desk), (kept.left image may).both) ∣₁
 
 pub stopped_leaves_lem : {D : Type 0} (g : Ghosts D) → StoppedLeaves g

@@ -7,12 +7,12 @@ use Rattle.std.proofs.lemmas.List.Elements.{All-nil}
 use Rattle.sqlite.specs.Held.{Held, state}
 use Rattle.sqlite.specs.Store.{Ghosts}
 use Rattle.sqlite_trees.specs.View.{IsQuiet}
-use Rattle.charters.specs.declared.charter.Charter.{Charter}
+use Rattle.registry.specs.declared.charter.Charter.{Charter}
 use Rattle.registry.specs.History.{History}
 use Rattle.registry.specs.Values.{AskedFits}
 use Rattle.registry.specs.Verdict.{IsLegal}
 use Rattle.registry.specs.declared.asked.Asked.{Asked}
-use Rattle.desk.specs.CrashOutcomes.{pending_after_all, AreKept, LeavesAtMost, MayBeLeft}
+use Rattle.desk.specs.CrashOutcomes.{pending_after_all, AreDurablyAnswered, LeavesAtMost, MayBeLeft}
 use Rattle.desk.specs.Desk.{charter_of, HoldsHistory, Represents}
 use Rattle.desk.specs.Resumed.{FindsLeft, IsAtMostOneMore, PendingFits, ResumesHistories}
 use Rattle.desk.specs.Run.{Runs}
@@ -80,16 +80,16 @@ module _ {S : Type 0} (g : Ghosts S) where
 
   -- the desk answered a list on a history that it had
   module _ (old ran : Desk S) (asked : List Asked) (list : List Reply)
-      (keeps : (history : History) → IsLegal (charter_of old) history → HoldsHistory g old history → AreKept g (charter_of old) history asked list old ran) where
-    kept_on : (charter : Charter) (history : History) → Represents g charter old history → AreKept g charter history asked list old ran
+      (keeps : (history : History) → IsLegal (charter_of old) history → HoldsHistory g old history → AreDurablyAnswered g (charter_of old) history asked list old ran) where
+    kept_on : (charter : Charter) (history : History) → Represents g charter old history → AreDurablyAnswered g charter history asked list old ran
     kept_on charter history is =
-        subst (λ (k : Charter). IsLegal k history → AreKept g k history asked list old ran) is.chartered
+        subst (λ (k : Charter). IsLegal k history → AreDurablyAnswered g k history asked list old ran) is.chartered
         (λ legal. keeps history legal is.rows) is.legal
 
   -- one more list, then a crash
   one_more_life : PendingFits → (start old ran new : Desk S) (lives : List (List Asked)) (replies : List (List Reply)) (asked : List Asked) (list : List Reply)
       → LivesOn g start lives replies old
-      → ((history : History) → IsLegal (charter_of old) history → HoldsHistory g old history → AreKept g (charter_of old) history asked list old ran)
+      → ((history : History) → IsLegal (charter_of old) history → HoldsHistory g old history → AreDurablyAnswered g (charter_of old) history asked list old ran)
       → All AskedFits asked → ResumesAfter g ran new
       → LivesOn g start (lives ++ asked ∷ []) (replies ++ list ∷ []) new
   one_more_life more_fits start old ran new lives replies asked list so_far keeps each resumes charter before is has alone =
@@ -110,7 +110,7 @@ module _ {S : Type 0} (g : Ghosts S) where
   -- what a crash leaves after one more list, of a desk that had a legal history
   pub lives_leave : PendingFits → (start old ran : Desk S) (lives : List (List Asked)) (replies : List (List Reply)) (asked : List Asked) (list : List Reply)
       → LivesOn g start lives replies old
-      → ((history : History) → IsLegal (charter_of old) history → HoldsHistory g old history → AreKept g (charter_of old) history asked list old ran)
+      → ((history : History) → IsLegal (charter_of old) history → HoldsHistory g old history → AreDurablyAnswered g (charter_of old) history asked list old ran)
       → All AskedFits asked → HoldsLegal g start → LeavesLegal g ran
   lives_leave more_fits start old ran lives replies asked list so_far keeps each it =
       let was = so_far it.charter it.history it.chartered it.represents it.left in
@@ -161,7 +161,7 @@ module _ {S : Type 0} (g : Ghosts S) where
   pub not_opened : (start old ran : Desk S) (lives : List (Bor (List Asked))) (index : ℕ) (asked : Bor (List Asked)) (replies : List (Vec Reply)) (list : Vec Reply) (store : S)
       → index < length lives → asked ≡ get_or lives index asked
       → LivesOn g start (map requests (take index lives)) (map items replies) old
-      → ((history : History) → IsLegal (charter_of old) history → HoldsHistory g old history → AreKept g (charter_of old) history asked.now list.items old ran)
+      → ((history : History) → IsLegal (charter_of old) history → HoldsHistory g old history → AreDurablyAnswered g (charter_of old) history asked.now list.items old ran)
       → ((charter : Charter) (history : History) (pending : List Asked) → LeavesAtMost g charter ran history pending → StoreLeavesAtMost g charter store history pending)
       → LeavesLives g start (map requests lives) store
   not_opened start old ran lives index asked replies list store below here so_far keeps leaves charter before is has alone =
@@ -187,7 +187,7 @@ module _ {S : Type 0} (g : Ghosts S) where
   pub live_more : PendingFits → (start old ran new : Desk S) (lives : List (Bor (List Asked))) (index : ℕ) (asked : Bor (List Asked)) (replies grown : List (Vec Reply)) (list : Vec Reply)
       → index < length lives → asked ≡ get_or lives index asked → grown ≡ replies ++ list ∷ []
       → LivesOn g start (map requests (take index lives)) (map items replies) old
-      → ((history : History) → IsLegal (charter_of old) history → HoldsHistory g old history → AreKept g (charter_of old) history asked.now list.items old ran)
+      → ((history : History) → IsLegal (charter_of old) history → HoldsHistory g old history → AreDurablyAnswered g (charter_of old) history asked.now list.items old ran)
       → All AskedFits asked.now → ResumesAfter g ran new
       → LivesOn g start (map requests (take (index + 1) lives)) (map items grown) new
   live_more more_fits start old ran new lives index asked replies grown list below here pushed so_far keeps each resumes =

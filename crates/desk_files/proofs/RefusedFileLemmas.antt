@@ -12,22 +12,22 @@ use Rattle.sqlite_store.specs.declared.store.FileStore.{FileStore}
 use Rattle.sqlite.specs.Files.{file_state, HoldsDatabase, image_of, over_files}
 use Rattle.sqlite.specs.Held.{Held}
 use Rattle.sqlite.specs.State.{HasCleanDisk}
-use Rattle.charters.specs.declared.charter.Charter.{Charter}
+use Rattle.registry.specs.declared.charter.Charter.{Charter}
 use Rattle.registry.specs.History.{History}
 use Rattle.registry.specs.declared.asked.Asked.{Asked}
 use Rattle.registry.specs.RowsOfAll.{blank_rows, HasRows}
-use Rattle.transactions.specs.Databases.{IsNew, IsUnused}
-use Rattle.transactions.specs.declared.fault.StoreFault.{StoreFault}
-use Rattle.database.specs.Opening.{AreMoved}
-use Rattle.store.specs.StoreRows.{connection_state, IfClean}
+use Rattle.store_transactions.specs.Databases.{IsNew, IsUnused}
+use Rattle.store_transactions.specs.declared.fault.StoreFault.{StoreFault}
+use Rattle.store_open.specs.Opening.{AreMoved}
+use Rattle.store.specs.StoreRows.{connection_state, OnCleanStore}
 use Rattle.store.specs.RefusedOpening.{IsGivenBack, IsNotMade}
 use Rattle.desk.specs.CrashOutcomes.{HoldDesk, LeavesAtMost}
 use Rattle.desk.specs.Desk.{IsOnCleanDisk, store_of}
 use Rattle.desk.specs.Resumed.{MayBeFound, MayBeLeftInEitherSchema, Resumes}
 use Rattle.desk.specs.declared.desk.Desk.{Desk}
 use Rattle.desk.proofs.ResumedLemmas.{left_found}
-use Rattle.desk_files.specs.DeskFiles.{AreLeftFilesInEitherSchema, FilesLeaveAtMost, HoldLeft, IsOver, LeavesNoMore, ResumesFiles, ResumesLeft}
-use Rattle.desk_files.specs.Refused.{KeepsRefused, KeepsRefusedOver, KeepsUnclosed, LeavesUnmade, RefusedDatabase, RefusesNoLeft, RefusesNoLegal}
+use Rattle.desk_files.specs.DeskFiles.{AreLeftFilesInEitherSchema, FilesLeaveAtMost, HoldLeft, IsOpenOver, LeavesNoMore, ResumesFiles, ResumesLeft}
+use Rattle.desk_files.specs.Refused.{RefusedLeaves, RefusedLeavesOver, UnclosedLeaves, LeavesUnmade, RefusedDatabase, RefusesNoLeft, RefusesNoLegal}
 use Rattle.desk_files.specs.declared.file.CloseFault.{CloseFault}
 use Rattle.desk_files.specs.declared.file.MakeFault.TheVariants as unmade
 use Rattle.desk_files.specs.declared.file.OpenFault.{OpenFault}
@@ -47,7 +47,7 @@ left_in_either_found charter history pending trees (inr (after, more, held)) = (
 module _ {D : Type 0} (g : Ghosts D) (stays : SeenMayStay g) where
   -- a connection that was refused was returned and stopped
   pub refused_database : (image : Image) (conn refused : Held (FileStore D g)) (fault : StoreFault) (files : Files D)
-      → IsOver conn image → IsGivenBack over_files (file_state conn) fault refused
+      → IsOpenOver conn image → IsGivenBack over_files (file_state conn) fault refused
       → (AreClean g files.log files.db → HasCleanDisk (file_state refused))
       → (AreClean g files.log files.db → HoldLeft g (file_state refused) files)
       → RefusedDatabase g image fault files
@@ -109,7 +109,7 @@ module _ {D : Type 0} (g : Ghosts D) (stays : SeenMayStay g) where
 
 -- the same of files that read so
 pub keeps_over : {D : Type 0} {g : Ghosts D} {image : Image} (files : Files D) (fault : OpenFault D g) → image_of g files ≡ image
-    → KeepsRefused files fault → KeepsRefusedOver image fault
+    → RefusedLeaves files fault → RefusedLeavesOver image fault
 keeps_over files (Path fault) is keeps = tt
 keeps_over files (File fault rest) is keeps = (files, is, keeps)
 keeps_over files (Store fault now) is keeps = (files, is, keeps)
@@ -123,9 +123,9 @@ if_err_both (Err e) P Q R both p q = both e p q
 pub unmade_closed : {D : Type 0} {g : Ghosts D} (charter : Charter) (conn : Held (FileStore D g)) (desk : Desk (FileStore D g))
     (fault : CloseFault D g)
     → IsUnused (file_state conn)
-    → IfClean over_files (store_of desk) (IsNew charter (connection_state over_files (store_of desk)))
+    → OnCleanStore over_files (store_of desk) (IsNew charter (connection_state over_files (store_of desk)))
     → (IsOnCleanDisk over_files desk → HasCleanDisk (file_state conn))
-    → (IsOnCleanDisk over_files desk → LeavesAtMost over_files charter desk [] []) → KeepsUnclosed desk fault
+    → (IsOnCleanDisk over_files desk → LeavesAtMost over_files charter desk [] []) → UnclosedLeaves desk fault
     → LeavesUnmade charter conn (unmade.Close fault)
 unmade_closed charter conn desk fault unused made cleaned left kept = (
   unused,

@@ -5,10 +5,10 @@ use Rattle.sqlite.specs.State.{Opens, State}
 use Rattle.sqlite.specs.Store.{Ghosts}
 use Rattle.sqlite_trees.specs.Tree.{Trees}
 use Rattle.sqlite_trees.specs.View.{IsQuiet}
-use Rattle.charters.specs.declared.charter.Charter.{Charter}
+use Rattle.registry.specs.declared.charter.Charter.{Charter}
 use Rattle.registry.specs.History.{History}
 use Rattle.registry.specs.declared.asked.Asked.{Asked}
-use Rattle.database.specs.Opening.{AreMoved, LeavesOldOrMoved}
+use Rattle.store_open.specs.Opening.{AreMoved, LeavesOldOrMoved}
 use Rattle.desk.specs.CrashOutcomes.{HoldDesk, MayBeLeft}
 use Rattle.desk.specs.Resumed.{MayBeFound}
 use Rattle.desk.proofs.ResumedLemmas.{left_found}

@@ -23,8 +23,8 @@ use Rattle.registry.specs.History.{History}
 use Rattle.registry.specs.Values.{HistoryFits}
 use Rattle.registry.specs.Verdict.{IsLegal}
 use Rattle.registry.specs.declared.asked.Asked.{Asked}
-use Rattle.charters.specs.CharterSets.{IsCharter}
-use Rattle.charters.specs.declared.charter.Charter.{Charter}
+use Rattle.registry.specs.CharterSets.{IsCharter}
+use Rattle.registry.specs.declared.charter.Charter.{Charter}
 use Rattle.store.specs.StoreRows as store
 use Rattle.desk.specs.CrashOutcomes.{HoldDesk, LeavesAtMost, MayBeLeft}
 use Rattle.desk.specs.Desk.{store_of, Represents}
@@ -50,8 +50,8 @@ abbrev pub image_in : {S : Type 0} {g : calls.Ghosts Host} (first : start.Ghosts
 image_in first files = record { log = seen_in first files.log; db = seen_in first files.db }
 
 -- where the disk returned what was written, the connection was opened over files that read so
-abbrev pub IsOver : {D : Type 0} {g : Ghosts D} → Held (FileStore D g) → Image → Type 0
-IsOver conn image = HasCleanDisk (file_state conn) → IsOpened conn × FindsIn image (file_state conn)
+abbrev pub IsOpenOver : {D : Type 0} {g : Ghosts D} → Held (FileStore D g) → Image → Type 0
+IsOpenOver conn image = HasCleanDisk (file_state conn) → IsOpened conn × FindsIn image (file_state conn)
 
 -- where the files hold a charter and a legal history, the desk has that charter and that history
 abbrev pub ContinuesFiles : {D : Type 0} {g : Ghosts D} → Image → Desk (FileStore D g) → Type 0
@@ -132,11 +132,11 @@ pub record LeaveLegal {D : Type 0} (g : Ghosts D) (files : Files D) : Type 0 whe
 -- the desk was opened over what a connection to files that read so found, and not made there
 abbrev pub OpensFiles : {D : Type 0} {g : Ghosts D} → Image → Desk (FileStore D g) → Type 0
 OpensFiles {D} {g} image desk =
-    (found : Held (FileStore D g)) × IsOver found image × store.IsOpened over_files (file_state found) (store_of desk)
+    (found : Held (FileStore D g)) × IsOpenOver found image × store.IsOpened over_files (file_state found) (store_of desk)
 
 -- The files hold a desk, as they read now and as a crash leaves them, and the database file does so
 -- without its log.
-pub record KeepDesk {D : Type 0} (g : Ghosts D) (charter : Charter) (history : History) (files : Files D) : Type 0 where
+pub record FilesHoldDesk {D : Type 0} (g : Ghosts D) (charter : Charter) (history : History) (files : Files D) : Type 0 where
   pub trees : Trees
   pub desk : HoldDesk charter history trees
   pub seen : HoldsAlone (image_of g files) trees
@@ -156,10 +156,10 @@ pub record LeavesFiles {D : Type 0} (g : Ghosts D) (desk : Desk (FileStore D g))
       → ∥ AreLeftFiles image charter history pending ∥₁
 
 -- a crash of files that keep a desk leaves its history, and nothing else
-abbrev pub KeptLeaves : {D : Type 0} → Ghosts D → Type 0
-KeptLeaves {D} g =
+abbrev pub HeldLeaves : {D : Type 0} → Ghosts D → Type 0
+HeldLeaves {D} g =
     (charter : Charter) (history : History) (files : Files D)
-    → KeepDesk g charter history files → FilesLeaveAtMost g charter files history []
+    → FilesHoldDesk g charter history files → FilesLeaveAtMost g charter files history []
 
 -- a crash of the files of a desk that was stopped leaves no more than one of the desk did
 abbrev pub StoppedLeaves : {D : Type 0} → Ghosts D → Type 0

@@ -7,8 +7,8 @@ use Rattle.sqlite.specs.declared.error.Error.TheVariants.{SqliteFailure}
 use Rattle.sqlite.specs.declared.error.ErrorCode.TheVariants as code
 use Rattle.sqlite_std_file.specs.declared.pair.OpenError as path
 use Rattle.sqlite_std_file.specs.declared.pair.OpenError.TheVariants as path_error
-use Rattle.command_line.specs.declared.fault.ProgramFault.{ProgramFault}
-use Rattle.command_line.specs.declared.fault.ProgramFault.TheVariants.{Database, Memory}
+use Rattle.cli_texts.specs.declared.fault.ProgramFault.{ProgramFault}
+use Rattle.cli_texts.specs.declared.fault.ProgramFault.TheVariants.{Database, Memory}
 
 -- SQLite takes the name as that of a database in memory, or as a URI
 abbrev pub IsNoPath : List ℕ → Type 0

@@ -5,14 +5,14 @@ use Rattle.sqlite.specs.Store.{Ghosts}
 use Rattle.sqlite_trees.specs.Tree.{Trees}
 use Rattle.sqlite_trees.specs.View.{IsClean}
 use Rattle.addr.specs.Name.{is_name}
-use Rattle.charters.specs.CharterSets.{IsCharter}
-use Rattle.charters.specs.declared.charter.Charter.{Charter}
+use Rattle.registry.specs.CharterSets.{IsCharter}
+use Rattle.registry.specs.declared.charter.Charter.{Charter}
 use Rattle.registry.specs.History.{History}
 use Rattle.registry.specs.Values.{HistoryFits}
 use Rattle.registry.specs.Verdict.{IsLegal}
 use Rattle.registry.specs.declared.asked.Asked.{Asked}
-use Rattle.transactions.specs.declared.fault.StoreFault.{StoreFault}
-use Rattle.transactions.specs.declared.fault.StoreFault.TheVariants.{Schema}
+use Rattle.store_transactions.specs.declared.fault.StoreFault.{StoreFault}
+use Rattle.store_transactions.specs.declared.fault.StoreFault.TheVariants.{Schema}
 use Rattle.desk.specs.CrashOutcomes.{pending_after_all, LeavesAtMost, MayBeLeft}
 use Rattle.desk.specs.Desk.{IsOnCleanDisk, Represents}
 use Rattle.desk.specs.Resumed.{IsAtMostOneMore, Resumes}

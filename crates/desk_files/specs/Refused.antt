@@ -16,19 +16,19 @@ use Rattle.sqlite.specs.State.{HasCleanDisk}
 use Rattle.sqlite.specs.declared.error.Error.{Error}
 use Rattle.sqlite.specs.declared.file.Leftover.{Leftover}
 use Rattle.sqlite.specs.declared.file.Leftover.TheVariants as left
-use Rattle.charters.specs.declared.charter.Charter.{Charter}
+use Rattle.registry.specs.declared.charter.Charter.{Charter}
 use Rattle.registry.specs.History.{History}
 use Rattle.registry.specs.declared.asked.Asked.{Asked}
-use Rattle.command_line.specs.declared.fault.ProgramFault.{ProgramFault}
-use Rattle.transactions.specs.declared.fault.StoreFault.{StoreFault}
-use Rattle.transactions.specs.declared.fault.StoreFault.TheVariants.{Schema}
-use Rattle.transactions.specs.Databases.{IsNew, IsUnused}
-use Rattle.database.specs.Opening.{AreMoved, IsOfAnotherSchema}
+use Rattle.cli_texts.specs.declared.fault.ProgramFault.{ProgramFault}
+use Rattle.store_transactions.specs.declared.fault.StoreFault.{StoreFault}
+use Rattle.store_transactions.specs.declared.fault.StoreFault.TheVariants.{Schema}
+use Rattle.store_transactions.specs.Databases.{IsNew, IsUnused}
+use Rattle.store_open.specs.Opening.{AreMoved, IsOfAnotherSchema}
 use Rattle.store.specs.StoreRows.{connection_state}
 use Rattle.desk.specs.CrashOutcomes.{HoldDesk, LeavesAtMost}
 use Rattle.desk.specs.Desk.{charter_of, HoldsHistory, IsOnCleanDisk, store_of}
 use Rattle.desk.specs.declared.desk.Desk.{Desk}
-use Rattle.desk_files.specs.DeskFiles.{AreLeftOfLegal, IsOver, KeepDesk, LeaveLegal, LeavesNoMore}
+use Rattle.desk_files.specs.DeskFiles.{AreLeftOfLegal, IsOpenOver, FilesHoldDesk, LeaveLegal, LeavesNoMore}
 use Rattle.desk_files.specs.Faults.{IsFaultOf, IsOfDatabase}
 use Rattle.desk_files.specs.Lives.{StoreLeavesAtMost}
 use Rattle.desk_files.specs.declared.file.CloseFault.{CloseFault}
@@ -44,7 +44,7 @@ use Rattle.desk_files.specs.declared.file.OpenFault.TheVariants.{File, Path, Sto
 -- the trees that were found, or, of a database of schema 1, those of a desk with what its tables held.
 pub record RefusedDatabase {D : Type 0} (g : Ghosts D) (image : Image) (fault : StoreFault) (files : Files D) : Type 0 where
   pub found : Held (FileStore D g)
-  pub over : IsOver found image
+  pub over : IsOpenOver found image
   pub clean : AreClean g files.log files.db → HasCleanDisk (file_state found)
   pub schema : AreClean g files.log files.db → fault ≡ Schema → IsOfAnotherSchema (file_state found).now
   pub left :
@@ -84,27 +84,27 @@ FailsToOpen files fault rest =
 -- What is left of the files where the desk in them was not opened and the disk returned what was written. Of files that
 -- could not be opened it is what SQLite leaves. If the database was refused, a crash leaves no more than before, and the
 -- disk had returned what was written before too. That there are no files is no fault of files.
-abbrev pub KeepsRefused : {D : Type 0} {g : Ghosts D} → Files D → OpenFault D g → Type 0
-KeepsRefused files (Path fault) = ⊥
-KeepsRefused files (File fault rest) =
+abbrev pub RefusedLeaves : {D : Type 0} {g : Ghosts D} → Files D → OpenFault D g → Type 0
+RefusedLeaves files (Path fault) = ⊥
+RefusedLeaves files (File fault rest) =
     FailsToOpen files fault rest × (IsCleanLeft rest → sqlite.LeavesFiles files rest)
-KeepsRefused {D} {g} files (Store fault now) =
+RefusedLeaves {D} {g} files (Store fault now) =
     AreClean g now.log now.db → AreClean g files.log files.db × LeavesNoMore g files now
 
 -- the same of files that read so, where there were any
-abbrev pub KeepsRefusedOver : {D : Type 0} {g : Ghosts D} → Image → OpenFault D g → Type 0
-KeepsRefusedOver image (Path fault) = ⊤
-KeepsRefusedOver {D} {g} image (File fault rest) =
-    (files : Files D) × (image_of g files ≡ image) × KeepsRefused files (File fault rest)
-KeepsRefusedOver {D} {g} image (Store fault now) =
-    (files : Files D) × (image_of g files ≡ image) × KeepsRefused {g = g} files (Store fault now)
+abbrev pub RefusedLeavesOver : {D : Type 0} {g : Ghosts D} → Image → OpenFault D g → Type 0
+RefusedLeavesOver image (Path fault) = ⊤
+RefusedLeavesOver {D} {g} image (File fault rest) =
+    (files : Files D) × (image_of g files ≡ image) × RefusedLeaves files (File fault rest)
+RefusedLeavesOver {D} {g} image (Store fault now) =
+    (files : Files D) × (image_of g files ≡ image) × RefusedLeaves {g = g} files (Store fault now)
 
 -- ---- not closed
 
 -- The desk was not closed, and the store is what is left of it. The error tells why, where the disk returned what was
 -- written: an allocation failed, the disk failed during the close, or a failure had shut the connection before it. A
 -- crash of the store leaves no more than one of the desk did.
-pub record KeepsUnclosed {D : Type 0} {g : Ghosts D} (desk : Desk (FileStore D g)) (fault : CloseFault D g) : Type 0 where
+pub record UnclosedLeaves {D : Type 0} {g : Ghosts D} (desk : Desk (FileStore D g)) (fault : CloseFault D g) : Type 0 where
   pub clean : IsClean (view fault.store) → IsOnCleanDisk over_files desk
   pub cause : IsClean (view fault.store) → FailsToClose (store_of desk).connection fault.store fault.error
   pub left :
@@ -116,11 +116,11 @@ pub record KeepsUnclosed {D : Type 0} {g : Ghosts D} (desk : Desk (FileStore D g
 abbrev pub RefusesReopen : {D : Type 0} {g : Ghosts D} → Desk (FileStore D g) → OpenFault D g → Type 0
 RefusesReopen {D} {g} desk fault =
     ((closing : CloseFault D g) × (told : ProgramFault) × IsFaultOf closing.error told
-    × (fault ≡ File told (left.Store closing.store)) × KeepsUnclosed desk closing)
+    × (fault ≡ File told (left.Store closing.store)) × UnclosedLeaves desk closing)
     ⊎ ((files : Files D)
     × (AreClean g files.log files.db → (history : History) → HoldsHistory over_files desk history
-    → KeepDesk g (charter_of desk) history files)
-    × RefusesFiles (image_of g files) fault × KeepsRefused files fault)
+    → FilesHoldDesk g (charter_of desk) history files)
+    × RefusesFiles (image_of g files) fault × RefusedLeaves files fault)
 
 -- ---- not made
 

@@ -8,18 +8,18 @@ ghost use Rattle.sqlite_wal.specs.Recovery.{Image};
 ghost use Rattle.sqlite.specs.Files.{IsBlankAs, file_state, image_of, over_files};
 ghost use Rattle.sqlite.specs.State.{HasCleanDisk};
 ghost use Rattle.registry.specs.History.{History};
-ghost use Rattle.store.specs.StoreRows.{IfClean, IsOpened};
-ghost use Rattle.transactions.specs.Databases.{IsUnused};
+ghost use Rattle.store.specs.StoreRows.{OnCleanStore, IsOpened};
+ghost use Rattle.store_transactions.specs.Databases.{IsUnused};
 ghost use Rattle.desk.specs.CrashOutcomes.{HasNonePending};
 ghost use Rattle.desk.specs.Desk.{charter_of, store_of, HoldsHistory, IsOnCleanDisk};
-ghost use Rattle.desk_files.specs.DeskFiles.{ContinuesFiles, HoldLeft, IsOver, KeepDesk};
+ghost use Rattle.desk_files.specs.DeskFiles.{ContinuesFiles, HoldLeft, IsOpenOver, FilesHoldDesk};
 ghost use Rattle.desk_files.specs.DeskFiles.{OpensFiles, ResumesFiles, ResumesLeft, image_in};
 ghost use Rattle.desk_files.specs.Faults.{IsNoPath, IsOfDatabase, IsOfMemory, IsFaultOf};
-ghost use Rattle.desk_files.specs.Refused.{KeepsRefused, KeepsRefusedOver, KeepsUnclosed};
+ghost use Rattle.desk_files.specs.Refused.{RefusedLeaves, RefusedLeavesOver, UnclosedLeaves};
 ghost use Rattle.desk_files.specs.Refused.{LeavesUnmade, RefusedDatabase, RefusesFiles};
 ghost use Rattle.desk_files.specs.Refused.{RefusesNoLeft, RefusesNoLegal};
 
-use command_line::ProgramFault;
+use cli_texts::ProgramFault;
 use desk::Desk;
 use policy::Charter;
 use sqlite::{Connection, Error, ErrorCode, Leftover};
@@ -70,14 +70,14 @@ pub fn connect<S: Start>(
     path: &str,
     start: S,
 ) -> Result<Connection<FileStore<FileFrom<S>>>, (ProgramFault, Option<Leftover<FileFrom<S>>>)>
-    ensures over { IfOk result (λ conn. IsOver conn (image_at S.Start)) }
+    ensures over { IfOk result (λ conn. IsOpenOver conn (image_at S.Start)) }
     // So an ordinary `sqlite3`, which writes no sums, does not spoil the file.
     ensures plain { IfOk result (λ conn. HasCleanDisk (file_state conn)
         → IsBlankAs false (image_at S.Start) → (view conn.store).has_sums ≡ false) }
     ensures no_path { IsNoPath path.now → result ≡ Err (ProgramFault.Database, None) }
     ensures err { IfErr result (λ refused. IsOfDatabase refused.0) }
     ensures left { IfErr result (λ refused. IfSome refused.1 (λ left.
-        KeepsRefusedOver (image_at S.Start) (OpenFault.File refused.0 left))) }
+        RefusedLeavesOver (image_at S.Start) (OpenFault.File refused.0 left))) }
 {
     let (files, options) = match files_at(rt, path, start) {
         Ok(found) => found,
@@ -99,12 +99,12 @@ fn connect_files<D: Disk + Drop>(
     requires db { IsTrue (D.Disk.is_usable files.db) }
     ensures clean { IfOk result (λ conn. HasCleanDisk (file_state conn)
         → AreClean D.Disk files.log files.db) }
-    ensures over { IfOk result (λ conn. IsOver conn (image_of D.Disk files)) }
+    ensures over { IfOk result (λ conn. IsOpenOver conn (image_of D.Disk files)) }
     ensures plain { IfOk result (λ conn. HasCleanDisk (file_state conn)
         → IsBlankAs false (image_of D.Disk files) → (view conn.store).has_sums ≡ false) }
     ensures err { IfErr result (λ refused. IsOfDatabase refused.0) }
     ensures left { IfErr result (λ refused.
-        KeepsRefused files (OpenFault.File refused.0 refused.1)) }
+        RefusedLeaves files (OpenFault.File refused.0 refused.1)) }
 {
     match Connection::open_files(alloc, files, options) {
         Ok(conn) => Ok(conn),
@@ -131,7 +131,7 @@ pub fn make_desk<D: Disk + Drop>(
     charter: &Charter,
 ) -> Result<Files<D>, MakeFault<D>>
     ensures made { IfOk result (λ files. AreClean D.Disk files.log files.db
-        → KeepDesk D.Disk charter.now [] files) }
+        → FilesHoldDesk D.Disk charter.now [] files) }
     ensures unused { OnOk result (IsUnused (file_state conn)) }
     ensures err { IfErr result (LeavesUnmade charter.now conn) }
 {
@@ -199,7 +199,7 @@ pub fn open_desk<S: Start>(
         → OpensFiles (image_at S.Start) desk) }
     ensures err { IfErr result (RefusesFiles (image_at S.Start)) }
     ensures not_schema { IfErr result (RefusesNoLeft (image_at S.Start)) }
-    ensures left { IfErr result (KeepsRefusedOver (image_at S.Start)) }
+    ensures left { IfErr result (RefusedLeavesOver (image_at S.Start)) }
 {
     match files_at(rt, path, start) {
         Ok((files, options)) => open_files(rt.alloc(), files, options),
@@ -230,7 +230,7 @@ pub fn open_files<D: Disk + Drop>(
     ensures err { IfErr result (RefusesFiles (image_of D.Disk files)) }
     ensures not_schema { IfErr result (RefusesNoLeft (image_of D.Disk files)) }
     ensures no_legal { IfErr result (RefusesNoLegal files) }
-    ensures left { IfErr result (KeepsRefused files) }
+    ensures left { IfErr result (RefusedLeaves files) }
 {
     let conn = match connect_files(alloc, files, options) {
         Ok(conn) => conn,
@@ -250,18 +250,18 @@ fn open_over<D: Disk + Drop>(
     ensures clean { IfOk result (λ desk. IsOnCleanDisk over_files desk
         → HasCleanDisk (file_state conn)) }
     ensures continued { IfOk result (λ desk. IsOnCleanDisk over_files desk
-        → (image : Image) → IsOver conn image → ContinuesFiles image desk) }
+        → (image : Image) → IsOpenOver conn image → ContinuesFiles image desk) }
     ensures resumed { IfOk result (λ desk. IsOnCleanDisk over_files desk
-        → (image : Image) → IsOver conn image → ResumesFiles image desk) }
+        → (image : Image) → IsOpenOver conn image → ResumesFiles image desk) }
     ensures none_pending { IfOk result (λ desk. IsOnCleanDisk over_files desk
         → HasNonePending over_files desk) }
-    ensures opened { IfOk result (λ desk. IfClean over_files (store_of desk)
+    ensures opened { IfOk result (λ desk. OnCleanStore over_files (store_of desk)
         (IsOpened over_files (file_state conn) (store_of desk))) }
     ensures given_clean { IfErr result (λ refused. AreClean D.Disk refused.1.log refused.1.db
         → HasCleanDisk (file_state conn)) }
-    ensures err { IfErr result (λ refused. (image : Image) → IsOver conn image
+    ensures err { IfErr result (λ refused. (image : Image) → IsOpenOver conn image
         → RefusedDatabase D.Disk image refused.0 refused.1) }
-    ensures not_schema { IfErr result (λ refused. (image : Image) → IsOver conn image
+    ensures not_schema { IfErr result (λ refused. (image : Image) → IsOpenOver conn image
         → RefusesNoLeft {g = D.Disk} image (OpenFault.Store refused.0 refused.1)) }
 {
     match Desk::open_or_return(alloc, conn) {
@@ -278,8 +278,8 @@ pub fn close_desk<D: Disk + Drop>(desk: Desk<FileStore<D>>) -> Result<Files<D>, 
         × IsTrue (D.Disk.is_usable files.db)) }
     ensures kept { IfOk result (λ files. AreClean D.Disk files.log files.db
         → (history : History) → HoldsHistory over_files desk history
-        → KeepDesk D.Disk (charter_of desk) history files) }
-    ensures err { IfErr result (KeepsUnclosed desk) }
+        → FilesHoldDesk D.Disk (charter_of desk) history files) }
+    ensures err { IfErr result (UnclosedLeaves desk) }
 {
     let conn = desk.close();
     // For the proof: its contract says that what is committed obeys its schema.

@@ -2,9 +2,9 @@
 ghost use Rattle.std.specs.Prelude.{IfErr, IfOk};
 ghost use Rattle.sqlite.specs.Files.{over_files};
 ghost use Rattle.sqlite_wal.specs.Reads.{AreClean};
-ghost use Rattle.charters.specs.CharterSets.{IsCharter};
+ghost use Rattle.registry.specs.CharterSets.{IsCharter};
 ghost use Rattle.registry.specs.History.{History};
-ghost use Rattle.charters.specs.declared.charter.Charter as shown;
+ghost use Rattle.registry.specs.declared.charter.Charter as shown;
 ghost use Rattle.desk.specs.CrashOutcomes.{HasNonePending};
 ghost use Rattle.desk.specs.Desk.{IsOnCleanDisk, Represents};
 ghost use Rattle.desk_files.specs.DeskFiles.{LeavesFiles};

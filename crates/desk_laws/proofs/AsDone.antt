@@ -6,12 +6,12 @@ use Rattle.registry.specs.Answer.{number_given}
 use Rattle.registry.specs.History.{History}
 use Rattle.registry.specs.HypotheticalHistory.{hypothetical_command, HypotheticalHistory}
 use Rattle.registry.specs.Verdict.{Verdict}
-use Rattle.charters.specs.declared.charter.Charter.{Charter}
+use Rattle.registry.specs.declared.charter.Charter.{Charter}
 use Rattle.registry.specs.declared.command.Command.{Command}
 use Rattle.registry.specs.declared.command.Proposed.{Proposed}
 use Rattle.registry.specs.declared.command.Proposed.TheVariants.{Create as ProposedCreate, Withdraw as ProposedWithdraw}
-use Rattle.histories.specs.OneOutcome.{OneHypotheticalOutcome}
-use Rattle.kept.specs.States.{states_after}
+use Rattle.registry_laws.specs.OneOutcome.{OneHypotheticalOutcome}
+use Rattle.daily_vrps.specs.States.{states_after}
 use Rattle.desk.specs.Answer.{is_accepted, is_import, AnswersCommand, AreStatesOn}
 use Rattle.desk_laws.specs.AsDone.{requests_for, AreDone, WhatIfAsDone}
 use Rattle.desk.specs.Run.{Runs}

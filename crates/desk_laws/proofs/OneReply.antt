@@ -6,7 +6,7 @@ use Rattle.std.specs.String.{string_bytes}
 use Rattle.std.proofs.lemmas.Bool.{false≢true, true≢false}
 use Rattle.addr.specs.declared.route.Route.{Route}
 use Rattle.registry.specs.declared.authorization.Auth.{Auth}
-use Rattle.charters.specs.declared.charter.Charter.{Charter}
+use Rattle.registry.specs.declared.charter.Charter.{Charter}
 use Rattle.registry.specs.declared.command.Command.{Command}
 use Rattle.registry.specs.declared.command.Command.TheVariants.{Import}
 use Rattle.registry.specs.declared.command.Proposed.{Proposed}
@@ -19,13 +19,13 @@ use Rattle.registry.specs.History.{History}
 use Rattle.registry.specs.Permission.{is_permitted_terms}
 use Rattle.registry.specs.Terms.{grant_terms, AreActive, HeldSinceMade, authorizations_made, authorization_terms}
 use Rattle.registry.specs.Verdict.{auth_of_number, ShowVerdict, ListVerdict}
-use Rattle.histories.specs.OneOutcome.{OneHypotheticalOutcome, OneOutcome}
-use Rattle.histories.proofs.OneOutcome.{One, checked, accepted}
+use Rattle.registry_laws.specs.OneOutcome.{OneHypotheticalOutcome, OneOutcome}
+use Rattle.registry_laws.proofs.OneOutcome.{One, checked, accepted}
 use Rattle.desk.specs.Answer.{AnswersCommand, AnswersShow, AnswersContent, AnswersList}
 use Rattle.hex.specs.Hex.{encode_lower}
 use Rattle.roa.specs.ContentOctets.{content_octets}
 use Rattle.roa.specs.RoaContent.{RouteOriginAttestation, Encodes, IsContent}
-use Rattle.contents.specs.ContentText.{content_of, IsContentText}
+use Rattle.desk.specs.ContentText.{content_of, IsContentText}
 use Rattle.desk.specs.HolderAnswers.{deciding_entries, IsAnswerOn}
 use Rattle.desk_laws.specs.OneReply.{SaySame, OneReply}
 use Rattle.registry.specs.declared.asked.Request.{Request}

@@ -6,9 +6,9 @@ use Rattle.addr.specs.declared.route.Route.{Route}
 use Rattle.payload.specs.declared.validity.Validity.{Validity}
 use Rattle.registry.specs.History.{History}
 use Rattle.registry.specs.HypotheticalHistory.{hypothetical_command}
-use Rattle.charters.specs.declared.charter.Charter.{Charter}
+use Rattle.registry.specs.declared.charter.Charter.{Charter}
 use Rattle.registry.specs.declared.command.Proposed.{Proposed}
-use Rattle.kept.specs.States.{states_after}
+use Rattle.daily_vrps.specs.States.{states_after}
 use Rattle.desk.specs.Answer.{is_accepted, AnswersWhatIf, AreStatesOn}
 use Rattle.desk.specs.Run.{Runs}
 use Rattle.registry.specs.declared.asked.Asked.{Asked}

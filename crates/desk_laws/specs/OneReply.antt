@@ -1,7 +1,7 @@
 -- Histories that agree on the entries that decide a request give it the same reply.
 use Rattle.std.specs.Prelude.{◌≡◌, ℕ, List, IsSome}
 use Rattle.std.specs.String.{string_bytes}
-use Rattle.charters.specs.declared.charter.Charter.{Charter}
+use Rattle.registry.specs.declared.charter.Charter.{Charter}
 use Rattle.registry.specs.History.{History}
 use Rattle.registry.specs.declared.asked.Request.{Request}
 use Rattle.desk.specs.HolderAnswers.{deciding_entries, IsAnswerByEntries}

@@ -10,8 +10,8 @@ ghost use Rattle.desk_laws.specs.OneReply.{OneReply};
 pub fn one_reply()
     ensures { OneReply }
 {
-    histories::laws::one_outcome();
-    histories::laws::one_hypothetical_outcome();
+    registry_laws::histories::one_outcome();
+    registry_laws::histories::one_hypothetical_outcome();
     roa::laws::one_spelling();
 }
 
@@ -21,5 +21,5 @@ pub fn one_reply()
 pub fn what_if_as_done()
     ensures { WhatIfAsDone }
 {
-    histories::laws::one_hypothetical_outcome();
+    registry_laws::histories::one_hypothetical_outcome();
 }

@@ -6,5 +6,5 @@ abbrev pub Gives : List ℕ → List ℕ → List ℕ → Type 0
 Gives bytes old new = new ≡ old ++ bytes
 
 -- it will give no more: the last read met its end, or failed
-abbrev pub IsOver : Bool → Bool → Type 0
-IsOver has_ended has_failed = (has_ended ≡ true) ⊎ (has_failed ≡ true)
+abbrev pub HasNoMore : Bool → Bool → Type 0
+HasNoMore has_ended has_failed = (has_ended ≡ true) ⊎ (has_failed ≡ true)

@@ -1,6 +1,6 @@
 //! The bytes of a request's body.
 ghost use Rattle.std.specs.Prelude.{◌≡◌, ℕ, ◌++◌, ◌<◌, List, [], length, Err, IfOk};
-ghost use Rattle.http_messages.specs.Input.{Gives, IsOver};
+ghost use Rattle.http_messages.specs.Input.{Gives, HasNoMore};
 
 use crate::reading::read_some;
 use std::alloc::Global;
@@ -30,7 +30,7 @@ pub fn read_body<S: Source>(
     ensures cut_short { result ≡ Err BodyFault.CutShort → (bytes : List ℕ)
         × Gives bytes (S.handed_out source.old) (S.handed_out source.new)
         × (length bytes < length_of_body)
-        × IsOver (S.has_ended source.new) (S.has_failed source.new) }
+        × HasNoMore (S.has_ended source.new) (S.has_failed source.new) }
     ensures memory { result ≡ Err BodyFault.Memory → source.new ≡ source.old }
 {
     let Ok(mut body) = Vec::with_capacity(alloc, length_of_body) else {

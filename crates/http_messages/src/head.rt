@@ -1,7 +1,7 @@
 //! The bytes of a request's head.
 ghost use Rattle.std.specs.Prelude.{◌≡◌, ℕ, ◌++◌, ◌<◌, ◌≤◌, true, List, length, Ok, Err, IfOk};
 ghost use Rattle.http_messages.specs.HeadEnd.{IsWholeHead, LacksEnd, has_end};
-ghost use Rattle.http_messages.specs.Input.{Gives, IsOver};
+ghost use Rattle.http_messages.specs.Input.{Gives, HasNoMore};
 
 use crate::reading::{CutShort, read_some};
 use arrayvec::ArrayVec;
@@ -30,7 +30,7 @@ pub fn read_head<S: Source>(source: &mut S) -> Result<ArrayVec<u8, HEAD_LIMIT>, 
     ensures cut_short { result ≡ Err HeadFault.CutShort → (bytes : List ℕ)
         × Gives bytes (S.handed_out source.old) (S.handed_out source.new)
         × (length bytes < HEAD_LIMIT) × LacksEnd bytes
-        × IsOver (S.has_ended source.new) (S.has_failed source.new) }
+        × HasNoMore (S.has_ended source.new) (S.has_failed source.new) }
 {
     let mut head = ArrayVec::new();
     let mut piece = [0; 4];

@@ -1,6 +1,6 @@
 //! Reading on from a source.
 ghost use Rattle.std.specs.Prelude.{◌≡◌, ◌++◌, ◌<◌, ◌≤◌, length, take, IfOk, OnOk, OnErr};
-ghost use Rattle.http_messages.specs.Input.{IsOver};
+ghost use Rattle.http_messages.specs.Input.{HasNoMore};
 
 use streams::Source;
 
@@ -17,7 +17,7 @@ pub(crate) fn read_some<S: Source>(source: &mut S, buffer: &mut [u8]) -> Result<
         S.handed_out source.new ≡ S.handed_out source.old ++ take n buffer.new) }
     ensures counted { OnOk result (S.reads_left source.new < S.reads_left source.old) }
     ensures err { OnErr result (S.handed_out source.new ≡ S.handed_out source.old) }
-    ensures over { OnErr result (IsOver (S.has_ended source.new) (S.has_failed source.new)) }
+    ensures over { OnErr result (HasNoMore (S.has_ended source.new) (S.has_failed source.new)) }
 {
     match source.read(buffer) {
         Ok(count) if count > 0 => Ok(count),

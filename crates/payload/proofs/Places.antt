@@ -18,10 +18,10 @@ pub removed-defined : (xs zs : List Vrp) (v : Vrp) → ((w : Vrp) → list_any (
 removed-defined xs zs v members = by-definition (λ R. (w : Vrp) → list_any (eq_by_cmp R w) zs ≡ (not (eq_by_cmp R w v) && list_any (eq_by_cmp R w) xs)) members
 
 -- the VRP is in the list where it is in the set
-pub contains-derived : (s : set.VrpSet) (vrps : List Vrp) (v : Vrp) → set.from_list vrps ≡ s → list_any (eq_by_cmp derived_vrp_cmp v) vrps ≡ set.contains s v
+pub contains-derived : (s : set.VrpSet) (vrps : List Vrp) (v : Vrp) → set.from_list vrps ≡ s → list_any (eq_by_cmp derived_vrp_cmp v) vrps ≡ set.has_vrp s v
 contains-derived s vrps v view =
     by-definition (λ R. list_any (eq_by_cmp derived_vrp_cmp v) vrps ≡ list_any (eq_by_cmp R v) vrps) refl
-    ∙ sym (contains-from_list vrps v) ∙ ap (λ t. set.contains t v) view
+    ∙ sym (contains-from_list vrps v) ∙ ap (λ t. set.has_vrp t v) view
 
 -- the list of a set's VRPs
 pub listed : (s : set.VrpSet) (xs ys : List Vrp) → ys ≡ xs → set.from_list xs ≡ s → AreRising xs → ys ≡ set.items s

@@ -24,16 +24,16 @@ marks None = refl
 marks (Some u) = refl
 
 -- sets with the same VRPs are equal
-same_set : (s t : set.VrpSet) → ((v : Vrp) → set.contains s v ≡ set.contains t v) → s ≡ t
+same_set : (s t : set.VrpSet) → ((v : Vrp) → set.has_vrp s v ≡ set.has_vrp t v) → s ≡ t
 same_set s t each = maps.same_map vrp_order.total vrp_order.exact s t (λ v. marks _ ∙ ap marked (each v) ∙ sym (marks _))
 
-pub contains-insert : (s : set.VrpSet) (v w : Vrp) → set.contains (set.insert s v) w ≡ (is_vrp w v || set.contains s w)
+pub contains-insert : (s : set.VrpSet) (v w : Vrp) → set.has_vrp (set.insert s v) w ≡ (is_vrp w v || set.has_vrp s w)
 contains-insert s v w = ap is_some (maps.get-insert vrp_order.total s v tt w) ∙ some-or (is_vrp w v) _
 
-pub contains-remove : (s : set.VrpSet) (v w : Vrp) → set.contains (set.remove s v) w ≡ (not (is_vrp w v) && set.contains s w)
+pub contains-remove : (s : set.VrpSet) (v w : Vrp) → set.has_vrp (set.remove s v) w ≡ (not (is_vrp w v) && set.has_vrp s w)
 contains-remove s v w = ap is_some (maps.get-remove vrp_order.total s v w) ∙ none-and (is_vrp w v) _
 
-pub contains-from_list : (vrps : List Vrp) (v : Vrp) → set.contains (set.from_list vrps) v ≡ list_any (is_vrp v) vrps
+pub contains-from_list : (vrps : List Vrp) (v : Vrp) → set.has_vrp (set.from_list vrps) v ≡ list_any (is_vrp v) vrps
 contains-from_list [] v = ap is_some (maps.get-empty vrp_cmp v)
 contains-from_list (w ∷ vrps) v = contains-insert (set.from_list vrps) w v ∙ ap (λ b. is_vrp v w || b) (contains-from_list vrps v)
 
@@ -41,7 +41,7 @@ contains-from_list (w ∷ vrps) v = contains-insert (set.from_list vrps) w v ∙
 pub same_from_list : (xs ys : List Vrp) → ((v : Vrp) → list_any (is_vrp v) xs ≡ list_any (is_vrp v) ys) → set.from_list xs ≡ set.from_list ys
 same_from_list xs ys each = same_set _ _ (λ v. contains-from_list xs v ∙ each v ∙ sym (contains-from_list ys v))
 
-pub contains-items : (s : set.VrpSet) (v : Vrp) → set.contains s v ≡ list_any (is_vrp v) (set.items s)
+pub contains-items : (s : set.VrpSet) (v : Vrp) → set.has_vrp s v ≡ list_any (is_vrp v) (set.items s)
 contains-items s v = maps.contains_key-keys s v
 
 pub same_vrp-equal : (v w : Vrp) → is_vrp v w ≡ true → v ≡ w
@@ -51,14 +51,14 @@ same_vrp-equal v w h = vrp_order.exact v w ((Equal-is (vrp_cmp v w)).0 h)
 pub members-insert : (s : set.VrpSet) (xs zs : List Vrp) (v : Vrp) → set.from_list xs ≡ s → ((w : Vrp) → list_any (is_vrp w) zs ≡ (is_vrp w v || list_any (is_vrp w) xs)) → set.from_list zs ≡ set.insert s v
 members-insert s xs zs v view members = same_set _ _ (λ w.
     contains-from_list zs w ∙ members w
-    ∙ ap (λ b. is_vrp w v || b) (sym (contains-from_list xs w) ∙ ap (λ t. set.contains t w) view)
+    ∙ ap (λ b. is_vrp w v || b) (sym (contains-from_list xs w) ∙ ap (λ t. set.has_vrp t w) view)
     ∙ sym (contains-insert s v w))
 
 -- and one with one VRP less the set with it removed
 pub members-remove : (s : set.VrpSet) (xs zs : List Vrp) (v : Vrp) → set.from_list xs ≡ s → ((w : Vrp) → list_any (is_vrp w) zs ≡ (not (is_vrp w v) && list_any (is_vrp w) xs)) → set.from_list zs ≡ set.remove s v
 members-remove s xs zs v view members = same_set _ _ (λ w.
     contains-from_list zs w ∙ members w
-    ∙ ap (λ b. not (is_vrp w v) && b) (sym (contains-from_list xs w) ∙ ap (λ t. set.contains t w) view)
+    ∙ ap (λ b. not (is_vrp w v) && b) (sym (contains-from_list xs w) ∙ ap (λ t. set.has_vrp t w) view)
     ∙ sym (contains-remove s v w))
 
 abbrev mark : Vrp → Vrp × Unit {0}

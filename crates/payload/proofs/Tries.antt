@@ -52,11 +52,11 @@ pub any-in_six : (v : Vrp) (four six : Tree) → IsPruned 32 0 four → IsPruned
 any-in_six v four six prune4 prune6 is =
     any-six (is_vrp v) four six prune4 (λ w other. other-family v w V6 V4 is other (λ e. cc)) ∙ any-is_vrp v (whole V6) six prune6 (whole-six v.prefix is)
 
-pub contains-in_four : (s : set.VrpSet) (v : Vrp) (four six : Tree) → set.from_list (trie_vrps four six) ≡ s → IsPruned 32 0 four → IsPruned 128 0 six → v.prefix.family ≡ V4 → has (vrp_path v) (originator_of v) four ≡ set.contains s v
-contains-in_four s v four six view prune4 prune6 is = sym (ap (λ t. set.contains t v) (sym view) ∙ contains-from_list (trie_vrps four six) v ∙ any-in_four v four six prune4 prune6 is)
+pub contains-in_four : (s : set.VrpSet) (v : Vrp) (four six : Tree) → set.from_list (trie_vrps four six) ≡ s → IsPruned 32 0 four → IsPruned 128 0 six → v.prefix.family ≡ V4 → has (vrp_path v) (originator_of v) four ≡ set.has_vrp s v
+contains-in_four s v four six view prune4 prune6 is = sym (ap (λ t. set.has_vrp t v) (sym view) ∙ contains-from_list (trie_vrps four six) v ∙ any-in_four v four six prune4 prune6 is)
 
-pub contains-in_six : (s : set.VrpSet) (v : Vrp) (four six : Tree) → set.from_list (trie_vrps four six) ≡ s → IsPruned 32 0 four → IsPruned 128 0 six → v.prefix.family ≡ V6 → has (vrp_path v) (originator_of v) six ≡ set.contains s v
-contains-in_six s v four six view prune4 prune6 is = sym (ap (λ t. set.contains t v) (sym view) ∙ contains-from_list (trie_vrps four six) v ∙ any-in_six v four six prune4 prune6 is)
+pub contains-in_six : (s : set.VrpSet) (v : Vrp) (four six : Tree) → set.from_list (trie_vrps four six) ≡ s → IsPruned 32 0 four → IsPruned 128 0 six → v.prefix.family ≡ V6 → has (vrp_path v) (originator_of v) six ≡ set.has_vrp s v
+contains-in_six s v four six view prune4 prune6 is = sym (ap (λ t. set.has_vrp t v) (sym view) ∙ contains-from_list (trie_vrps four six) v ∙ any-in_six v four six prune4 prune6 is)
 
 -- ---- a VRP's place is its own
 

@@ -24,6 +24,7 @@ pub use Rattle.addr.proofs.PrefixOrderLemmas.{at_most-ends, block-within, cmp-eq
 pub use Rattle.addr.specs.Address.{bit_of, contains, last_of, same_prefix}
 pub use Rattle.addr.specs.Family.{family_eq, width}
 pub use Rattle.addr.specs.Order.{family_cmp, prefix_cmp, same_vrp, vrp_cmp}
+pub use Rattle.addr.specs.VrpParts.{vrp_if}
 pub use Rattle.addr.specs.OriginValidation.{Invalid, NotFound, Valid, ValidationState, covers, is_from, matches, validation_state}
 pub use Rattle.addr.specs.declared.family.Family.{Family}
 pub use Rattle.addr.specs.declared.family.Family.TheVariants.{V4, V6}
@@ -43,4 +44,4 @@ pub use Rattle.payload.specs.steps.Shortest.{AreNoShorter, shortest_in}
 pub use Rattle.payload.specs.steps.Shrinks.{shrinks}
 pub use Rattle.payload.specs.steps.Skipped.{common, low_bits, number_of}
 pub use Rattle.payload.specs.steps.Tree.{AreOriginators, Fork, IsInserted, IsPruned, IsRemoved, Leaf, Top, Tree, above, bare, below, chain, grown, has, has_on_path, is_bare, is_place, nodes_on_path, originator_cmp, same_originator, same_tops, subtree, tree, weight}
-pub use Rattle.payload.specs.steps.Trie.{authorizes, bits_from, half_first, half_vrps, joined_state, last_bits, node_vrps, originator_of, state_among, state_below, trie_vrps, vrp_at, vrp_if, vrp_of_parts, vrps_at, vrps_below, walked_state, whole}
+pub use Rattle.payload.specs.steps.Trie.{authorizes, bits_from, half_first, half_vrps, joined_state, last_bits, node_vrps, originator_of, state_among, state_below, trie_vrps, vrp_at, vrp_of_parts, vrps_at, vrps_below, walked_state, whole}

@@ -17,8 +17,8 @@ VrpSet = map.FinMap vrp_cmp (Unit {0})
 abbrev pub empty : VrpSet
 empty = map.empty
 
-abbrev pub contains : VrpSet → Vrp → Bool
-contains s v = map.contains_key s v
+abbrev pub has_vrp : VrpSet → Vrp → Bool
+has_vrp s v = map.contains_key s v
 
 abbrev pub insert : VrpSet → Vrp → VrpSet
 insert s v = map.insert s v tt

@@ -17,19 +17,19 @@ pub trait PayloadIndex {
 
     /// Inserts the VRP; returns whether it was new.
     fn insert(&mut self, vrp: Vrp) -> Result<bool, AllocError>
-        ensures new { IfOk result (λ is_new. is_new ≡ not (set.contains (vrps self.old) vrp)) }
+        ensures new { IfOk result (λ is_new. is_new ≡ not (set.has_vrp (vrps self.old) vrp)) }
         ensures ok { OnOk result (vrps self.new ≡ set.insert (vrps self.old) vrp) }
         ensures err { OnErr result (vrps self.new ≡ vrps self.old) }
-        ensures absent { OnErr result (set.contains (vrps self.old) vrp ≡ false) };
+        ensures absent { OnErr result (set.has_vrp (vrps self.old) vrp ≡ false) };
 
     /// Removes the VRP; returns whether it was there.
     fn remove(&mut self, vrp: &Vrp) -> bool
-        ensures found { result ≡ set.contains (vrps self.old) vrp.now }
+        ensures found { result ≡ set.has_vrp (vrps self.old) vrp.now }
         ensures rest { vrps self.new ≡ set.remove (vrps self.old) vrp.now };
 
     /// Whether the set has the VRP.
     fn contains(&self, vrp: &Vrp) -> bool
-        ensures { result ≡ set.contains (vrps self.now) vrp.now };
+        ensures { result ≡ set.has_vrp (vrps self.now) vrp.now };
 
     /// The state of the route over the whole set: any VRP that covers it may match it.
     fn validity(&self, route: &Route) -> Validity

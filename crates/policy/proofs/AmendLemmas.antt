@@ -8,7 +8,7 @@ use Rattle.registry.specs.RoaPrefixes.{with_maxes}
 use Rattle.registry.specs.Terms.{with_terms, authorization_terms, HeldSinceMade, OfActive}
 use Rattle.registry.specs.Verdict.{IsLegal, auth_of_number}
 use Rattle.registry.specs.declared.rows.HolderRows.{HolderRows}
-use Rattle.charters.specs.declared.charter.Charter.{Charter}
+use Rattle.registry.specs.declared.charter.Charter.{Charter}
 use Rattle.registry.specs.Rows.{Rows, RowsOf, RowsIfAny, rows_of, rows_if_any, grants_if_any, auths_if_any}
 use Rattle.registry.proofs.Amended.{shares_with_other}
 use Rattle.registry.proofs.Kept.{Keeps-unique}

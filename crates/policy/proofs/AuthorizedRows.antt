@@ -10,12 +10,13 @@ use Rattle.addr.specs.Address.{prefix_eq}
 use Rattle.registry.specs.contracts.authorization.ImportRowOrd.TheImpl as ImportRowOrd
 use Rattle.registry.specs.declared.authorization.Auth.{Auth}
 use Rattle.registry.specs.declared.authorization.ImportRow.{ImportRow}
-use Rattle.registry.specs.declared.authorization.RoaPrefix.{RoaPrefix}
+use Rattle.addr.specs.declared.roa_prefix.RoaPrefix.{RoaPrefix}
 use Rattle.registry.specs.Edits.{IsOfTerms}
 use Rattle.registry.specs.Import.{are_same, has_terms}
-use Rattle.registry.specs.Terms.{is_entry, row_terms}
+use Rattle.addr.specs.VrpParts.{is_entry}
+use Rattle.registry.specs.Terms.{row_terms}
 use Rattle.registry.proofs.RowOrder.{row_ties}
-use Rattle.policy.specs.steps.Authorized.{AreAuthorized, row_of, row_of_entries}
+use Rattle.policy.specs.steps.Authorized.{AreAuthorized, row_of_auth, row_of_entries}
 
 bracketed : (a b c d e : Bool) → ((a && ((b && c) && true)) && (d && e)) ≡ (a && (b && (c && (d && e))))
 bracketed false b c d e = refl
@@ -40,7 +41,7 @@ ties_with row None = false
 ties_with row (Some own) = is_eq (ImportRowOrd.ghosts.cmp own row)
 
 -- an authorization has the terms of a row exactly if it has one entry, and its own row ties with that
-has_row : (row : ImportRow) (x : Auth) → has_terms (row_terms row) x ≡ ties_with row (row_of x)
+has_row : (row : ImportRow) (x : Auth) → has_terms (row_terms row) x ≡ ties_with row (row_of_auth x)
 has_row row x = go x.entries
   where
     go : (es : List RoaPrefix) → (((x.asn.0 == row.asn.0) && are_same (row_terms row).entries es) && ((x.from == row.from) && (x.until == row.until))) ≡ ties_with row (row_of_entries x es)
@@ -54,14 +55,14 @@ has_row row x = go x.entries
 abbrev AreAuthorizedWith : BTreeSet ImportRow → List Auth → Auth → Type 0
 AreAuthorizedWith rows auths x = (row : ImportRow) → contains ImportRowOrd.ghosts.cmp rows row ≡ (list_any (has_terms (row_terms row)) auths || has_terms (row_terms row) x)
 
-row_put : (old new : BTreeSet ImportRow) (auths : List Auth) (x : Auth) (own : ImportRow) → row_of x ≡ Some own
+row_put : (old new : BTreeSet ImportRow) (auths : List Auth) (x : Auth) (own : ImportRow) → row_of_auth x ≡ Some own
     → ((row : ImportRow) → contains ImportRowOrd.ghosts.cmp new row ≡ cond (is_at (ImportRowOrd.ghosts.cmp own) row) true (contains ImportRowOrd.ghosts.cmp old row))
     → AreAuthorized old auths → AreAuthorizedWith new auths x
 row_put old new auths x own is updates are row =
     updates row ∙ ap (cond (is_at (ImportRowOrd.ghosts.cmp own) row) true) (are row) ∙ or_last (is_at (ImportRowOrd.ghosts.cmp own) row) (list_any (has_terms (row_terms row)) auths)
     ∙ ap (λ b. list_any (has_terms (row_terms row)) auths || b) (sym (has_row row x ∙ ap (ties_with row) is))
 
-no_row_put : (rows : BTreeSet ImportRow) (auths : List Auth) (x : Auth) → row_of x ≡ None → AreAuthorized rows auths → AreAuthorizedWith rows auths x
+no_row_put : (rows : BTreeSet ImportRow) (auths : List Auth) (x : Auth) → row_of_auth x ≡ None → AreAuthorized rows auths → AreAuthorizedWith rows auths x
 no_row_put rows auths x is are row =
     are row ∙ sym (or-false (list_any (has_terms (row_terms row)) auths)) ∙ ap (λ b. list_any (has_terms (row_terms row)) auths || b) (sym (has_row row x ∙ ap (ties_with row) is))
 
@@ -72,12 +73,12 @@ module _ (auths : List Auth) (i : ℕ) (x : Auth) (low : i < length auths) (is :
       let test = has_terms (row_terms row) in
       are row ∙ ap (λ y. list_any test (take i auths) || test y) is ∙ sym (list_any_more test auths i x low)
 
-  pub one_row_more : (old new : BTreeSet ImportRow) (own : ImportRow) → row_of x ≡ Some own
+  pub one_row_more : (old new : BTreeSet ImportRow) (own : ImportRow) → row_of_auth x ≡ Some own
       → ((row : ImportRow) → contains ImportRowOrd.ghosts.cmp new row ≡ cond (is_at (ImportRowOrd.ghosts.cmp own) row) true (contains ImportRowOrd.ghosts.cmp old row))
       → AreAuthorized old (take i auths) → AreAuthorized new (take (i + 1) auths)
   one_row_more old new own told updates are = with_next new (row_put old new (take i auths) x own told updates are)
 
-  pub no_row_more : (rows : BTreeSet ImportRow) → row_of x ≡ None → AreAuthorized rows (take i auths) → AreAuthorized rows (take (i + 1) auths)
+  pub no_row_more : (rows : BTreeSet ImportRow) → row_of_auth x ≡ None → AreAuthorized rows (take i auths) → AreAuthorized rows (take (i + 1) auths)
   no_row_more rows told are = with_next rows (no_row_put rows (take i auths) x told are)
 
 pub row_authorized : (old new : BTreeSet ImportRow) (auths : List Auth) (x : Auth) (own : ImportRow) → IsOfTerms (row_terms own) x
@@ -85,5 +86,5 @@ pub row_authorized : (old new : BTreeSet ImportRow) (auths : List Auth) (x : Aut
     → AreAuthorized old auths → AreAuthorized new (auths ++ x ∷ [])
 row_authorized old new auths x own of_terms updates are row =
     let test = has_terms (row_terms row) in
-    row_put old new auths x own (ap row_of of_terms) updates are row
+    row_put old new auths x own (ap row_of_auth of_terms) updates are row
     ∙ ap (λ b. list_any test auths || b) (sym (or-false (test x))) ∙ sym (list_any-append test auths (x ∷ []))

@@ -10,7 +10,7 @@ use Rattle.addr.specs.declared.span.Span.{Span}
 use Rattle.addr.specs.Spans.{spans_have, is_one_of, without_runs, AddsAddresses, TakesAddresses, AreApart}
 use Rattle.addr.proofs.RunLemmas.{runs_exchanged, none_back}
 use Rattle.registry.specs.declared.authorization.Auth.{Auth}
-use Rattle.charters.specs.declared.charter.Charter.{Charter}
+use Rattle.registry.specs.declared.charter.Charter.{Charter}
 use Rattle.registry.specs.declared.change.Change.TheVariants.{Holders}
 use Rattle.registry.specs.declared.change.Edit.{Edit}
 use Rattle.registry.specs.declared.rows.HolderRows.{HolderRows}

@@ -6,7 +6,7 @@ use Rattle.addr.specs.Address.{Address, has_address}
 use Rattle.addr.specs.Spans.{AreMaximal, span_covers, spans_have}
 use Rattle.addr.specs.declared.span.Span.{Span}
 use Rattle.addr.proofs.SpanLemmas.{covered_has, had_covered}
-use Rattle.registry.specs.declared.authorization.RoaPrefix.{RoaPrefix}
+use Rattle.addr.specs.declared.roa_prefix.RoaPrefix.{RoaPrefix}
 use Rattle.registry.specs.Terms.{entries_have}
 
 pub covered_have : (spans : List Span) (es : List RoaPrefix) (a : Address) → list_all (λ e. list_any (λ s. span_covers s e.prefix) spans) es ≡ true

@@ -5,10 +5,10 @@ use Rattle.std.proofs.lemmas.List.{length-take-le}
 use Rattle.std.proofs.lemmas.Bool.{cases_Bool, false≢true, cond-true}
 use Rattle.registry.specs.declared.authorization.Auth.{Auth}
 use Rattle.registry.specs.declared.authorization.ImportRow.{ImportRow}
-use Rattle.registry.specs.declared.authorization.RoaPrefix.{RoaPrefix}
+use Rattle.addr.specs.declared.roa_prefix.RoaPrefix.{RoaPrefix}
 use Rattle.registry.specs.declared.change.Change.TheVariants.{Holders}
 use Rattle.registry.specs.declared.change.Edit.TheVariants.{Create as CreateEdit, Import as ImportEdit}
-use Rattle.charters.specs.declared.charter.Charter.{Charter}
+use Rattle.registry.specs.declared.charter.Charter.{Charter}
 use Rattle.registry.specs.declared.grant.Access.TheVariants.{Alter}
 use Rattle.registry.specs.declared.rule.Refusal.{Refusal}
 use Rattle.registry.specs.declared.rule.Refusal.TheVariants.{Denied, Memory}

@@ -10,7 +10,7 @@ use Rattle.std.proofs.lemmas.Map.Views.{any-filter_same}
 use Rattle.addr.proofs.Equality.{prefix_itself}
 use Rattle.registry.specs.declared.authorization.Auth.{Auth}
 use Rattle.registry.specs.declared.authorization.AuthTerms.{AuthTerms}
-use Rattle.registry.specs.declared.authorization.RoaPrefix.{RoaPrefix}
+use Rattle.addr.specs.declared.roa_prefix.RoaPrefix.{RoaPrefix}
 use Rattle.registry.specs.declared.change.Edit.TheVariants.{Create as CreateEdit, Withdraw as WithdrawEdit}
 use Rattle.registry.specs.declared.command.Proposed.{Proposed}
 use Rattle.registry.specs.declared.command.Proposed.TheVariants.{Create, Withdraw}
@@ -18,7 +18,8 @@ use Rattle.registry.specs.declared.limits.TheConstants.{MOST_AUTHORIZATIONS}
 use Rattle.registry.specs.Edits.{IsOfTerms}
 use Rattle.registry.specs.Rows.{Rows, edited}
 use Rattle.registry.specs.RoaPrefixes.{AreInNumber}
-use Rattle.registry.specs.Terms.{gives_some, is_entry}
+use Rattle.addr.specs.VrpParts.{is_entry}
+use Rattle.registry.specs.Terms.{gives_some}
 use Rattle.registry.specs.Verdict.{auth_of_number}
 use Rattle.registry.proofs.Entries.{both_share}
 use Rattle.registry.specs.PartOfRows.{IsPartFor, IsPartIfAny, looks_for, not_kept}

@@ -7,16 +7,16 @@ use Rattle.std.proofs.lemmas.Bool.{cases_Bool, false≢true, true≢false}
 use Rattle.addr.specs.Address.{Address, last_of}
 use Rattle.addr.specs.declared.prefix.Prefix.{Prefix}
 use Rattle.addr.proofs.AddressLemmas.{between_at, first-last}
-use Rattle.charters.specs.declared.charter.Charter.{Charter}
+use Rattle.registry.specs.declared.charter.Charter.{Charter}
 use Rattle.registry.specs.declared.authorization.Auth.{Auth}
 use Rattle.registry.specs.declared.authorization.AuthTerms.{AuthTerms}
-use Rattle.registry.specs.declared.authorization.RoaPrefix.{RoaPrefix}
+use Rattle.addr.specs.declared.roa_prefix.RoaPrefix.{RoaPrefix}
 use Rattle.registry.specs.declared.command.Command.{Command}
 use Rattle.registry.specs.declared.command.Command.TheVariants.{Register, Delegate, Transfer, Reclaim, Grant, Revoke, Create, Amend, Withdraw, Import, Slurm}
 use Rattle.registry.specs.declared.grant.Granted.{Granted}
 use Rattle.registry.specs.declared.rows.Answers.{Answers}
 use Rattle.registry.specs.declared.rows.HolderRows.{HolderRows}
-use Rattle.registry.specs.Answer.{holder_of, is_transfer, AnswersCreate, AnswersDelegate, AnswersLoss, AnswersList, AnswersNumber, AreFacts, HasRuns, IfRegistered, IsMadeIfAny, ReportsTaken, RowsOfNamed}
+use Rattle.registry.specs.Answer.{holder_of, is_transfer, AnswersCreate, AnswersDelegate, AnswersLoss, ListBasis, AnswersNumber, AreFacts, HasRuns, IfRegistered, IsMadeIfAny, ReportsTaken, RowsOfNamed}
 use Rattle.registry.specs.History.{History, is_registered}
 use Rattle.registry.specs.Resources.{is_held_by, IsFree}
 use Rattle.registry.specs.RoaPrefixes.{AreInNumber}
@@ -103,7 +103,7 @@ pub numbered-are : (charter : Charter) (history : History) (h : List ℕ) (n : �
 numbered-are charter history h n None legal are = answers-unregistered charter history h n legal are
 numbered-are charter history h n (Some r) legal are = answers-rows history h n (rows_of r) r.grants.items (auth_of_number n r.auths.items) are.1 refl refl
 
-pub listed-are : (charter : Charter) (history : History) (h : List ℕ) (rows : Option HolderRows) → IsLegal charter history → RowsIfAny history h (rows_if_any rows) → AnswersList history h (grants_if_any rows) (auths_if_any rows)
+pub listed-are : (charter : Charter) (history : History) (h : List ℕ) (rows : Option HolderRows) → IsLegal charter history → RowsIfAny history h (rows_if_any rows) → ListBasis history h (grants_if_any rows) (auths_if_any rows)
 listed-are charter history h None legal are =
     let nothing = has_nothing charter history h legal are in
     record { grants = sym nothing.grants; auths = subst (λ terms. Keeps (HeldSinceMade history h) terms []) (sym nothing.terms) tt }

@@ -1,6 +1,6 @@
 -- What hypothetical changes make of a part of the rows of a holder.
 use Rattle.std.specs.Prelude.{◌≡◌, ℕ, Bool, List, filter, Result, Ok, Err}
-use Rattle.charters.specs.declared.charter.Charter.{Charter}
+use Rattle.registry.specs.declared.charter.Charter.{Charter}
 use Rattle.registry.specs.declared.authorization.Auth.{Auth}
 use Rattle.registry.specs.declared.command.Proposed.{Proposed}
 use Rattle.registry.specs.declared.rows.HolderRows.{HolderRows}

@@ -7,7 +7,8 @@ ghost use Rattle.addr.specs.Address.{Address};
 ghost use Rattle.addr.specs.Spans.{span_covers, spans_have};
 ghost use Rattle.registry.specs.History.{History};
 ghost use Rattle.registry.specs.Resources.{HoldsPrefix};
-ghost use Rattle.registry.specs.Terms.{grant_terms, HoldsEntries, are_shared, gives_some, is_entry, share_vrp};
+ghost use Rattle.addr.specs.VrpParts.{is_entry};
+ghost use Rattle.registry.specs.Terms.{grant_terms, HoldsEntries, are_shared, gives_some, share_vrp};
 ghost use Rattle.registry.specs.RoaPrefixes.{with_maxes};
 ghost use Rattle.registry.specs.Permission.{has_access, is_permitted_terms};
 ghost use Rattle.registry.specs.Answer.{AnswersNumber, HasRuns};
@@ -16,8 +17,8 @@ ghost use Rattle.registry.specs.Rows.{Rows, rows_of, RowsOf, grants_if_any, auth
 ghost use Rattle.registry.specs.PartOfRows.{AreInRuns};
 
 use crate::{Access, Auth, AuthTerms, Charter, Granted, HolderRows, LAST_NUMBER, Rule};
-use addr::{Asn, Day, Holdings, Name, Prefix};
-use registry::{MOST_AUTHORIZATIONS, MOST_GRANTS, RoaPrefix, are_permitted, has_access};
+use addr::{Asn, Day, Holdings, Name, Prefix, RoaPrefix};
+use registry::{MOST_AUTHORIZATIONS, MOST_GRANTS, are_permitted, has_access};
 
 /// `Err(rule)` unless `holds`.
 pub(crate) fn require(holds: bool, rule: Rule) -> Result<(), Rule>

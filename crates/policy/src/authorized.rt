@@ -7,17 +7,17 @@ ghost use Rattle.registry.specs.History.{History};
 ghost use Rattle.registry.specs.Import.{IsPresent};
 ghost use Rattle.registry.specs.Rows.{rows_of, RowsOf};
 ghost use Rattle.registry.specs.Terms.{row_terms};
-ghost use Rattle.policy.specs.steps.Authorized.{AreAuthorized, row_of};
+ghost use Rattle.policy.specs.steps.Authorized.{AreAuthorized, row_of_auth};
 
-use crate::{Access, Auth, HolderRows, ImportRow, RoaPrefix};
-use addr::{Day, Name};
+use crate::{Access, Auth, HolderRows, ImportRow};
+use addr::{Day, Name, RoaPrefix};
 use registry::are_permitted;
 use std::alloc::{AllocError, Global};
 use std::collections::BTreeSet;
 
 /// The row that makes an authorization of these terms, if it has one entry.
 fn row_of(auth: &Auth) -> Option<ImportRow>
-    ensures { result ≡ row_of auth.now }
+    ensures { result ≡ row_of_auth auth.now }
 {
     match auth.entries.as_slice() {
         [entry] => Some(ImportRow {

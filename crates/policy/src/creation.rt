@@ -1,7 +1,7 @@
 //! Creating an authorization.
 
 ghost use Rattle.std.specs.Prelude.{◌≡◌, ℕ, ◌<◌, ◌↔◌, Bool, true, false, IsTrue, List, [], ◌∷◌, Some, option_copied, MatchResult, IfOk, OnOk};
-ghost use Rattle.charters.specs.declared.charter.Charter.{Charter as CharterValue};
+ghost use Rattle.registry.specs.declared.charter.Charter.{Charter as CharterValue};
 ghost use Rattle.registry.specs.declared.change.Edit.{Edit};
 ghost use Rattle.registry.specs.declared.authorization.Auth.{Auth as AuthValue};
 ghost use Rattle.registry.specs.declared.command.Command.{Command};
@@ -10,7 +10,7 @@ ghost use Rattle.registry.specs.declared.limits.TheConstants.{LAST_NUMBER};
 ghost use Rattle.registry.specs.History.{History};
 ghost use Rattle.registry.specs.RoaPrefixes.{AreInNumber};
 ghost use Rattle.registry.specs.Rows.{Rows, rows_of, rows_if_any, grants_if_any, edited, RowsOf};
-ghost use Rattle.registry.specs.Answer.{AnswersCreate, IsAnswer, OfRows};
+ghost use Rattle.registry.specs.Answer.{AnswersCreate, IsAnswer, AtEachHolder};
 ghost use Rattle.registry.specs.Edits.{HasEditsOf, IsOfTerms};
 ghost use Rattle.registry.specs.Terms.{numbered_terms};
 ghost use Rattle.registry.specs.Verdict.{IsLegal, Verdict};
@@ -103,9 +103,9 @@ fn answers_of(rows: &HolderRows, left_out: u32, terms: &AuthTerms) -> Answers
 
 /// Like `answers_of`, for all rows of the holder, also if there are none.
 pub(crate) fn create_answers(rows: Option<&HolderRows>, terms: &AuthTerms) -> Answers
-    ensures { (charter : CharterValue) → OfRows charter (rows_if_any (option_copied rows.entry))
-        (λ history h. AnswersCreate history h terms.now
-        (grants_if_any (option_copied rows.entry)) result) }
+    ensures { (charter : CharterValue)
+        → AtEachHolder charter (rows_if_any (option_copied rows.entry)) (λ history h.
+        AnswersCreate history h terms.now (grants_if_any (option_copied rows.entry)) result) }
 {
     // For the proof: its contract says that there is an entry, so a holder of the terms has rows.
     let _entries = terms.entries.as_slice();

@@ -1,7 +1,7 @@
 //! Deciding commands.
 
 ghost use Rattle.std.specs.Prelude.{◌≡◌, ℕ, true, false, None, Some, Err, IsTrue, option_copied, IfOk, map, filter};
-ghost use Rattle.charters.specs.declared.charter.Charter.{Charter as CharterValue};
+ghost use Rattle.registry.specs.declared.charter.Charter.{Charter as CharterValue};
 ghost use Rattle.registry.specs.History.{History, same_name};
 ghost use Rattle.registry.specs.Terms.{terms_overlap};
 ghost use Rattle.registry.specs.Verdict.{IsLegal};

@@ -18,7 +18,7 @@ mod withdrawal;
 pub use decision::{Facts, decide, decide_two, judge};
 pub use registry::{
     Access, Answers, Auth, AuthTerms, Change, Charter, CharterFault, Command, Edit, GrantTerms,
-    Granted, HolderChange, HolderRows, ImportRow, LAST_NUMBER, Proposed, Query, Refusal, RoaPrefix,
+    Granted, HolderChange, HolderRows, ImportRow, LAST_NUMBER, Proposed, Query, Refusal,
     RoaPrefixes, Role, Rule, Scope, View, laws,
 };
 pub use sight::{see, see_all};

@@ -1,12 +1,12 @@
 //! Showing and listing authorizations.
 
 ghost use Rattle.std.specs.Prelude.{◌≡◌, ℕ, List, [], ◌∷◌, ◌++◌, Some, option_copied, MatchResult, IfOk, OnOk, filter};
-ghost use Rattle.charters.specs.declared.charter.Charter.{Charter as CharterValue};
+ghost use Rattle.registry.specs.declared.charter.Charter.{Charter as CharterValue};
 ghost use Rattle.registry.specs.History.{History};
 ghost use Rattle.registry.specs.Permission.{is_permitted_terms};
 ghost use Rattle.registry.specs.Rows.{rows_if_any, grants_if_any, auths_if_any};
 ghost use Rattle.registry.specs.Verdict.{ShowVerdict, auth_of_number};
-ghost use Rattle.registry.specs.Answer.{AnswersList, AnswersNumber, OfRows, IsShown, IsListed, IsListRefusal};
+ghost use Rattle.registry.specs.Answer.{ListBasis, AnswersNumber, AtEachHolder, IsShown, IsListed, IsListRefusal};
 
 use crate::admission::{
     auths_of, found_with_access, grants_of, is_permitted_terms, require_access,
@@ -25,9 +25,9 @@ pub fn see<'a>(
     caller: &Name,
     number: u32,
 ) -> Result<&'a Auth, Rule>
-    ensures rows { (charter : CharterValue) → OfRows charter (rows_if_any (option_copied rows.entry))
-        (λ history h. MatchResult result
-        (λ x. IsShown history h day caller.now number x.now)
+    ensures rows { (charter : CharterValue)
+        → AtEachHolder charter (rows_if_any (option_copied rows.entry)) (λ history h.
+        MatchResult result (λ x. IsShown history h day caller.now number x.now)
         (λ rule. ShowVerdict history h day caller.now number (Some rule))) }
     ensures part { (history : History) (h : List ℕ)
         → AnswersNumber history h number (grants_if_any (option_copied rows.entry))
@@ -78,12 +78,12 @@ pub fn see_all(
     day: Day,
     caller: &Name,
 ) -> Result<Vec<Auth>, Refusal>
-    ensures rows { (charter : CharterValue) → OfRows charter (rows_if_any (option_copied rows.entry))
-        (λ history h. MatchResult result
-        (λ seen. IsListed history h day caller.now seen.items)
+    ensures rows { (charter : CharterValue)
+        → AtEachHolder charter (rows_if_any (option_copied rows.entry)) (λ history h.
+        MatchResult result (λ seen. IsListed history h day caller.now seen.items)
         (λ refusal. IsListRefusal history h day caller.now refusal)) }
     ensures part { (history : History) (h : List ℕ)
-        → AnswersList history h (grants_if_any (option_copied rows.entry))
+        → ListBasis history h (grants_if_any (option_copied rows.entry))
         (auths_if_any (option_copied rows.entry))
         → MatchResult result
         (λ seen. IsListed history h day caller.now seen.items)

@@ -1,14 +1,14 @@
 //! What hypothetical changes would leave.
 
 ghost use Rattle.std.specs.Prelude.{◌≡◌, ◌+◌, ◌<◌, ℕ, Bool, List, Option, Contains, length, Some, Err, IsSome, option_copied};
-ghost use Rattle.charters.specs.declared.charter.Charter.{Charter as CharterValue};
+ghost use Rattle.registry.specs.declared.charter.Charter.{Charter as CharterValue};
 ghost use Rattle.registry.specs.declared.authorization.Auth.{Auth as AuthValue};
 ghost use Rattle.registry.specs.declared.command.Proposed.{Proposed as ProposedValue};
 ghost use Rattle.registry.specs.History.{History};
 ghost use Rattle.registry.specs.Rows.{Rows, RowsIfAny, rows_of, rows_if_any, auths_if_any};
 ghost use Rattle.registry.specs.Verdict.{IsLegal, Verdict};
 ghost use Rattle.registry.specs.HypotheticalHistory.{hypothetical_command};
-ghost use Rattle.registry.specs.Answer.{OfRows, IsHypotheticalAnswer};
+ghost use Rattle.registry.specs.Answer.{AtEachHolder, IsHypotheticalAnswer};
 ghost use Rattle.registry.specs.PartOfRows.{IsPartIfAny};
 ghost use Rattle.policy.specs.PartAnswer.{IsPartAnswer};
 ghost use Rattle.policy.specs.steps.Part.{Judged};
@@ -60,7 +60,7 @@ pub fn suppose(
     changes: &[Proposed],
 ) -> Result<HolderRows, Refusal>
     requires { 0 < length changes.now }
-    ensures { OfRows charter.now (rows_if_any view.now.holder) (λ history holder.
+    ensures { AtEachHolder charter.now (rows_if_any view.now.holder) (λ history holder.
         IsHypotheticalAnswer charter.now history holder day caller.now changes.now result) }
 {
     suppose_on(view.holder.as_ref(), 0, day, caller, changes)
@@ -79,7 +79,7 @@ pub fn suppose_on(
 ) -> Result<HolderRows, Refusal>
     requires { 0 < length changes.now }
     ensures rows { left_out ≡ 0 → (charter : CharterValue)
-        → OfRows charter (rows_if_any (option_copied part.entry)) (λ history holder.
+        → AtEachHolder charter (rows_if_any (option_copied part.entry)) (λ history holder.
         IsHypotheticalAnswer charter history holder day caller.now changes.now result) }
     ensures part { (charter : CharterValue) (history : History) (holder : List ℕ)
         (keep : AuthValue → Bool) (whole : Option Rows)

@@ -2,7 +2,7 @@
 
 ghost use Rattle.std.specs.Prelude.{◌≡◌, ℕ, List, [], ◌∷◌, Some, option_copied, MatchResult, IfOk};
 ghost use Rattle.registry.specs.declared.change.Edit.{Edit};
-ghost use Rattle.charters.specs.declared.charter.Charter.{Charter as CharterValue};
+ghost use Rattle.registry.specs.declared.charter.Charter.{Charter as CharterValue};
 ghost use Rattle.registry.specs.declared.command.Command.{Command};
 ghost use Rattle.registry.specs.declared.command.Proposed.{Proposed};
 ghost use Rattle.registry.specs.History.{History};

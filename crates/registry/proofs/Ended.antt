@@ -8,7 +8,7 @@ use Rattle.addr.specs.Address.{Address, has_address, overlaps}
 use Rattle.addr.specs.declared.prefix.Prefix.{Prefix}
 use Rattle.addr.proofs.AddressLemmas.{overlaps_some}
 use Rattle.registry.specs.declared.authorization.Auth.{Auth}
-use Rattle.registry.specs.declared.authorization.RoaPrefix.{RoaPrefix}
+use Rattle.addr.specs.declared.roa_prefix.RoaPrefix.{RoaPrefix}
 use Rattle.registry.specs.History.{Entry, History}
 use Rattle.registry.specs.Resources.{resource_holder}
 use Rattle.registry.specs.Terms.{entries_have, terms_overlap, authorizations_made, authorization_terms, HeldSinceMade, Keeps, AreActive}

@@ -6,10 +6,11 @@ use Rattle.std.proofs.Math.Bool.{or-true}
 use Rattle.addr.specs.Address.{prefix_eq, fits_max_length}
 use Rattle.addr.proofs.Equality.{equal_prefix}
 use Rattle.addr.specs.declared.prefix.Prefix.{Prefix}
-use Rattle.charters.proofs.Repeats.{eqb-flips, prefix_eq-flips}
+use Rattle.registry.proofs.Repeats.{eqb-flips, prefix_eq-flips}
 use Rattle.registry.specs.declared.authorization.ImportRow.{ImportRow}
-use Rattle.registry.specs.declared.authorization.RoaPrefix.{RoaPrefix}
-use Rattle.registry.specs.Terms.{is_entry, are_shared, row_terms}
+use Rattle.addr.specs.declared.roa_prefix.RoaPrefix.{RoaPrefix}
+use Rattle.addr.specs.VrpParts.{is_entry}
+use Rattle.registry.specs.Terms.{are_shared, row_terms}
 use Rattle.registry.specs.RoaPrefixes.{Rise, AreEntries, with_maxes}
 use Rattle.registry.specs.Verdict.{fit_lengths, maxes_fit}
 use Rattle.registry.specs.declared.roa_prefixes.TheConstants.{MOST_ENTRIES}

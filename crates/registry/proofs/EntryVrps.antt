@@ -8,9 +8,10 @@ use Rattle.addr.specs.Order.{same_vrp}
 use Rattle.addr.specs.declared.asn.Asn.{Asn}
 use Rattle.addr.specs.declared.prefix.Prefix.{Prefix}
 use Rattle.addr.specs.declared.vrp.Vrp.{Vrp}
-use Rattle.registry.specs.Terms.{is_entry, IsVrpOf, IsVrpOfEntry}
+use Rattle.addr.specs.VrpParts.{is_entry, IsVrpOfEntry}
+use Rattle.registry.specs.Terms.{IsVrpOf}
 use Rattle.registry.specs.declared.authorization.Auth.{Auth}
-use Rattle.registry.specs.declared.authorization.RoaPrefix.{RoaPrefix}
+use Rattle.addr.specs.declared.roa_prefix.RoaPrefix.{RoaPrefix}
 
 -- an entry and an AS have one VRP
 pub one_of_entry : (e : RoaPrefix) (asn : Asn) (v w : Vrp) → IsVrpOfEntry e asn v → IsVrpOfEntry e asn w → v ≡ w

@@ -4,7 +4,7 @@ use Rattle.std.specs.List.{All, Contains}
 use Rattle.std.proofs.lemmas.List.Elements.{All-nil, All-cons, All-contains}
 use Rattle.addr.specs.Address.{Address, has_address}
 use Rattle.registry.specs.declared.authorization.Auth.{Auth}
-use Rattle.registry.specs.declared.authorization.RoaPrefix.{RoaPrefix}
+use Rattle.addr.specs.declared.roa_prefix.RoaPrefix.{RoaPrefix}
 use Rattle.registry.specs.declared.command.Command.{Command}
 use Rattle.registry.specs.declared.command.Command.TheVariants.{Create, Amend, Withdraw}
 use Rattle.registry.specs.History.{Entry, History, same_name}

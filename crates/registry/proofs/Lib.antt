@@ -1,3 +1,5 @@
+pub mod PoolLemmas
+pub mod Repeats
 pub mod Names
 pub mod Numbers
 pub mod Kept

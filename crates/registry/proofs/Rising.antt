@@ -12,8 +12,8 @@ use Rattle.addr.specs.Order.{prefix_cmp}
 use Rattle.addr.specs.declared.prefix.Prefix.{Prefix}
 use Rattle.addr.proofs.Equality.{prefix_itself, equal_prefix}
 use Rattle.addr.proofs.OrderLemmas.{prefix_order, less_is}
-use Rattle.charters.proofs.Repeats.{has_repeat-moved, prefix_eq-flips}
-use Rattle.registry.specs.declared.authorization.RoaPrefix.{RoaPrefix}
+use Rattle.registry.proofs.Repeats.{has_repeat-moved, prefix_eq-flips}
+use Rattle.addr.specs.declared.roa_prefix.RoaPrefix.{RoaPrefix}
 use Rattle.registry.specs.RoaPrefixes.{Rise, have_one_prefix, repeats_prefix}
 
 -- ---- rising, by index and by recursion

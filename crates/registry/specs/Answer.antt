@@ -9,7 +9,7 @@ use Rattle.registry.specs.declared.authorization.Auth.{Auth}
 use Rattle.registry.specs.declared.authorization.AuthTerms.{AuthTerms}
 use Rattle.registry.specs.declared.limits.TheConstants.{MOST_AUTHORIZATIONS}
 use Rattle.registry.specs.declared.rows.Answers.{Answers}
-use Rattle.charters.specs.declared.charter.Charter.{Charter}
+use Rattle.registry.specs.declared.charter.Charter.{Charter}
 use Rattle.registry.specs.declared.command.Command.{Command}
 use Rattle.registry.specs.declared.command.Command.TheVariants.{Register, Delegate, Transfer, Reclaim, Grant, Revoke, Create, Amend, Withdraw, Import, Slurm}
 use Rattle.registry.specs.declared.change.Change.{Change}
@@ -201,7 +201,7 @@ pub record AnswersNumber (history : History) (h : List ℕ) (n : ℕ) (granted :
   pub auth : OfActive history h (λ active. auth_of_number n active ≡ found)
 
 -- what a list is judged on: the grants and the active authorizations are those of the history
-pub record AnswersList (history : History) (h : List ℕ) (granted : List Granted) (listed : List Auth) : Type 0 where
+pub record ListBasis (history : History) (h : List ℕ) (granted : List Granted) (listed : List Auth) : Type 0 where
   pub grants : granted ≡ grant_terms history h
   pub auths : AreActive history h listed
 
@@ -295,6 +295,6 @@ IsListRefusal history h day caller (Denied rule row) = ListVerdict history h day
 IsListRefusal history h day caller Memory = ListVerdict history h day caller None
 
 -- a fact about every legal history, at each holder that has these rows in it
-abbrev pub OfRows : Charter → Option Rows → (History → List ℕ → Type 0) → Type 0
-OfRows charter rows fact =
+abbrev pub AtEachHolder : Charter → Option Rows → (History → List ℕ → Type 0) → Type 0
+AtEachHolder charter rows fact =
     (history : History) (h : List ℕ) → IsLegal charter history → RowsIfAny history h rows → fact history h

@@ -1,7 +1,7 @@
 -- The history that changes would leave if they were made: each is judged and numbered as if those before
 -- it were done, and nothing counts as already authorized.
 use Rattle.std.specs.Prelude.{◌≡◌, ℕ, List, Option, Some, None, Result, Ok, Err}
-use Rattle.charters.specs.declared.charter.Charter.{Charter}
+use Rattle.registry.specs.declared.charter.Charter.{Charter}
 use Rattle.registry.specs.declared.command.Command.{Command}
 use Rattle.registry.specs.declared.command.Command.TheVariants.{Create, Withdraw}
 use Rattle.registry.specs.declared.command.Proposed.{Proposed}

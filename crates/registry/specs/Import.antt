@@ -6,8 +6,8 @@ use Rattle.std.specs.Cmp.Lexicographic.{pointwise}
 use Rattle.registry.specs.declared.authorization.Auth.{Auth}
 use Rattle.registry.specs.declared.authorization.AuthTerms.{AuthTerms}
 use Rattle.registry.specs.declared.authorization.ImportRow.{ImportRow}
-use Rattle.registry.specs.declared.authorization.RoaPrefix.{RoaPrefix}
-use Rattle.charters.specs.declared.charter.Charter.{Charter}
+use Rattle.addr.specs.declared.roa_prefix.RoaPrefix.{RoaPrefix}
+use Rattle.registry.specs.declared.charter.Charter.{Charter}
 use Rattle.registry.specs.declared.command.Command.{Command}
 use Rattle.registry.specs.declared.command.Command.TheVariants.{Create}
 use Rattle.registry.specs.declared.grant.Access.TheVariants.{Alter}
@@ -15,7 +15,8 @@ use Rattle.registry.specs.declared.rule.Rule.{Rule}
 use Rattle.registry.specs.GrowingHistory.{Grows, IsDeniedAt}
 use Rattle.registry.specs.History.{History}
 use Rattle.registry.specs.Permission.{are_permitted}
-use Rattle.registry.specs.Terms.{is_entry, grant_terms, row_terms, OfActive}
+use Rattle.addr.specs.VrpParts.{is_entry}
+use Rattle.registry.specs.Terms.{grant_terms, row_terms, OfActive}
 use Rattle.registry.specs.Verdict.{Verdict}
 
 -- the command that makes the authorization of a row at a holder

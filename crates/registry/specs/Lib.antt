@@ -1,3 +1,8 @@
+pub mod Repeats
+pub mod Pool
+pub mod CharterSets
+pub mod Charter
+pub mod CharterFault
 pub mod Rule
 pub mod History
 pub mod ExceptionsInForce

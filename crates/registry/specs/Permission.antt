@@ -4,7 +4,7 @@ use Rattle.std.specs.List.{list_all, list_any}
 use Rattle.addr.specs.Address.{contains}
 use Rattle.addr.specs.declared.prefix.Prefix.{Prefix}
 use Rattle.registry.specs.declared.authorization.Auth.{Auth}
-use Rattle.registry.specs.declared.authorization.RoaPrefix.{RoaPrefix}
+use Rattle.addr.specs.declared.roa_prefix.RoaPrefix.{RoaPrefix}
 use Rattle.registry.specs.declared.grant.Granted.{Granted}
 use Rattle.registry.specs.declared.grant.Role.{Role}
 use Rattle.registry.specs.declared.grant.Role.TheVariants.{Manager, Clerk, Auditor}

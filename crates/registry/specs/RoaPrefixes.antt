@@ -4,8 +4,8 @@ use Rattle.std.specs.Prelude.{◌≡◌, ℕ, ◌≤◌, Bool, List, [], ◌∷�
 use Rattle.std.specs.declared.cmp.Ordering.TheVariants.{Less}
 use Rattle.addr.specs.Address.{prefix_eq}
 use Rattle.addr.specs.Order.{prefix_cmp}
-use Rattle.charters.specs.Repeats.{has_repeat}
-use Rattle.registry.specs.declared.authorization.RoaPrefix.{RoaPrefix}
+use Rattle.registry.specs.Repeats.{has_repeat}
+use Rattle.addr.specs.declared.roa_prefix.RoaPrefix.{RoaPrefix}
 use Rattle.registry.specs.declared.roa_prefixes.TheConstants.{MOST_ENTRIES}
 
 -- at least one, and no more than an authorization may have

@@ -2,7 +2,8 @@
 -- they were made, no number twice.
 use Rattle.std.specs.Prelude.{◌≡◌, ℕ, ◌+◌, ◌≤◌, Bool, true, not, ◌&&◌, ◌==◌, List, [], ◌∷◌, ◌++◌, map, filter, if◌then◌else◌, ◌⊎◌, Contains, Some}
 use Rattle.std.specs.List.{list_any}
-use Rattle.addr.specs.Address.{Address, has_address, overlaps, prefix_eq}
+use Rattle.addr.specs.Address.{Address, has_address, overlaps}
+use Rattle.addr.specs.VrpParts.{is_entry}
 use Rattle.addr.specs.declared.asn.Asn.{Asn}
 use Rattle.addr.specs.declared.prefix.Prefix.{Prefix}
 use Rattle.addr.specs.declared.vrp.Vrp.{Vrp}
@@ -11,7 +12,7 @@ use Rattle.registry.specs.declared.command.Command.TheVariants.{Grant, Revoke, C
 use Rattle.registry.specs.declared.authorization.Auth.{Auth}
 use Rattle.registry.specs.declared.authorization.AuthTerms.{AuthTerms}
 use Rattle.registry.specs.declared.authorization.ImportRow.{ImportRow}
-use Rattle.registry.specs.declared.authorization.RoaPrefix.{RoaPrefix}
+use Rattle.addr.specs.declared.roa_prefix.RoaPrefix.{RoaPrefix}
 use Rattle.registry.specs.declared.grant.GrantTerms.{GrantTerms}
 use Rattle.registry.specs.declared.grant.Granted.{Granted}
 use Rattle.registry.specs.History.{History, same_name}
@@ -25,14 +26,6 @@ entries_have es a = list_any (λ e. has_address e.prefix a) es
 -- a prefix of the terms shares an address with p
 abbrev pub terms_overlap : Auth → Prefix → Bool
 terms_overlap x p = list_any (λ e. overlaps e.prefix p) x.entries
-
--- the entry has this prefix and maxLength
-abbrev pub is_entry : Prefix → ℕ → RoaPrefix → Bool
-is_entry p max e = prefix_eq e.prefix p && (e.max == max)
-
--- v is the VRP of the entry for this AS
-abbrev pub IsVrpOfEntry : RoaPrefix → Asn → Vrp → Type 0
-IsVrpOfEntry e asn v = (v.prefix ≡ e.prefix) × (v.max ≡ e.max) × (v.asn ≡ asn)
 
 -- the terms give this AS, prefix and maxLength
 abbrev pub gives_vrp : Auth → Asn → Prefix → ℕ → Bool

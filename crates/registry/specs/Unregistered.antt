@@ -1,7 +1,7 @@
 -- What a holder has that is not registered.
 use Rattle.std.specs.Prelude.{◌≡◌, ℕ, false, List, []}
 use Rattle.addr.specs.Address.{Address}
-use Rattle.charters.specs.declared.charter.Charter.{Charter}
+use Rattle.registry.specs.declared.charter.Charter.{Charter}
 use Rattle.registry.specs.History.{History, is_registered}
 use Rattle.registry.specs.Resources.{resource_holder, is_held_by}
 use Rattle.registry.specs.Terms.{grant_terms, grants_made, authorizations_made, authorization_terms}

@@ -6,8 +6,8 @@ use Rattle.std.specs.Cmp.Lexicographic.{pointwise}
 use Rattle.addr.specs.Address.{fits_max_length}
 use Rattle.registry.specs.declared.limits.TheConstants.{MOST_GRANTS, MOST_AUTHORIZATIONS, LAST_NUMBER}
 use Rattle.registry.specs.declared.authorization.Auth.{Auth}
-use Rattle.registry.specs.declared.authorization.RoaPrefix.{RoaPrefix}
-use Rattle.charters.specs.declared.charter.Charter.{Charter}
+use Rattle.addr.specs.declared.roa_prefix.RoaPrefix.{RoaPrefix}
+use Rattle.registry.specs.declared.charter.Charter.{Charter}
 use Rattle.registry.specs.declared.command.Command.{Command}
 use Rattle.registry.specs.declared.command.Command.TheVariants.{Register, Delegate, Transfer, Reclaim, Grant, Revoke, Create, Amend, Withdraw, Import, Slurm}
 use Rattle.registry.specs.declared.grant.Access.{Access}
@@ -15,8 +15,8 @@ use Rattle.registry.specs.declared.grant.Access.TheVariants.{Manage, Alter, Look
 use Rattle.registry.specs.declared.rule.Rule.{Rule}
 use Rattle.registry.specs.declared.rule.Rule.TheVariants.{Operator, Steward, Grant as GrantRule, Holder, Fresh, Number, Scope, Dates, Length, Pool, Free, Distinct, Held, Same, Room, Overlap}
 use Rattle.slurm.specs.SlurmSets.{some_overlap}
-use Rattle.charters.specs.Charter.{is_operator, pool_of}
-use Rattle.charters.specs.Pool.{IsInPool}
+use Rattle.registry.specs.Charter.{is_operator, pool_of}
+use Rattle.registry.specs.Pool.{IsInPool}
 use Rattle.registry.specs.History.{History, same_name, is_registered}
 use Rattle.registry.specs.Resources.{HoldsPrefix, IsFree}
 use Rattle.registry.specs.Terms.{HoldsEntries, gives_some, share_vrp, with_terms, grant_terms, grants_made, authorizations_made, OfActive}

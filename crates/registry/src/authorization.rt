@@ -3,38 +3,13 @@
 ghost use Rattle.std.specs.Prelude.{◌≡◌, ◌≤◌, ◌↔◌, ◌&&◌, true, IsTrue, IsSome, IfSome, IfOk, option_copied};
 ghost use Rattle.std.specs.List.{list_any};
 ghost use Rattle.addr.specs.Address.{FitsMaxLength};
-ghost use Rattle.registry.specs.Terms.{numbered_terms, row_terms, terms_overlap, is_entry, are_shared, gives_some, with_terms, IsVrpOf, IsVrpOfEntry};
+ghost use Rattle.addr.specs.VrpParts.{is_entry};
+ghost use Rattle.registry.specs.Terms.{numbered_terms, row_terms, terms_overlap, are_shared, gives_some, with_terms, IsVrpOf};
 ghost use Rattle.registry.specs.Verdict.{auth_of_number, fit_lengths, maxes_fit};
 
 use crate::RoaPrefixes;
-use addr::{Asn, Day, Prefix, Vrp};
+use addr::{Asn, Day, Prefix, RoaPrefix, Vrp};
 use std::alloc::{AllocError, Global};
-
-/// An entry of an authorization: a prefix and its maxLength (RFC 9582 section 4.3.2).
-#[derive(Clone, Copy, Debug, PartialEq, Eq)]
-pub struct RoaPrefix {
-    pub prefix: Prefix,
-    /// The maxLength as it was requested; the rule `length` judges it.
-    pub max: u8,
-}
-
-impl RoaPrefix {
-    /// Whether the entry has this prefix and maxLength.
-    fn is(&self, prefix: &Prefix, max: u8) -> bool
-        ensures { result ≡ is_entry prefix.now max self.now }
-    {
-        self.prefix.is(prefix) && self.max == max
-    }
-
-    /// The VRP of the entry for the AS; `None` if the maxLength is out of range, which it is in no
-    /// history.
-    pub fn vrp(&self, asn: Asn) -> Option<Vrp>
-        ensures some { IsSome result ↔ FitsMaxLength self.now.prefix self.now.max }
-        ensures value { IfSome result (IsVrpOfEntry self.now asn) }
-    {
-        Vrp::from_parts(self.prefix, self.max, asn)
-    }
-}
 
 /// Whether each maxLength of the entries is one for its prefix.
 pub fn fit_lengths(entries: &[RoaPrefix]) -> bool

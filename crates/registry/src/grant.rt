@@ -4,8 +4,7 @@ ghost use Rattle.std.specs.Prelude.{◌≡◌};
 ghost use Rattle.registry.specs.Permission.{allowed_roles, scope_has, is_current, gives_access, has_access, is_permitted, are_permitted};
 ghost use Rattle.registry.specs.Terms.{numbered_grant};
 
-use crate::RoaPrefix;
-use addr::{Day, Name, Prefix};
+use addr::{Day, Name, Prefix, RoaPrefix};
 
 /// What a caller may do at a resource holder.
 #[derive(Clone, Copy, Debug, PartialEq, Eq)]

@@ -4,7 +4,8 @@
 ghost use Rattle.std.specs.Prelude.{◌≡◌, All, IsTrue};
 ghost use Rattle.std.specs.List.{AllByRecursion};
 ghost use Rattle.addr.specs.Name.{is_name};
-ghost use Rattle.charters.specs.Charter.{operators_of};
+ghost use Rattle.registry.specs.Charter.{operators_of};
+ghost use Rattle.registry.specs.declared.charter.TheConstants.{MOST_OPERATORS, MOST_POOL_PREFIXES};
 ghost use Rattle.registry.specs.declared.limits.TheConstants.{MOST_GRANTS, MOST_AUTHORIZATIONS, LAST_NUMBER};
 ghost use Rattle.registry.specs.declared.roa_prefixes.TheConstants.{MOST_ENTRIES};
 ghost use Rattle.registry.specs.Unregistered.{UnregisteredHaveNothing};
@@ -54,9 +55,11 @@ pub fn operators_fit(charter: &Charter)
     names_fit(charter.operators());
 }
 
-/// States the limits of the rule `room` and of the entries of an authorization as numbers, so that
-/// the proof fails if a constant changes.
+/// States the limits of a charter, of the rule `room` and of the entries of an authorization as
+/// numbers, so that the proof fails if a constant changes.
 pub fn limits()
+    ensures operators { MOST_OPERATORS ≡ 16 }
+    ensures pool_prefixes { MOST_POOL_PREFIXES ≡ 64 }
     ensures grants { MOST_GRANTS ≡ 64 }
     ensures authorizations { MOST_AUTHORIZATIONS ≡ 1000 }
     ensures numbers { LAST_NUMBER ≡ 999999 }

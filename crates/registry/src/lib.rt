@@ -5,6 +5,7 @@
 mod asked;
 mod authorization;
 mod change;
+mod charter;
 mod command;
 mod grant;
 pub mod laws;
@@ -15,9 +16,9 @@ mod rule;
 mod values;
 
 pub use asked::{Asked, Request};
-pub use authorization::{Auth, AuthTerms, ImportRow, RoaPrefix, auth_of_number, fit_lengths};
+pub use authorization::{Auth, AuthTerms, ImportRow, auth_of_number, fit_lengths};
 pub use change::{Change, Edit, HolderChange};
-pub use charters::{Charter, CharterFault};
+pub use charter::{Charter, CharterFault};
 pub use command::{Command, Proposed, Query};
 pub use grant::{Access, GrantTerms, Granted, Role, Scope, are_permitted, has_access};
 pub use limits::{LAST_NUMBER, MOST_AUTHORIZATIONS, MOST_GRANTS};

@@ -1,10 +1,9 @@
 //! The entries of an authorization as a list in order.
 ghost use Rattle.std.specs.Prelude.{◌≡◌, ◌↔◌, true, false, List, [], ◌∷◌, IsTrue, Err, IsOk, IfOk, MatchOption, IsPermutation};
 ghost use Rattle.registry.specs.RoaPrefixes.{AreInNumber, AreEntries, Rise, repeats_prefix, with_maxes};
-ghost use Rattle.registry.specs.declared.authorization.RoaPrefix.{RoaPrefix};
+ghost use Rattle.addr.specs.declared.roa_prefix.RoaPrefix.{RoaPrefix};
 
-use crate::RoaPrefix;
-use addr::Prefix;
+use addr::{Prefix, RoaPrefix};
 use std::alloc::{AllocError, Global};
 use std::marker::Model;
 use thiserror::Error;

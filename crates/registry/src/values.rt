@@ -7,8 +7,8 @@ ghost use Rattle.addr.specs.Day.{IsDay};
 ghost use Rattle.addr.specs.Name.{is_name};
 ghost use Rattle.registry.specs.Values.{IsU8, IsU32, CommandFits, ExceptionsFit, FilesFit, FilterFits, ImportRowFits, TermsFit, VrpFits};
 
-use crate::{AuthTerms, Command, ImportRow, RoaPrefix};
-use addr::{Day, Name, Vrp};
+use crate::{AuthTerms, Command, ImportRow};
+use addr::{Day, Name, RoaPrefix, Vrp};
 use slurm::{Filter, NamedSlurm, Slurm};
 
 /// The values of the command are those of their types.

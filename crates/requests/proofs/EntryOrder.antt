@@ -4,7 +4,7 @@ use Rattle.std.specs.List.Sorted.{IsStrictlySortedBy}
 use Rattle.addr.proofs.Equality.{prefix_itself}
 use Rattle.addr.proofs.OrderLemmas.{prefix_order}
 use Rattle.registry.specs.RoaPrefixes.{AreInNumber, Rise, have_one_prefix, repeats_prefix}
-use Rattle.registry.specs.declared.authorization.RoaPrefix.{RoaPrefix}
+use Rattle.addr.specs.declared.roa_prefix.RoaPrefix.{RoaPrefix}
 use Rattle.requests.proofs.InOrder.{before_too, is_in_order, rises_behind, IsBefore}
 
 abbrev pub order : RoaPrefix → RoaPrefix → Ordering

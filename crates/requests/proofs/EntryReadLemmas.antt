@@ -1,6 +1,6 @@
 -- What the code reads of the entries and the maxLengths that an object names: a value where there is no fault, and else
 -- the lowest fault.
-use Rattle.requests.proofs.Vocabulary.{◌≡◌, true, false, Bool, List, [], ◌∷◌, codes, Option, Some, option_and_then, Result, inl, inr, refl, prefix_eq, Data, get, as_array, Pass, pass-append, pass-required, pass-unless, reported-only, reads-both, reads-last, reads-mapped, reads-ok_or, reads-says, reads-unless, reading_faults, required_faults, and_then, as_prefix, choice_faults, chosen_faults, entry_choice, entry_list, entry_members, fault_order, has_some, max_choice, member_faults, names_of, object_faults, HasEntries, HasEntry, HasEntryList, HasMaxes, HasOneEntry, HasOneMax, as_max, MOST_ENTRIES, Fault, Members, Max, Repeated, chosen, entries_arranged, entries_in, entry_in, entry_members_in, items_of, max_item_in, maxes_in, one_entry_in, one_max_in}
+use Rattle.requests.proofs.Vocabulary.{◌≡◌, true, false, Bool, List, [], ◌∷◌, codes, Option, Some, option_and_then, Result, inl, inr, refl, prefix_eq, Data, get, as_array, Pass, pass-append, pass-required, pass-unless, reported-only, reads-both, reads-last, reads-mapped, reads-ok_or, reads-says, reads-unless, reading_faults, required_faults, and_then, as_prefix, choice_faults, chosen_faults, entry_choice, entry_list, entry_members, fault_order, has_some, max_choice, member_faults, names_of, object_faults, HasEntries, HasEntry, HasEntryList, HasMaxes, HasEntryMembers, HasOneMax, as_max, MOST_ENTRIES, Fault, Members, Max, Repeated, chosen, entries_arranged, entries_in, entry_in, entry_members_in, items_of, max_item_in, maxes_in, one_entry_in, one_max_in}
 use Rattle.requests.specs.declared.request.fault.Fault.TheVariants.{Prefix as PrefixFault}
 use Rattle.requests.proofs.ArrangedReadLemmas.{is_up_to, reads-arranged_list}
 use Rattle.requests.proofs.EntryOrder.{order, order_total, rise_from_sorted, tied-once}
@@ -26,7 +26,7 @@ reads-entry_members d =
 reads-entry : (d : Data) → ReadsUnlessFaulty (entry_in d) (object_faults entry_members d) (HasEntry d)
 reads-entry d = reads-unless (reads-entry_members d) (reported-only fault_order Members (names_of entry_members) d)
 
-reads-one_entry : (d : Data) → ReadsUnlessFaulty (one_entry_in d) (member_faults entry_members d) (HasOneEntry d)
+reads-one_entry : (d : Data) → ReadsUnlessFaulty (one_entry_in d) (member_faults entry_members d) (HasEntryMembers d)
 reads-one_entry d = reads-mapped (λ entry. entry ∷ []) (λ entry says. (entry, says, refl)) (reads-entry_members d)
 
 -- ---- a list of entries

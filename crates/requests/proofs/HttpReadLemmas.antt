@@ -1,5 +1,5 @@
 -- What the code reads of an HTTP message is the request that the message is, and its fault the lowest.
-use Rattle.requests.proofs.Vocabulary.{◌≡◌, ℕ, List, [], ◌∷◌, ◌++◌, map, Option, Some, None, is_some, Result, Ok, Err, codes, inl, refl, sym, ap, ◌∙◌, append_assoc, arith, same_Some, Vec, flat_map, option_to_list, IfOk, result_err, result_map_both, Data, null, ImportRow, reported-only, fault_unless, lower_of, lowest, name_faults, required_faults, mapped, tree_of, Asked, Head, Action, body_bytes, body_faults, head_caller, fault_of_import, http_fault, http_faults, import_faults, json_tree, object_body_faults, path_faults, parsed_body_faults, as_malformed, body_members, body_names, choices_of, file_faults, file_list, fault_order, named_by, part_faults, Subject, Fault, Json, Members, Holder, Caller, Number, File, asked_of, import_body, import_rows, object_body, path_subject, request_by, tree_request, AskedTerms, RequestTerms, asked_terms, file_list_in, import, main_file_of, request_in, slurm_request, lowest-none, reads-both, reads-last, reads-mapped, reads-ok_or, reads-says, reads-unless, get, HasFileList}
+use Rattle.requests.proofs.Vocabulary.{◌≡◌, ℕ, List, [], ◌∷◌, ◌++◌, map, Option, Some, None, is_some, Result, Ok, Err, codes, inl, refl, sym, ap, ◌∙◌, append_assoc, arith, same_Some, Vec, flat_map, option_to_list, IfOk, result_err, result_map_both, Data, null, ImportRow, reported-only, fault_unless, lower_of, lowest, name_faults, required_faults, mapped, tree_of, Asked, Head, Action, body_bytes, body_faults, head_caller, fault_of_import, http_fault, http_faults, sent_import_faults, json_tree, object_body_faults, path_faults, parsed_body_faults, as_malformed, body_members, body_names, choices_of, sent_file_faults, file_list, fault_order, named_by, members_and_choices_faults, Subject, Fault, Json, Members, Holder, Caller, Number, File, asked_of, import_body, import_rows, object_body, path_subject, request_by, tree_request, AskedTerms, RequestTerms, asked_terms, file_list_in, import, main_file_of, request_in, slurm_request, lowest-none, reads-both, reads-last, reads-mapped, reads-ok_or, reads-says, reads-unless, get, HasFileList}
 use Rattle.std.proofs.lemmas.Bool.Decides.{nat_tests}
 use Rattle.addr.specs.Name.{name_in}
 use Rattle.json_values.specs.Parts.{lower}
@@ -30,7 +30,7 @@ reads-day : (day : ℕ) → ReadsUnlessFaulty (Ok day) [] (λ asked_day. asked_d
 reads-day day = record { reported = record { is = refl }; value = refl }
 
 -- the rows of an import
-reads-text : (text : List ℕ) → ReadsUnlessFaulty (import_rows text) (import_faults text) (IsImportText text)
+reads-text : (text : List ℕ) → ReadsUnlessFaulty (import_rows text) (sent_import_faults text) (IsImportText text)
 reads-text text =
     record {
       reported = record { is = reported (import_in text) (import_fault text) (import_in-reported text) };
@@ -76,7 +76,7 @@ module _ (head : Head) (body : Option (List ℕ)) where
     in_path = flat_map (path_faults head) (named_by action)
 
     reads-members : (d : Data) → ReadsUnlessFaulty (request_in action (path_subject head) d)
-        (in_path ++ part_faults (body_members action) (choices_of action) d) (SaysTerms (http_heading head body d) d)
+        (in_path ++ members_and_choices_faults (body_members action) (choices_of action) d) (SaysTerms (http_heading head body d) d)
     reads-members d =
         reads-request (http_heading head body d) (path_subject head) (path_faults head)
         (reads-ok_or _ Holder) (reads-ok_or _ Number) action d (ap Some does)
@@ -89,7 +89,7 @@ module _ (head : Head) (body : Option (List ℕ)) where
     reads-tree None = record { reported = record { is = lowest-json in_path }; value = tt }
     reads-tree (Some d) =
         reads-says (λ terms says. (d, refl, says))
-        (rw (← append_assoc in_path (part_faults (body_members action) (choices_of action) d) (name_faults Members (body_names action) d))
+        (rw (← append_assoc in_path (members_and_choices_faults (body_members action) (choices_of action) d) (name_faults Members (body_names action) d))
         (reads-unless (reads-members d) (reported-only fault_order Members (body_names action) d)))
 
     reads-object : (bytes : Option (List ℕ))
@@ -100,13 +100,13 @@ module _ (head : Head) (body : Option (List ℕ)) where
 
   -- a body that is a file
   reads-slurm : head.action ≡ Slurm → (found : Option Data)
-      → ReadsUnlessFaulty (slurm_request (main_file_of found)) (file_faults found) (SaysTree found)
+      → ReadsUnlessFaulty (slurm_request (main_file_of found)) (sent_file_faults found) (SaysTree found)
   reads-slurm does None = record { reported = record { is = refl }; value = tt }
   reads-slurm does (Some d) = reads-mapped _ (λ p says. (d, refl, inl (ap Some does, says))) (reads-main_file_of (Some d))
 
   -- a body that is an import
   reads-import : head.action ≡ Import → ReadsUnlessFaulty (import_body (path_subject head) body)
-      (flat_map (path_faults head) (named_by Import) ++ import_faults (body_bytes body)) (SaysTree (Some null))
+      (flat_map (path_faults head) (named_by Import) ++ sent_import_faults (body_bytes body)) (SaysTree (Some null))
   reads-import does =
       reads-mapped (λ p. import p.0 p.1) (λ p says. (null, refl, (ap Some does, says.0, says.1)))
       (reads-both (reads-last (reads-ok_or (name_in head.holder) Holder)) (reads-text (body_bytes body)))

@@ -1,5 +1,5 @@
 -- What the code reads of a line is the request that the line is, and its fault the lowest.
-use Rattle.requests.proofs.Vocabulary.{◌≡◌, ◌⊎◌, ℕ, Bool, true, false, if◌then◌else◌, nat_lt, List, [], ◌∷◌, ◌++◌, map, length, codes, Option, Some, None, option_and_then, Ok, Err, refl, sym, ap, ◌∙◌, append_assoc, inl, inr, flat_map, Amend, Import, Validity, Data, get, as_str, NamedSlurm, reported-only, required_faults, both, mapped, tree_of, Asked, Request, as_malformed, fault_order, role_at, terms_members, row_members, entry_members, creation_members, withdrawal_members, route_members, names_of, part_names, part_faults, choice_faults, choices_of, entry_choice, line_names, object_faults, change_faults, rows, changes, routes, file_choice, file_list, action_in, action_of, body_members, member_faults, named_by, named_member, Named, HolderName, NumberGiven, Kind, any_value, caller_name, day, members_of, action_faults, tree_faults, request_faults, request_fault, HasName, HasDay, HasGrantTerms, HasFileList, HasMainFile, HasMaxes, HasMember, HasRow, HasTerms, SaysChange, SaysRoute, HasItems, HasRoutes, Heading, Does, NamesHolder, NamesNumber, SaysRequest, line_heading, ReadsLine, SaysRows, as_name, as_prefix, as_day, as_asn, as_origin, as_number, as_role, as_scope, Action, Fault, Subject, Members, Holder, Caller, Day, Role, Number, TooLong, RequestTerms, request, amend, import, validity, what_if, AskedTerms, request_terms, asked_terms, grant_terms_in, asn_and_days_in, terms_of, terms_in, row_of, row_in, change_by, change_in, route_in, rows_in, changes_in, routes_in, file_list_in, files_in, request_in, line_subject, asked_as, asked_by, asked_from, asked_in, reads-both, reads-mapped, reads-unless, reads-last, reads-says, lowest-none}
+use Rattle.requests.proofs.Vocabulary.{◌≡◌, ◌⊎◌, ℕ, Bool, true, false, if◌then◌else◌, nat_lt, List, [], ◌∷◌, ◌++◌, map, length, codes, Option, Some, None, option_and_then, Ok, Err, refl, sym, ap, ◌∙◌, append_assoc, inl, inr, flat_map, Amend, Import, Validity, Data, get, as_str, NamedSlurm, reported-only, required_faults, both, mapped, tree_of, Asked, Request, as_malformed, fault_order, role_at, terms_members, row_members, entry_members, creation_members, withdrawal_members, route_members, names_of, part_names, members_and_choices_faults, choice_faults, choices_of, entry_choice, line_names, object_faults, change_faults, rows, changes, routes, file_choice, file_list, action_in, action_of, body_members, member_faults, named_by, named_member, Named, HolderName, NumberGiven, Kind, any_value, caller_name, day, members_of, action_faults, tree_faults, request_faults, request_fault, HasName, HasDay, HasGrantTerms, HasFileList, HasMainFile, HasMaxes, HasMember, HasRow, HasTerms, SaysChange, SaysRoute, HasItems, HasRoutes, Heading, Does, NamesHolder, NamesNumber, SaysRequest, line_heading, ReadsLine, SaysRows, as_name, as_prefix, as_day, as_asn, as_origin, as_number, as_role, as_scope, Action, Fault, Subject, Members, Holder, Caller, Day, Role, Number, TooLong, RequestTerms, request, amend, import, validity, what_if, AskedTerms, request_terms, asked_terms, grant_terms_in, asn_and_days_in, terms_of, terms_in, row_of_members, row_in, change_by, change_in, route_in, row_list_in, changes_in, routes_in, file_list_in, files_in, request_in, line_subject, asked_as, asked_by, asked_from, asked_in, reads-both, reads-mapped, reads-unless, reads-last, reads-says, lowest-none}
 use Rattle.std.proofs.lemmas.Grind.{flat_map-append}
 use Rattle.addr.specs.declared.asn.Asn.{Asn as AsnValue}
 use Rattle.registry.specs.declared.command.Proposed.TheVariants.{Create as CreateChange, Withdraw as WithdrawChange}
@@ -45,7 +45,7 @@ reads-asn_and_days d =
     reads-both (reads-member as_asn Asn (codes "asn") d)
     (reads-both (reads-member as_day Day (codes "from") d) (reads-last (until d)))
 
-reads-terms : (d : Data) → ReadsUnlessFaulty (terms_in d) (part_faults terms_members (entry_choice ∷ []) d) (HasTerms d)
+reads-terms : (d : Data) → ReadsUnlessFaulty (terms_in d) (members_and_choices_faults terms_members (entry_choice ∷ []) d) (HasTerms d)
 reads-terms d =
     reads-mapped terms_of (λ p says. (says.0.0, says.1, says.0.1.0, says.0.1.1))
     (reads-both (reads-asn_and_days d) (reads-last (reads-entries d)))
@@ -65,7 +65,7 @@ reads-row : (d : Data) → ReadsUnlessFaulty (row_in d) (object_faults row_membe
 reads-row d =
     rw (row-split d)
     (reads-unless
-    (reads-mapped row_of (λ p says. (says.0.0, says.1.0, says.1.1, says.0.1.0, says.0.1.1))
+    (reads-mapped row_of_members (λ p says. (says.0.0, says.1.0, says.1.1, says.0.1.0, says.0.1.1))
     (reads-both (reads-asn_and_days d) (reads-entry_members d)))
     (reported-only fault_order Members (names_of row_members) d))
 
@@ -88,7 +88,7 @@ reads-route d =
     (reads-both (prefix d) (reads-last (reads-member as_origin Asn (codes "origin") d))))
     (reported-only fault_order Members (names_of route_members) d)
 
-pub reads-rows : (d : Data) → ReadsUnlessFaulty (rows_in d) (required_faults Members (rows d) (get (codes "rows") d))
+pub reads-rows : (d : Data) → ReadsUnlessFaulty (row_list_in d) (required_faults Members (rows d) (get (codes "rows") d))
     (HasItems HasRow (get (codes "rows") d))
 reads-rows d = reads-list row_in (object_faults row_members) HasRow 1 MOST_ITEMS reads-row (get (codes "rows") d)
 
@@ -123,7 +123,7 @@ terms-said h d other says = says
 -- of each of what a request names, and of its further members
 abbrev pub said_faults : (Named → List Fault) → Action → Data → List Fault
 said_faults named action d =
-    flat_map named (named_by action) ++ part_faults (body_members action) (choices_of action) d
+    flat_map named (named_by action) ++ members_and_choices_faults (body_members action) (choices_of action) d
 
 module _ (h : Heading) (subject : Subject) (named : Named → List Fault)
     (holder : ReadsUnlessFaulty subject.holder (named HolderName) (NamesHolder h))
@@ -149,7 +149,7 @@ module _ (h : Heading) (subject : Subject) (named : Named → List Fault)
 
   abbrev pub ReadsRows : Data → Type 0
   ReadsRows d = Does AskImport h
-      → ReadsUnlessFaulty (rows_in d) (required_faults Members (rows d) (get (codes "rows") d)) (SaysRows h.rows)
+      → ReadsUnlessFaulty (row_list_in d) (required_faults Members (rows d) (get (codes "rows") d)) (SaysRows h.rows)
 
   pub reads-request : (action : Action) (d : Data) → Does action h → ReadsFiles d → ReadsFileList d → ReadsRows d →
       ReadsUnlessFaulty (request_in action subject d) (said_faults named action d) (SaysTerms h d)
@@ -217,7 +217,7 @@ members-split d (n ∷ named) rest =
 
 -- day and caller come before all that the request says
 line-split : (action : Action) (d : Data) → Does action (line_heading d) →
-    part_faults (members_of action) (choices_of action) d
+    members_and_choices_faults (members_of action) (choices_of action) d
     ≡ required_faults Members (day d) (get (codes "day") d)
     ++ (required_faults Members (caller_name d) (get (codes "caller") d) ++ said_faults (named_faults d) action d)
 line-split action d does =

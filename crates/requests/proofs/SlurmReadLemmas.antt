@@ -1,6 +1,6 @@
 -- What is read of a SLURM file in a request: the exceptions that it says are those that one reading
 -- of its tree gives, and its fault is that reading's.
-use Rattle.requests.proofs.Vocabulary.{◌≡◌, List, [], ◌∷◌, Option, Some, None, Result, Ok, Err, length, refl, sym, ap, ◌∙◌, subst, map, codes, none-some, same_Some, All-from_recursion, recursion_from_All, All-permutation, length_permutation, AllByRecursion, AllZip, option_to_list, IfOk, IsPermutation, result_err, result_map_both, same_vrp, Prefix, Data, get, slurm_fault, filters_at, assertions_at, SlurmFault, lowest, required_faults, required, file, file_faults, fault_order, File, Members, HasMainFile, main_alone, as_file, file_in, file_of, main_file_in, main_file_of, reads-mapped}
+use Rattle.requests.proofs.Vocabulary.{◌≡◌, List, [], ◌∷◌, Option, Some, None, Result, Ok, Err, length, refl, sym, ap, ◌∙◌, subst, map, codes, none-some, same_Some, All-from_recursion, recursion_from_All, All-permutation, length_permutation, AllByRecursion, AllZip, option_to_list, IfOk, IsPermutation, result_err, result_map_both, same_vrp, Prefix, Data, get, slurm_fault, filters_at, assertions_at, SlurmFault, lowest, required_faults, required, file, sent_file_faults, fault_order, File, Members, HasMainFile, main_alone, as_file, file_in, file_of, main_file_in, main_file_of, reads-mapped}
 use Rattle.addr.proofs.PrefixSpellingLemmas.{Spells_unique}
 use Rattle.addr.specs.PrefixText.{Spells}
 use Rattle.addr.specs.declared.asn.Asn.{Asn}
@@ -91,7 +91,7 @@ said-file value (Ok exceptions) is = answer-said value (Ok exceptions) is
 said-file value (Err n) is = tt
 
 -- what is read of a file is what it says, and its fault the lowest
-reads-as_file : (value : Data) → ReadsUnlessFaulty (as_file value) (file_faults (Some value)) (SaysExceptions (Some value))
+reads-as_file : (value : Data) → ReadsUnlessFaulty (as_file value) (sent_file_faults (Some value)) (SaysExceptions (Some value))
 reads-as_file value = record {
   reported = record { is = reported-file (slurm_in value) ∙ ap (λ (fault : Option SlurmFault). lowest fault_order (map File (option_to_list fault))) (slurm_fault-reported value) };
   value = said-file value (slurm_in value) refl;
@@ -105,7 +105,7 @@ reads-file d = at (get (codes "file") d)
     at (Some value) = reads-as_file value
 
 -- the same of a file that may be no JSON
-reads-file_of : (found : Option Data) → ReadsUnlessFaulty (file_of found) (file_faults found) (SaysExceptions found)
+reads-file_of : (found : Option Data) → ReadsUnlessFaulty (file_of found) (sent_file_faults found) (SaysExceptions found)
 reads-file_of None = record { reported = record { is = refl }; value = tt }
 reads-file_of (Some value) = reads-as_file value
 
@@ -113,7 +113,7 @@ reads-file_of (Some value) = reads-as_file value
 pub reads-main_file : (d : Data) → ReadsUnlessFaulty (main_file_in d) (required_faults Members (file d) (get (codes "file") d)) (HasMainFile (get (codes "file") d))
 reads-main_file d = reads-mapped main_alone (λ file says. (file, says, refl)) (reads-file d)
 
-pub reads-main_file_of : (found : Option Data) → ReadsUnlessFaulty (main_file_of found) (file_faults found) (HasMainFile found)
+pub reads-main_file_of : (found : Option Data) → ReadsUnlessFaulty (main_file_of found) (sent_file_faults found) (HasMainFile found)
 reads-main_file_of found = reads-mapped main_alone (λ file says. (file, says, refl)) (reads-file_of found)
 
 -- one file in another order

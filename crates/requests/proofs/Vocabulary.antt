@@ -18,7 +18,7 @@ pub use Rattle.std.specs.declared.cmp.Ordering.TheVariants.{Equal, Greater, Less
 pub use Rattle.addr.specs.Address.{prefix_eq}
 pub use Rattle.addr.specs.Order.{TestsEquality, prefix_cmp, same_vrp}
 pub use Rattle.addr.specs.declared.prefix.Prefix.{Prefix}
-pub use Rattle.charters.specs.Repeats.{has_repeat}
+pub use Rattle.registry.specs.Repeats.{has_repeat}
 pub use Rattle.httparse.specs.Spans.{header_bytes, name_and_value}
 pub use Rattle.json_values.proofs.FaultLemmas.{Pass, lowest-append, lowest-passes, pass-append, pass-flat_map, pass-required, pass-unless, reported-if, reported-ok_or, reported-only, reported-required}
 pub use Rattle.json_values.proofs.PartsLemmas.{lower-first, mapped-unless}
@@ -39,11 +39,11 @@ pub use Rattle.slurm.specs.SlurmSets.{AreNamedOnce, RiseByName, name_cmp}
 pub use Rattle.slurm.specs.declared.fault.SlurmFault.{SlurmFault}
 pub use Rattle.slurm.specs.declared.set.NamedSlurm.{NamedSlurm}
 pub use Rattle.slurm.specs.declared.set.TheConstants.{MOST_FILES}
-pub use Rattle.requests.specs.HttpFaults.{body_bytes, body_faults, fault_of_import, head_caller, http_fault, http_faults, import_faults, json_tree, object_body_faults, parsed_body_faults, path_faults}
+pub use Rattle.requests.specs.HttpFaults.{body_bytes, body_faults, fault_of_import, head_caller, http_fault, http_faults, sent_import_faults, json_tree, object_body_faults, parsed_body_faults, path_faults}
 pub use Rattle.requests.specs.Paths.{has_query, path_at, path_of, path_routes, with_path}
-pub use Rattle.requests.specs.RequestFaults.{HolderName, Kind, Named, NumberGiven, action_faults, action_in, action_of, all_actions, any_value, as_malformed, body_members, body_names, caller_name, change_faults, changes, choice_faults, choices_of, chosen_faults, creation_members, day, entry_choice, entry_list, entry_members, fault_order, file, file_choice, file_faults, file_list, file_members, form_of, has_some, is_count, is_word, line_names, list_faults, max_choice, member_faults, members_of, named_by, named_member, names_of, object_faults, part_faults, part_names, repeat_faults, request_fault, request_faults, role_at, route_members, routes, row_members, rows, terms_members, tree_faults, values_in, withdrawal_members, word_of}
+pub use Rattle.requests.specs.RequestFaults.{HolderName, Kind, Named, NumberGiven, action_faults, action_in, action_of, all_actions, any_value, as_malformed, body_members, body_names, caller_name, change_faults, changes, choice_faults, choices_of, chosen_faults, creation_members, day, entry_choice, entry_list, entry_members, fault_order, file, file_choice, sent_file_faults, file_list, file_members, form_of, has_some, is_count, is_word, line_names, list_faults, max_choice, member_faults, members_of, named_by, named_member, names_of, object_faults, members_and_choices_faults, part_names, repeat_faults, request_fault, request_faults, role_at, route_members, routes, row_members, rows, terms_members, tree_faults, values_in, withdrawal_members, word_of}
 pub use Rattle.requests.specs.RequestHeads.{Head, SaysHead, head_as, head_at, head_of, head_view, head_with}
-pub use Rattle.requests.specs.RequestText.{Does, HasDay, HasEntries, HasEntry, HasEntryList, HasFile, HasFileList, HasGrantTerms, HasItems, HasMainFile, HasMaxes, HasMember, HasName, HasOneEntry, HasOneMax, HasRoutes, HasRow, HasTerms, Heading, NamesHolder, NamesNumber, ReadsLine, SaysChange, SaysRequest, SaysRoute, SaysRows, line_heading, main_alone}
+pub use Rattle.requests.specs.RequestText.{Does, HasDay, HasEntries, HasEntry, HasEntryList, HasFile, HasFileList, HasGrantTerms, HasItems, HasMainFile, HasMaxes, HasMember, HasName, HasEntryMembers, HasOneMax, HasRoutes, HasRow, HasTerms, Heading, NamesHolder, NamesNumber, ReadsLine, SaysChange, SaysRequest, SaysRoute, SaysRows, line_heading, main_alone}
 pub use Rattle.requests.specs.RequestValues.{as_max, as_number, as_origin, as_role, as_scope}
 pub use Rattle.requests.specs.Routes.{action_at, is_asked_by}
 pub use Rattle.requests.specs.declared.action.Action.{Action}
@@ -54,4 +54,4 @@ pub use Rattle.requests.specs.declared.request.entries.TheConstants.{MOST_ENTRIE
 pub use Rattle.requests.specs.declared.request.fault.Fault.{Fault}
 pub use Rattle.requests.specs.declared.request.fault.Fault.TheVariants.{Caller, Count, Day, File, FileName, Holder, Json, Max, Members, Number, Repeated, Role, TooLong}
 pub use Rattle.requests.specs.steps.HttpReading.{asked_of, import_body, import_rows, object_body, path_subject, request_by, tree_request}
-pub use Rattle.requests.specs.steps.RequestReading.{AskedTerms, RequestTerms, amend, arranged, as_file, asked_as, asked_by, asked_from, asked_in, asked_terms, asn_and_days_in, change_by, change_in, changes_in, chosen, entries_arranged, entries_in, entry_in, entry_members_in, file_in, file_list_in, file_members_in, file_of, files_arranged, files_in, grant_terms_in, import, in_order, items_of, line_subject, main_file_in, main_file_of, max_item_in, maxes_in, member_in, named_file_in, once_in_order, one_entry_in, one_max_in, repeats_name, request, request_in, request_terms, route_in, routes_in, row_in, row_of, rows_in, slurm_request, terms_in, terms_of, validity, what_if, with_item}
+pub use Rattle.requests.specs.steps.RequestReading.{AskedTerms, RequestTerms, amend, arranged, as_file, asked_as, asked_by, asked_from, asked_in, asked_terms, asn_and_days_in, change_by, change_in, changes_in, chosen, entries_arranged, entries_in, entry_in, entry_members_in, file_in, file_list_in, file_members_in, file_of, files_arranged, files_in, grant_terms_in, import, in_order, items_of, line_subject, main_file_in, main_file_of, max_item_in, maxes_in, member_in, named_file_in, once_in_order, one_entry_in, one_max_in, repeats_name, request, request_in, request_terms, route_in, routes_in, row_in, row_of_members, row_list_in, slurm_request, terms_in, terms_of, validity, what_if, with_item}

@@ -16,7 +16,7 @@ use Rattle.requests.specs.declared.action.Action.TheVariants.{Import, Slurm}
 use Rattle.csv_records.specs.Imports.{import_fault}
 use Rattle.csv_records.specs.declared.imports.ImportFault.{ImportFault}
 use Rattle.csv_records.specs.declared.imports.ImportFault.TheVariants as import_fault
-use Rattle.requests.specs.RequestFaults.{body_members, choices_of, file_faults, malformed_of, named_by, Named, HolderName, NumberGiven, object_faults_by_choice, part_faults}
+use Rattle.requests.specs.RequestFaults.{body_members, choices_of, sent_file_faults, malformed_of, named_by, Named, HolderName, NumberGiven, object_faults_by_choice, members_and_choices_faults}
 use Rattle.requests.specs.declared.malformed.Malformed.{Malformed}
 use Rattle.requests.specs.declared.request.fault.Fault.{Fault}
 use Rattle.requests.specs.declared.request.fault.Fault.TheVariants.{Json, Members, Holder, Caller, Prefix, Asn, Max, Day, Number, Count}
@@ -42,7 +42,7 @@ parsed_body_faults action (Some d) = object_faults_by_choice (body_members actio
 
 -- of a body that is to be an object; where there is none, every member that it ought to have is missing
 abbrev pub object_body_faults : Action → Option (List ℕ) → List Fault
-object_body_faults action None = part_faults (body_members action) (choices_of action) null
+object_body_faults action None = members_and_choices_faults (body_members action) (choices_of action) null
 object_body_faults action (Some bytes) = parsed_body_faults action (tree_of bytes)
 
 -- the JSON value of a body, null where there is none
@@ -65,13 +65,13 @@ fault_of_import import_fault.Day = Day
 fault_of_import import_fault.Count = Count
 
 -- of a text that is to be an import; of its own faults the lowest is reported
-abbrev pub import_faults : List ℕ → List Fault
-import_faults text = map fault_of_import (option_to_list (import_fault text))
+abbrev pub sent_import_faults : List ℕ → List Fault
+sent_import_faults text = map fault_of_import (option_to_list (import_fault text))
 
 -- a SLURM file is the whole of its body, and an import is CSV
 abbrev pub body_faults : Action → Option (List ℕ) → List Fault
-body_faults Slurm body = file_faults (json_tree body)
-body_faults Import body = import_faults (body_bytes body)
+body_faults Slurm body = sent_file_faults (json_tree body)
+body_faults Import body = sent_import_faults (body_bytes body)
 body_faults action body = object_body_faults action body
 
 abbrev pub http_faults : Head → Option (List ℕ) → List Fault

@@ -6,7 +6,7 @@ use Rattle.std.specs.List.{flat_map, list_any}
 use Rattle.std.specs.Option.{option_to_list}
 use Rattle.std.specs.Str.{bytes_eq}
 use Rattle.addr.specs.Address.{prefix_eq}
-use Rattle.charters.specs.Repeats.{has_repeat}
+use Rattle.registry.specs.Repeats.{has_repeat}
 use Rattle.registry.specs.declared.grant.Role.{Role}
 use Rattle.requests.specs.declared.request.entries.TheConstants.{MOST_ENTRIES}
 use Rattle.serde_json.specs.Data.{Data, Items}
@@ -85,8 +85,8 @@ asn d = reading_faults as_asn Asn
 abbrev pub origin : Kind
 origin d = reading_faults as_origin Asn
 
-abbrev pub max_length : Kind
-max_length d = reading_faults as_max Max
+abbrev pub max_length_text : Kind
+max_length_text d = reading_faults as_max Max
 
 abbrev pub day : Kind
 day d = reading_faults as_day Day
@@ -105,11 +105,11 @@ abbrev pub number : Kind
 number d = reading_faults as_number Number
 
 -- of what is to be a SLURM file, or is no JSON; of its own faults the lowest is reported
-abbrev pub file_faults : Option Data → List Fault
-file_faults found = map File (option_to_list (slurm_fault found))
+abbrev pub sent_file_faults : Option Data → List Fault
+sent_file_faults found = map File (option_to_list (slurm_fault found))
 
 abbrev pub file : Kind
-file d value = file_faults (Some value)
+file d value = sent_file_faults (Some value)
 
 -- `do` is judged before its request is
 abbrev pub any_value : Kind
@@ -178,8 +178,8 @@ abbrev pub choice_names : Choice → List (List ℕ)
 choice_names choice = names_of choice.0 ++ names_of choice.1
 
 -- of each of these members and each of these choices
-abbrev pub part_faults : List (List ℕ × Kind) → List Choice → Data → List Fault
-part_faults members choices d =
+abbrev pub members_and_choices_faults : List (List ℕ × Kind) → List Choice → Data → List Fault
+members_and_choices_faults members choices d =
     member_faults members d ++ flat_map (λ choice. choice_faults choice d) choices
 
 abbrev pub part_names : List (List ℕ × Kind) → List Choice → List (List ℕ)
@@ -188,13 +188,13 @@ part_names members choices = names_of members ++ flat_map choice_names choices
 -- of what is to be an object with all of these and with no other member
 abbrev pub object_faults_by_choice : List (List ℕ × Kind) → List Choice → Data → List Fault
 object_faults_by_choice members choices d =
-    part_faults members choices d ++ name_faults Members (part_names members choices) d
+    members_and_choices_faults members choices d ++ name_faults Members (part_names members choices) d
 
 -- ---- entries and their maxLengths
 
 -- an entry is a prefix with its maxLength
 abbrev pub entry_members : List (List ℕ × Kind)
-entry_members = (codes "prefix", prefix) ∷ (codes "max", max_length) ∷ []
+entry_members = (codes "prefix", prefix) ∷ (codes "max", max_length_text) ∷ []
 
 abbrev pub entry_list : Kind
 entry_list d value =
@@ -210,7 +210,7 @@ max_lengths d value = list_faults (reading_faults as_max Max) 1 MOST_ENTRIES (as
 
 -- of an amendment: one maxLength, or a list
 abbrev pub max_choice : Choice
-max_choice = ((codes "max", max_length) ∷ [], (codes "maxes", max_lengths) ∷ [])
+max_choice = ((codes "max", max_length_text) ∷ [], (codes "maxes", max_lengths) ∷ [])
 
 -- ---- SLURM files and their names
 
@@ -338,42 +338,42 @@ json_form names members method at = record {
 abbrev with_choice : Choice → RequestForm → RequestForm
 with_choice choice form = record form { choices = choice ∷ [] }
 
-abbrev names_nothing : List (List ℕ × Kind) → Method → Path → RequestForm
-names_nothing = json_form []
+abbrev plain_form : List (List ℕ × Kind) → Method → Path → RequestForm
+plain_form = json_form []
 
-abbrev names_holder : List (List ℕ × Kind) → Method → Path → RequestForm
-names_holder = json_form (HolderName ∷ [])
+abbrev holder_form : List (List ℕ × Kind) → Method → Path → RequestForm
+holder_form = json_form (HolderName ∷ [])
 
-abbrev names_number : List (List ℕ × Kind) → Method → Path → RequestForm
-names_number = json_form (HolderName ∷ NumberGiven ∷ [])
+abbrev number_form : List (List ℕ × Kind) → Method → Path → RequestForm
+number_form = json_form (HolderName ∷ NumberGiven ∷ [])
 
 -- the table of requests
 abbrev pub form_of : Action → RequestForm
-form_of Register = names_holder [] Put path.Holder
-form_of Delegate = names_holder ((codes "prefix", prefix) ∷ []) Post path.Delegations
-form_of Reclaim = names_holder ((codes "prefix", prefix) ∷ []) Post path.Reclaims
+form_of Register = holder_form [] Put path.Holder
+form_of Delegate = holder_form ((codes "prefix", prefix) ∷ []) Post path.Delegations
+form_of Reclaim = holder_form ((codes "prefix", prefix) ∷ []) Post path.Reclaims
 form_of Transfer =
-    names_nothing ((codes "prefix", prefix) ∷ (codes "giver", holder_name) ∷ (codes "taker", holder_name) ∷ [])
+    plain_form ((codes "prefix", prefix) ∷ (codes "giver", holder_name) ∷ (codes "taker", holder_name) ∷ [])
     Post path.Transfers
 form_of Grant =
-    names_holder
+    holder_form
     ((codes "name", caller_name) ∷ (codes "role", role) ∷ (codes "scope", scope) ∷ (codes "until", day) ∷ [])
     Post path.Grants
-form_of Revoke = names_number [] Delete path.Grant
-form_of ListAction = names_holder [] Get path.Auths
-form_of Create = with_choice entry_choice (names_holder terms_members Post path.Auths)
-form_of Show = names_number [] Get path.Auth
-form_of Amend = with_choice max_choice (names_number ((codes "until", day) ∷ []) Patch path.Auth)
-form_of Withdraw = names_number [] Delete path.Auth
-form_of Content = names_number [] Get path.Content
+form_of Revoke = number_form [] Delete path.Grant
+form_of ListAction = holder_form [] Get path.Auths
+form_of Create = with_choice entry_choice (holder_form terms_members Post path.Auths)
+form_of Show = number_form [] Get path.Auth
+form_of Amend = with_choice max_choice (number_form ((codes "until", day) ∷ []) Patch path.Auth)
+form_of Withdraw = number_form [] Delete path.Auth
+form_of Content = number_form [] Get path.Content
 form_of Export =
-    record (names_holder [] Get path.Export) { list_form = Csv }
-form_of Import = names_holder ((codes "rows", rows) ∷ []) Post path.Imports
-form_of WhatIf = names_holder ((codes "changes", changes) ∷ (codes "routes", routes) ∷ []) Post path.WhatIf
-form_of Slurm = with_choice file_choice (names_nothing [] Put path.Slurm)
-form_of Slurms = names_nothing ((codes "files", file_list) ∷ []) Put path.Slurms
-form_of Payloads = names_nothing [] Get path.Payloads
-form_of Validity = names_nothing ((codes "routes", routes) ∷ []) Post path.Validity
+    record (holder_form [] Get path.Export) { list_form = Csv }
+form_of Import = holder_form ((codes "rows", rows) ∷ []) Post path.Imports
+form_of WhatIf = holder_form ((codes "changes", changes) ∷ (codes "routes", routes) ∷ []) Post path.WhatIf
+form_of Slurm = with_choice file_choice (plain_form [] Put path.Slurm)
+form_of Slurms = plain_form ((codes "files", file_list) ∷ []) Put path.Slurms
+form_of Payloads = plain_form [] Get path.Payloads
+form_of Validity = plain_form ((codes "routes", routes) ∷ []) Post path.Validity
 
 abbrev pub named_by : Action → List Named
 named_by action = (form_of action).names

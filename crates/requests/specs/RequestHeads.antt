@@ -24,13 +24,13 @@ pub record Head : Type 0 where
   pub body_length : Option ℕ
 
 -- the one value, where no more than one was found
-abbrev pub only_of : Option (Option (List ℕ)) → Option (List ℕ)
-only_of None = None
-only_of (Some value) = value
+abbrev pub single_value : Option (Option (List ℕ)) → Option (List ℕ)
+single_value None = None
+single_value (Some value) = value
 
 -- the value of the one field Desk-Caller
 abbrev pub caller_field : Fields → Option (List ℕ)
-caller_field fields = only_of (only_value (values_of (codes "desk-caller") fields))
+caller_field fields = single_value (only_value (values_of (codes "desk-caller") fields))
 
 -- an action with the length of its body
 abbrev pub head_with : Action → List ℕ → Fields → Result (Option ℕ) HttpRefusal → Result Head HttpRefusal

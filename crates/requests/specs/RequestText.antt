@@ -5,7 +5,7 @@ use Rattle.addr.specs.declared.prefix.Prefix.{Prefix}
 use Rattle.addr.specs.declared.route.Route.{Route}
 use Rattle.registry.specs.declared.authorization.AuthTerms.{AuthTerms}
 use Rattle.registry.specs.declared.authorization.ImportRow.{ImportRow}
-use Rattle.registry.specs.declared.authorization.RoaPrefix.{RoaPrefix}
+use Rattle.addr.specs.declared.roa_prefix.RoaPrefix.{RoaPrefix}
 use Rattle.registry.specs.RoaPrefixes.{Rise}
 use Rattle.registry.specs.declared.command.Command.{Command}
 use Rattle.registry.specs.declared.command.Command.TheVariants.{Register, Delegate, Transfer, Reclaim, Grant, Revoke, Create, Amend, Withdraw, Import, Slurm}
@@ -67,8 +67,8 @@ abbrev pub HasEntry : Data → RoaPrefix → Type 0
 HasEntry d entry = HasPrefix d entry.prefix × HasMax d entry.max
 
 -- the members of one entry
-abbrev pub HasOneEntry : Data → List RoaPrefix → Type 0
-HasOneEntry d entries = (entry : RoaPrefix) × HasEntry d entry × (entries ≡ entry ∷ [])
+abbrev pub HasEntryMembers : Data → List RoaPrefix → Type 0
+HasEntryMembers d entries = (entry : RoaPrefix) × HasEntry d entry × (entries ≡ entry ∷ [])
 
 -- a list of these entries, in any order
 abbrev pub HasEntryList : Option Data → List RoaPrefix → Type 0
@@ -77,7 +77,7 @@ HasEntryList member entries = (listed : List RoaPrefix)
 
 -- the entries of a create: one, or a list
 abbrev pub HasEntries : Data → List RoaPrefix → Type 0
-HasEntries d entries = HasOneEntry d entries ⊎ HasEntryList (get (codes "entries") d) entries
+HasEntries d entries = HasEntryMembers d entries ⊎ HasEntryList (get (codes "entries") d) entries
 
 -- the member of one maxLength
 abbrev pub HasOneMax : Data → List ℕ → Type 0

@@ -11,7 +11,8 @@ use Rattle.addr.specs.declared.family.Family.{Family}
 use Rattle.addr.specs.declared.family.Family.TheVariants.{V4, V6}
 use Rattle.roa.specs.RoaContent.{family_octets}
 use Rattle.roa.specs.ContentOctets.{be_octets, integer_len, integer, element, sequence, octet_string}
-use Rattle.roa.specs.steps.Reading.{Numbers, ◌>>=◌, element_at, whole, integer_of, entries_of, block_at, entries_after, family_at, blocks_of, fields_of, content_of}
+use Rattle.addr.specs.PrefixText.{◌>>=◌}
+use Rattle.roa.specs.steps.Reading.{Numbers, element_at, whole, integer_of, entries_in_octets, block_at, entries_after, family_at, blocks_of, fields_of, content_of}
 use Rattle.roa.specs.RoaContent.{AreOctets}
 use Rattle.roa.proofs.Octets.{length-be_octets}
 use Rattle.roa.proofs.Elements.{Takes, element_again, element_only, whole_again, whole_only}
@@ -128,7 +129,7 @@ block_of_entries family (n ∷ ns) some = refl
 after_only : (room : ℕ) (family : Family) (bytes : List ℕ) (block : Option (List ℕ × List ℕ)) (p : List Numbers × List ℕ) → AreOctets bytes → block_at family bytes ≡ block → entries_after room family bytes block ≡ Some p → TakesFamily room family bytes p
 after_only room family bytes None p are found e = subst (λ (q : List Numbers × List ℕ). TakesFamily room family bytes q) (same_Some ([], bytes) p e) (record { parts = refl; rest_octets = are }, tt, omega arith)
 after_only room family bytes (Some b) p are found e =
-    option_and_then_some (λ (entries : List Numbers). Some (entries, b.1)) (entries_of room family b.0) p e (λ ns found2 e1.
+    option_and_then_some (λ (entries : List Numbers). Some (entries, b.1)) (entries_in_octets room family b.0) p e (λ ns found2 e1.
     let t = block_only family bytes b are found in
     let o = entries_only room family b.0 ns t.1 found2 in
     let some : length (flat_map numbers_octets ns) ≡ 0 → ⊥ = λ z. t.2 (ap length o.0 ∙ z) in

@@ -11,7 +11,7 @@ use Rattle.addr.specs.declared.asn.Asn.{Asn}
 use Rattle.addr.specs.declared.family.Family.{Family}
 use Rattle.addr.specs.declared.family.Family.TheVariants.{V4, V6}
 use Rattle.addr.proofs.AddressLemmas.{first_below}
-use Rattle.roa.specs.declared.content.Entry.{Entry}
+use Rattle.addr.specs.declared.roa_prefix.RoaPrefix.{RoaPrefix as Entry}
 use Rattle.roa.specs.RoaContent.{RouteOriginAttestation, IsContent, AreCanonical, Rises, entry_order, is_in_range, family_octets, of_family}
 use Rattle.roa.specs.ContentOctets.{AreOctetsOf, integer, sequence, octet_string, entry_octets, roa_ip_address_family, content_octets}
 use Rattle.roa.specs.steps.Reading.{Numbers, numbers, element_at, content_of}

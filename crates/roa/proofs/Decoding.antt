@@ -3,7 +3,7 @@ use Rattle.std.proofs.Common.{◌≡◌, ℕ, List, map, Option, Some, None, ref
 use Rattle.std.specs.Prelude.{Err, IfSome, IfNone, IfOk, MatchResult}
 use Rattle.std.specs.Option.{ok_or}
 use Rattle.addr.specs.declared.asn.Asn.{Asn}
-use Rattle.roa.specs.declared.content.Entry.{Entry}
+use Rattle.addr.specs.declared.roa_prefix.RoaPrefix.{RoaPrefix as Entry}
 use Rattle.roa.specs.declared.fault.DecodeFault.{DecodeFault}
 use Rattle.roa.specs.declared.fault.DecodeFault.TheVariants.{NotContent, Memory}
 use Rattle.roa.specs.RoaContent.{RouteOriginAttestation, IsContent, AreCanonical, Encodes}

@@ -10,7 +10,8 @@ use Rattle.addr.specs.Address.{IsPrefix}
 use Rattle.addr.specs.declared.family.Family.{Family}
 use Rattle.addr.proofs.AddressLemmas.{width_small}
 use Rattle.roa.specs.ContentOctets.{be_octets, integer_len, integer, element, bit_string, max_length, roa_ip_address}
-use Rattle.roa.specs.steps.Reading.{Numbers, ◌>>=◌, element_at, whole, integer_of, prefix_of, max_of, entry_of, entry_at, entries_of}
+use Rattle.addr.specs.PrefixText.{◌>>=◌}
+use Rattle.roa.specs.steps.Reading.{Numbers, element_at, whole, integer_of, prefix_of, max_of, entry_of, entry_at, entries_in_octets}
 use Rattle.roa.specs.RoaContent.{AreOctets}
 use Rattle.roa.proofs.Octets.{length-be_octets}
 use Rattle.roa.proofs.Elements.{Takes, element_again, element_only, whole_again, whole_only}
@@ -124,8 +125,8 @@ length-entries family (n ∷ ns) all =
 entry_some : (n : Numbers) (rest : List ℕ) → length (numbers_octets n ++ rest) ≡ 0 → ⊥
 entry_some n rest e = omega (arith, e)
 
-pub entries_again : (room : ℕ) (family : Family) (ns : List Numbers) → length ns ≤ room → AllByRecursion (IsEntry family) ns → entries_of room family (flat_map numbers_octets ns) ≡ Some ns
-unfolding entries_of
+pub entries_again : (room : ℕ) (family : Family) (ns : List Numbers) → length ns ≤ room → AllByRecursion (IsEntry family) ns → entries_in_octets room family (flat_map numbers_octets ns) ≡ Some ns
+unfolding entries_in_octets
 entries_again zero family [] h all = refl
 entries_again (suc room) family [] h all = refl
 entries_again zero family (n ∷ ns) h all = absurd (omega (arith, h))
@@ -133,8 +134,8 @@ entries_again (suc room) family (n ∷ ns) h all =
     let some : eqb (length (numbers_octets n ++ flat_map numbers_octets ns)) 0 ≡ false = ne_eqb _ 0 (entry_some n (flat_map numbers_octets ns)) in
     rw (flat_map-cons numbers_octets n ns, some, entry_again family n (flat_map numbers_octets ns) all.0, entries_again room family ns (omega (arith, h)) all.1) refl
 
-pub entries_only : (room : ℕ) (family : Family) (bytes : List ℕ) (ns : List Numbers) → AreOctets bytes → entries_of room family bytes ≡ Some ns → (bytes ≡ flat_map numbers_octets ns) × AllByRecursion (IsEntry family) ns × (length ns ≤ room)
-unfolding entries_of
+pub entries_only : (room : ℕ) (family : Family) (bytes : List ℕ) (ns : List Numbers) → AreOctets bytes → entries_in_octets room family bytes ≡ Some ns → (bytes ≡ flat_map numbers_octets ns) × AllByRecursion (IsEntry family) ns × (length ns ≤ room)
+unfolding entries_in_octets
 entries_only zero family bytes ns are e =
     elim (cases_eq (length bytes) 0) [
       | inl none ↦
@@ -149,8 +150,8 @@ entries_only (suc room) family bytes ns are e =
           subst (λ (ms : List Numbers). (bytes ≡ flat_map numbers_octets ms) × AllByRecursion (IsEntry family) ms × (length ms ≤ suc room)) (same_Some [] ns e') (nil_from_length bytes none, tt, omega arith)
       | inr some ↦
           let e' = rw (ne_eqb (length bytes) 0 some) at e in
-          option_and_then_some (λ (entry : Numbers × List ℕ). entries_of room family entry.1 >>= λ others. Some (entry.0 ∷ others)) (entry_at family bytes) ns e' (λ entry found e1.
-          option_and_then_some (λ (others : List Numbers). Some (entry.0 ∷ others)) (entries_of room family entry.1) ns e1 (λ others found_others e2.
+          option_and_then_some (λ (entry : Numbers × List ℕ). entries_in_octets room family entry.1 >>= λ others. Some (entry.0 ∷ others)) (entry_at family bytes) ns e' (λ entry found e1.
+          option_and_then_some (λ (others : List Numbers). Some (entry.0 ∷ others)) (entries_in_octets room family entry.1) ns e1 (λ others found_others e2.
           let t = entry_only family bytes entry are found in
           let o = entries_only room family entry.1 others t.0.rest_octets found_others in
           let parts : bytes ≡ flat_map numbers_octets (entry.0 ∷ others) = t.0.parts ∙ ap (λ (r : List ℕ). numbers_octets entry.0 ++ r) o.0 ∙ sym (flat_map-cons numbers_octets entry.0 others) in

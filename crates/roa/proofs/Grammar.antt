@@ -9,7 +9,7 @@ use Rattle.addr.specs.Address.{IsPrefix}
 use Rattle.addr.specs.declared.family.Family.{Family}
 use Rattle.addr.specs.declared.family.Family.TheVariants.{V4, V6}
 use Rattle.addr.proofs.AddressLemmas.{width_small}
-use Rattle.roa.specs.declared.content.Entry.{Entry}
+use Rattle.addr.specs.declared.roa_prefix.RoaPrefix.{RoaPrefix as Entry}
 use Rattle.roa.specs.RoaContent.{RouteOriginAttestation, IsContent, is_in_range, be_value, IsElement, IsInteger, AreFirstBits, IsBitString, IsMaxLength, IsRoaIpAddress, AreRoaIpAddresses, family_octets, IsBlock, of_family, Encodes}
 use Rattle.roa.specs.ContentOctets.{be_octets, length_octets, element, sequence, integer_len, integer, octet_string, bit_octets, bit_string, max_length, entry_octets, roa_ip_address_family, content_octets, AreOctetsOf}
 use Rattle.roa.proofs.Octets.{length-be_octets, be_octets-be_value, be_value-be_octets, AreOctets-be_octets}

@@ -2,7 +2,7 @@
 use Rattle.std.proofs.Common.{◌≡◌, ℕ, ap, ◌∙◌}
 use Rattle.addr.specs.Address.{same_prefix}
 use Rattle.addr.specs.declared.prefix.Prefix.{Prefix}
-use Rattle.roa.specs.declared.content.Entry.{Entry}
+use Rattle.addr.specs.declared.roa_prefix.RoaPrefix.{RoaPrefix as Entry}
 use Rattle.roa.specs.steps.Reading.{Numbers, numbers}
 
 abbrev entry_made : Prefix → ℕ → Entry

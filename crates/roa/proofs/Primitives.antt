@@ -13,7 +13,7 @@ use Rattle.addr.specs.declared.family.Family.TheVariants.{V4, V6}
 use Rattle.addr.proofs.AddressLemmas.{below_widest, multiple-at_most}
 use Rattle.roa.specs.ContentOctets.{be_octets, integer_len, bit_octets, length_octets, bit_string}
 use Rattle.roa.specs.RoaContent.{be_value}
-use Rattle.roa.specs.steps.Reading.{integer_of, prefix_of, Gives}
+use Rattle.roa.specs.steps.Reading.{integer_of, prefix_of, ReadsAs}
 use Rattle.roa.specs.RoaContent.{AreOctets}
 use Rattle.roa.proofs.Octets.{length-be_octets, be_value-be_octets, be_value_below, be_octets-be_value}
 
@@ -181,7 +181,7 @@ prefix_only family (unused ∷ bs) p octets e =
 -- what a prefix made of the parts is, or that there is none
 pub prefix_made : (family : Family) (unused : ℕ) (bs : List ℕ) (first bits : ℕ) (r : Option Prefix) → AreOctets bs → unused ≤ 7 → length bs ≤ width family / 8 → unused ≤ 8 * length bs
     → first ≡ first_of family bs → bits ≡ 8 * length bs - unused → (IsSome r ↔ IsPrefix family first bits) → IfSome r (λ p. (p.family ≡ family) × (p.first ≡ first) × (p.length ≡ bits))
-    → Gives (λ p. (p.first, p.length)) r (prefix_of family (unused ∷ bs))
+    → ReadsAs (λ p. (p.first, p.length)) r (prefix_of family (unused ∷ bs))
 unfolding prefix_of
 prefix_made family unused bs first bits (Some p) are few narrow long first_is bits_is some parts =
     let is : IsPrefix family first bits = some.0 refl in

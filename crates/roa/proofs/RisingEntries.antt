@@ -11,7 +11,7 @@ use Rattle.std.proofs.lemmas.List.Sums.{sum_by-cons}
 use Rattle.addr.proofs.Equality.{equal_prefix}
 use Rattle.addr.specs.Address.{prefix_eq}
 use Rattle.roa.specs.RoaContent.{Rises, entry_eq, entry_order}
-use Rattle.roa.specs.declared.content.Entry.{Entry}
+use Rattle.addr.specs.declared.roa_prefix.RoaPrefix.{RoaPrefix as Entry}
 use Rattle.roa.proofs.Order.{entry_order_total}
 
 not_before_itself : (a : Entry) → entry_order a a ≡ Less → ⊥

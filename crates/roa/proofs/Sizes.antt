@@ -6,7 +6,7 @@ use Rattle.std.proofs.lemmas.List.{length-append}
 use Rattle.std.proofs.lemmas.List.Filters.{length-filter_both}
 use Rattle.std.proofs.lemmas.List.Concat.{flat_map-cons}
 use Rattle.addr.specs.Family.{width, family_eq}
-use Rattle.roa.specs.declared.content.Entry.{Entry}
+use Rattle.addr.specs.declared.roa_prefix.RoaPrefix.{RoaPrefix as Entry}
 use Rattle.addr.specs.declared.family.Family.{Family}
 use Rattle.addr.specs.declared.family.Family.TheVariants.{V4, V6}
 use Rattle.roa.specs.RoaContent.{family_octets, of_family}

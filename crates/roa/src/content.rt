@@ -3,20 +3,9 @@ ghost use Rattle.std.specs.Prelude.{◌≡◌, ◌<◌, ◌≤◌, ◌↔◌, tr
 ghost use Rattle.std.specs.List.{list_all};
 ghost use Rattle.roa.specs.declared.content.TheConstants.Content.{MAX_ENTRIES};
 
-use addr::{Asn, Prefix};
+use addr::{Asn, RoaPrefix as Entry};
 use std::marker::Model;
 use thiserror::Error;
-
-/// A prefix and its maxLength, the length of the longest prefixes in it that are authorized too
-/// (RFC 9582 section 4.3.2).
-///
-/// Entries rise by family, first address, prefix length and maxLength.
-#[derive(Clone, Copy, Debug, PartialEq, Eq, PartialOrd, Ord)]
-pub struct Entry {
-    pub prefix: Prefix,
-    /// The maxLength.
-    pub max: u8,
-}
 
 /// Why a list of entries is no content. If several faults apply, the lowest one counts.
 #[derive(Clone, Copy, Debug, PartialEq, Eq, Error)]

@@ -8,7 +8,9 @@ pub mod laws;
 mod reading;
 mod writing;
 
-pub use content::{Content, ContentFault, Entry};
+/// An entry of a content. Entries rise by family, first address, prefix length and maxLength.
+pub use addr::RoaPrefix as Entry;
+pub use content::{Content, ContentFault};
 pub use fault::DecodeFault;
 pub use reading::decode;
 pub use writing::encode;

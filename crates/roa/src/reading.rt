@@ -1,7 +1,7 @@
 //! Decoding a content.
 ghost use Rattle.std.specs.Prelude.{◌≡◌, ◌<◌, ◌≤◌, ◌*◌, ◌-◌, ◌^◌, length, map, IfSome, IfOk, MatchResult};
 ghost use Rattle.addr.specs.Family.{width};
-ghost use Rattle.roa.specs.steps.Reading.{Gives, length_at, contents_at, element_at, whole, integer_of, prefix_of, max_of, entry_of, entry_at, entries_of, block_at, family_at, blocks_of, fields_of, content_of, numbers, Adds, AddsThen, IsReadAs};
+ghost use Rattle.roa.specs.steps.Reading.{ReadsAs, length_at, contents_at, element_at, whole, integer_of, prefix_of, max_of, entry_of, entry_at, entries_in_octets, block_at, family_at, blocks_of, fields_of, content_of, numbers, Adds, AddsThen, IsReadAs};
 ghost use Rattle.roa.specs.RoaContent.{RouteOriginAttestation, IsContent, Encodes, be_value};
 ghost use Rattle.roa.specs.declared.content.TheConstants.Content.{MAX_ENTRIES};
 
@@ -16,7 +16,7 @@ use std::alloc::Global;
 /// A length, and the octets after it.
 #[tactic(auto, unfolding(crate::specs::steps::Reading::length_at, crate::specs::steps::Reading::one_octet_at, crate::specs::steps::Reading::two_octets_at))]
 fn read_length(octets: &[u8]) -> Option<(usize, &[u8])>
-    ensures { Gives (λ x. (x.0, x.1.now)) result (length_at octets.now) }
+    ensures { ReadsAs (λ x. (x.0, x.1.now)) result (length_at octets.now) }
 {
     match octets {
         [short, rest @ ..] if *short < 0x80 => Some((usize::from(*short), rest)),
@@ -31,7 +31,7 @@ fn read_length(octets: &[u8]) -> Option<(usize, &[u8])>
 /// The contents of an element after its tag, and the octets after it.
 #[tactic(auto, unfolding(crate::specs::steps::Reading::contents_at))]
 fn read_contents(octets: &[u8]) -> Option<(&[u8], &[u8])>
-    ensures { Gives (λ x. (x.0.now, x.1.now)) result (contents_at octets.now) }
+    ensures { ReadsAs (λ x. (x.0.now, x.1.now)) result (contents_at octets.now) }
 {
     let (len, rest) = read_length(octets)?;
     if rest.len() < len {
@@ -43,7 +43,7 @@ fn read_contents(octets: &[u8]) -> Option<(&[u8], &[u8])>
 /// The contents of an element with the tag, and the octets after it.
 #[tactic(auto, unfolding(crate::specs::steps::Reading::element_at))]
 fn read_element(tag: u8, octets: &[u8]) -> Option<(&[u8], &[u8])>
-    ensures { Gives (λ x. (x.0.now, x.1.now)) result (element_at tag octets.now) }
+    ensures { ReadsAs (λ x. (x.0.now, x.1.now)) result (element_at tag octets.now) }
 {
     match octets {
         [first, rest @ ..] if *first == tag => read_contents(rest),
@@ -54,7 +54,7 @@ fn read_element(tag: u8, octets: &[u8]) -> Option<(&[u8], &[u8])>
 /// The contents of an element with the tag that is all of the octets.
 #[tactic(auto, unfolding(crate::specs::steps::Reading::whole))]
 fn read_whole(tag: u8, octets: &[u8]) -> Option<&[u8]>
-    ensures { Gives (λ x. x.now) result (whole tag octets.now) }
+    ensures { ReadsAs (λ x. x.now) result (whole tag octets.now) }
 {
     let (contents, rest) = read_element(tag, octets)?;
     if !rest.is_empty() {
@@ -78,7 +78,7 @@ fn number_of(octets: &[u8]) -> u128
 /// The number of an INTEGER, by its contents; `None` if it has more than 32 bits.
 #[tactic(auto, unfolding(crate::specs::steps::Reading::integer_of))]
 fn read_integer(contents: &[u8]) -> Option<u32>
-    ensures { Gives (λ n. n) result (integer_of contents.now) }
+    ensures { ReadsAs (λ n. n) result (integer_of contents.now) }
 {
     if contents.len() > 5 {
         return None;
@@ -104,7 +104,7 @@ fn first_address(family: Family, octets: &[u8]) -> u128
 /// The prefix of a BIT STRING, by its contents.
 #[tactic(auto, unfolding(crate::specs::steps::Reading::prefix_of))]
 fn read_prefix(family: Family, contents: &[u8]) -> Option<Prefix>
-    ensures numbers { Gives (λ p. (p.first, p.length)) result (prefix_of family contents.now) }
+    ensures numbers { ReadsAs (λ p. (p.first, p.length)) result (prefix_of family contents.now) }
     ensures family { IfSome result (λ p. p.family ≡ family) }
 {
     let (unused, octets) = contents.split_first()?;
@@ -122,7 +122,7 @@ fn read_prefix(family: Family, contents: &[u8]) -> Option<Prefix>
 /// The maxLength, by the octets after the BIT STRING of the prefix.
 #[tactic(auto, unfolding(crate::specs::steps::Reading::max_of))]
 fn read_max(prefix: &Prefix, octets: &[u8]) -> Option<u8>
-    ensures { Gives (λ n. n) result (max_of prefix.now.family prefix.now.length octets.now) }
+    ensures { ReadsAs (λ n. n) result (max_of prefix.now.family prefix.now.length octets.now) }
 {
     if octets.is_empty() {
         return Some(prefix.length);
@@ -137,7 +137,7 @@ fn read_max(prefix: &Prefix, octets: &[u8]) -> Option<u8>
 /// An entry, by the contents of its SEQUENCE.
 #[tactic(auto, unfolding(crate::specs::steps::Reading::entry_of))]
 fn read_entry(family: Family, contents: &[u8]) -> Option<Entry>
-    ensures { Gives numbers result (entry_of family contents.now) }
+    ensures { ReadsAs numbers result (entry_of family contents.now) }
 {
     let (bits, rest) = read_element(BIT_STRING, contents)?;
     let prefix = read_prefix(family, bits)?;
@@ -148,7 +148,7 @@ fn read_entry(family: Family, contents: &[u8]) -> Option<Entry>
 /// An entry, and the octets after it.
 #[tactic(auto, unfolding(crate::specs::steps::Reading::entry_at))]
 fn take_entry(family: Family, octets: &[u8]) -> Option<(Entry, &[u8])>
-    ensures { Gives (λ x. (numbers x.0, x.1.now)) result (entry_at family octets.now) }
+    ensures { ReadsAs (λ x. (numbers x.0, x.1.now)) result (entry_at family octets.now) }
 {
     let (contents, rest) = read_element(SEQUENCE, octets)?;
     let entry = read_entry(family, contents)?;
@@ -159,7 +159,7 @@ fn take_entry(family: Family, octets: &[u8]) -> Option<(Entry, &[u8])>
 fn read_entries(family: Family, octets: &[u8], entries: &mut Vec<Entry>) -> Result<(), DecodeFault>
     requires { length entries.old.items ≤ MAX_ENTRIES }
     ensures adds { Adds result entries.old.items entries.new.items
-        (entries_of (MAX_ENTRIES - length entries.old.items) family octets.now) }
+        (entries_in_octets (MAX_ENTRIES - length entries.old.items) family octets.now) }
     ensures few { length entries.new.items ≤ MAX_ENTRIES }
 {
     let mut rest = octets;
@@ -177,7 +177,7 @@ fn read_entries(family: Family, octets: &[u8], entries: &mut Vec<Entry>) -> Resu
 /// The addresses of a block of the family, and the octets after the block.
 #[tactic(auto, unfolding(crate::specs::steps::Reading::block_at))]
 fn take_block(family: Family, octets: &[u8]) -> Option<(&[u8], &[u8])>
-    ensures { Gives (λ x. (x.0.now, x.1.now)) result (block_at family octets.now) }
+    ensures { ReadsAs (λ x. (x.0.now, x.1.now)) result (block_at family octets.now) }
 {
     let (block, rest) = read_element(SEQUENCE, octets)?;
     let (address_family, addresses) = read_element(OCTET_STRING, block)?;
@@ -229,7 +229,7 @@ fn read_blocks(alloc: Global, octets: &[u8]) -> Result<Vec<Entry>, DecodeFault>
 /// The AS number, and the octets of the blocks.
 #[tactic(auto, unfolding(crate::specs::steps::Reading::fields_of))]
 fn read_fields(octets: &[u8]) -> Option<(u32, &[u8])>
-    ensures { Gives (λ x. (x.0, x.1.now)) result (fields_of octets.now) }
+    ensures { ReadsAs (λ x. (x.0, x.1.now)) result (fields_of octets.now) }
 {
     let fields = read_whole(SEQUENCE, octets)?;
     let (number, rest) = read_element(INTEGER, fields)?;

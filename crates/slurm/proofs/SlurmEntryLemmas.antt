@@ -19,7 +19,8 @@ use Rattle.slurm.specs.Exceptions.{Exceptions, exceptions_of}
 use Rattle.slurm.specs.Fault.{slurm_fault_number}
 use Rattle.slurm.specs.SlurmEntries.{IsPrefixMember, IsAsnMember, IsFilterOf, SaysFilter, IsMaxLengthMember, SaysAssertion, SaysExceptions}
 use Rattle.slurm.specs.SlurmFaults.{array_at, assertions_at, filters_at, items_at}
-use Rattle.slurm.specs.steps.SlurmFile.{prefix_in, asn_in, length_in, filter_of, filter_in, vrp_if, max_length, assertion_of, assertion_in, entries_from, bgpsec_from, part_in, filters_in, assertions_in, lists_in, slurm_in}
+use Rattle.addr.specs.VrpParts.{vrp_if}
+use Rattle.slurm.specs.steps.SlurmFile.{prefix_or_fault, asn_or_fault, length_in, filter_of, filter_in, max_or_length, assertion_of, assertion_in, entries_from, bgpsec_from, part_in, filters_in, assertions_in, lists_in, slurm_in}
 use Rattle.slurm.specs.declared.exceptions.TheConstants.{MOST_ENTRIES}
 use Rattle.slurm.specs.declared.fault.SlurmFault.{SlurmFault}
 use Rattle.slurm.specs.declared.fault.SlurmFault.TheVariants.{Members, Prefix as PrefixFault, Asn as AsnFault, MaxPrefixLength, TooMany}
@@ -55,7 +56,7 @@ each-said {A} reading Says said (d ∷ ds) xs e = more (reading d) (each slurm_f
 
 -- ---- members
 
-prefix-said : (d : Data) (p : Prefix) → prefix_in d ≡ Ok p → IsPrefixMember (Some d) p
+prefix-said : (d : Data) (p : Prefix) → prefix_or_fault d ≡ Ok p → IsPrefixMember (Some d) p
 prefix-said null p e = cc
 prefix-said (boolean b) p e = cc
 prefix-said (number n) p e = cc
@@ -80,7 +81,7 @@ as_asn-said (string s) asn e = cc
 as_asn-said (array ds) asn e = cc
 as_asn-said (object ms) asn e = cc
 
-asn-said : (d : Data) (asn : Asn) → asn_in d ≡ Ok asn → IsAsnMember (Some d) asn
+asn-said : (d : Data) (asn : Asn) → asn_or_fault d ≡ Ok asn → IsAsnMember (Some d) asn
 asn-said d asn e = as_asn-said d asn (ok_or-Ok (as_asn d) AsnFault asn e)
 
 length-said : (d : Data) (max : LengthRead) → length_in d ≡ Ok max → d ≡ number (unsigned max.0)
@@ -95,21 +96,21 @@ length-said (object ms) max e = cc
 
 -- ---- filters
 
-filter_of-said : (prefix asn : Option Data) (f : Filter) → and_then filter_of (both slurm_fault_number (optional prefix_in prefix) (optional asn_in asn)) ≡ Ok f → IsFilterOf prefix asn f
+filter_of-said : (prefix asn : Option Data) (f : Filter) → and_then filter_of (both slurm_fault_number (optional prefix_or_fault prefix) (optional asn_or_fault asn)) ≡ Ok f → IsFilterOf prefix asn f
 filter_of-said None None f e = cc
-filter_of-said (Some d) None f e = here (prefix_in d) refl e
+filter_of-said (Some d) None f e = here (prefix_or_fault d) refl e
   where
-    here : (r : Result Prefix SlurmFault) → prefix_in d ≡ r → and_then filter_of (both slurm_fault_number (mapped Some r) (Ok None)) ≡ Ok f → IsFilterOf (Some d) None f
+    here : (r : Result Prefix SlurmFault) → prefix_or_fault d ≡ r → and_then filter_of (both slurm_fault_number (mapped Some r) (Ok None)) ≡ Ok f → IsFilterOf (Some d) None f
     here (Ok p) read e = let same : Under p ≡ f = cc in subst (IsFilterOf (Some d) None) same (prefix-said d p read, refl)
     here (Err n) read e = cc
-filter_of-said None (Some d) f e = here (asn_in d) refl e
+filter_of-said None (Some d) f e = here (asn_or_fault d) refl e
   where
-    here : (r : Result Asn SlurmFault) → asn_in d ≡ r → and_then filter_of (both slurm_fault_number (Ok None) (mapped Some r)) ≡ Ok f → IsFilterOf None (Some d) f
+    here : (r : Result Asn SlurmFault) → asn_or_fault d ≡ r → and_then filter_of (both slurm_fault_number (Ok None) (mapped Some r)) ≡ Ok f → IsFilterOf None (Some d) f
     here (Ok asn) read e = let same : By asn ≡ f = cc in subst (IsFilterOf None (Some d)) same (refl, asn-said d asn read)
     here (Err n) read e = cc
-filter_of-said (Some d) (Some c) f e = here (prefix_in d) (asn_in c) refl refl e
+filter_of-said (Some d) (Some c) f e = here (prefix_or_fault d) (asn_or_fault c) refl refl e
   where
-    here : (r : Result Prefix SlurmFault) (s : Result Asn SlurmFault) → prefix_in d ≡ r → asn_in c ≡ s → and_then filter_of (both slurm_fault_number (mapped Some r) (mapped Some s)) ≡ Ok f → IsFilterOf (Some d) (Some c) f
+    here : (r : Result Prefix SlurmFault) (s : Result Asn SlurmFault) → prefix_or_fault d ≡ r → asn_or_fault c ≡ s → and_then filter_of (both slurm_fault_number (mapped Some r) (mapped Some s)) ≡ Ok f → IsFilterOf (Some d) (Some c) f
     here (Ok p) (Ok asn) read also e = let same : Both p asn ≡ f = cc in subst (IsFilterOf (Some d) (Some c)) same (prefix-said d p read, asn-said c asn also)
     here (Ok p) (Err n) read also e = cc
     here (Err m) (Ok asn) read also e = cc
@@ -141,7 +142,7 @@ max-said (Some d) max e = here (length_in d) refl e
     here (Ok n) read e = let same : Some n ≡ max = cc in (n, sym same, length-said d n read)
     here (Err n) read e = cc
 
-max_length-said : (d : Option Data) (max : Option LengthRead) (v : Vrp) → IsRead d max → v.max ≡ max_length v.prefix max → IsMaxLengthMember d v
+max_length-said : (d : Option Data) (max : Option LengthRead) (v : Vrp) → IsRead d max → v.max ≡ max_or_length v.prefix max → IsMaxLengthMember d v
 max_length-said None max v read is = rw read at is
 max_length-said (Some d) max v read is =
     let own = rw read.1 at is in read.2 ∙ ap (λ (n : ℕ). number (unsigned n)) (sym own)
@@ -150,16 +151,16 @@ required-said : {A : Type 0} (reading : Data → Result A SlurmFault) (o : Optio
 required-said reading None a e = cc
 required-said reading (Some d) a e = (d, refl, e)
 
-assertion_of-said : (prefix asn max : Option Data) (v : Vrp) → and_then assertion_of (both slurm_fault_number (required Members prefix_in prefix) (both slurm_fault_number (required Members asn_in asn) (optional length_in max))) ≡ Ok v →
+assertion_of-said : (prefix asn max : Option Data) (v : Vrp) → and_then assertion_of (both slurm_fault_number (required Members prefix_or_fault prefix) (both slurm_fault_number (required Members asn_or_fault asn) (optional length_in max))) ≡ Ok v →
     IsPrefixMember prefix v.prefix × IsAsnMember asn v.asn × IsMaxLengthMember max v
-assertion_of-said prefix asn max v e = here (required Members prefix_in prefix) (required Members asn_in asn) (optional length_in max) refl refl refl e
+assertion_of-said prefix asn max v e = here (required Members prefix_or_fault prefix) (required Members asn_or_fault asn) (optional length_in max) refl refl refl e
   where
-    here : (r : Result Prefix SlurmFault) (s : Result Asn SlurmFault) (t : Result (Option LengthRead) SlurmFault) → required Members prefix_in prefix ≡ r → required Members asn_in asn ≡ s → optional length_in max ≡ t →
+    here : (r : Result Prefix SlurmFault) (s : Result Asn SlurmFault) (t : Result (Option LengthRead) SlurmFault) → required Members prefix_or_fault prefix ≡ r → required Members asn_or_fault asn ≡ s → optional length_in max ≡ t →
         and_then assertion_of (both slurm_fault_number r (both slurm_fault_number s t)) ≡ Ok v → IsPrefixMember prefix v.prefix × IsAsnMember asn v.asn × IsMaxLengthMember max v
     here (Ok p) (Ok a) (Ok m) read also last e =
-        let parts = vrp_if-said p (max_length p m) a (dec_le p.length (max_length p m)) (dec_le (max_length p m) (width p.family)) v (ok_or-Ok _ MaxPrefixLength v e) in
-        let of = required-said prefix_in prefix p read in
-        let by = required-said asn_in asn a also in (
+        let parts = vrp_if-said p (max_or_length p m) a (dec_le p.length (max_or_length p m)) (dec_le (max_or_length p m) (width p.family)) v (ok_or-Ok _ MaxPrefixLength v e) in
+        let of = required-said prefix_or_fault prefix p read in
+        let by = required-said asn_or_fault asn a also in (
           rw (of.1, parts.0) (prefix-said of.0 p of.2),
           rw (by.1, parts.2) (asn-said by.0 a by.2),
           max_length-said max m v (max-said max m last) (rw parts.0 parts.1),

@@ -23,7 +23,8 @@ use Rattle.json_values.specs.Tree.{required, optional, list_of}
 use Rattle.json_values.specs.Values.{as_asn, as_prefix, whole_number}
 use Rattle.slurm.specs.Exceptions.{Exceptions, exceptions_of}
 use Rattle.slurm.specs.Fault.{slurm_fault_number}
-use Rattle.slurm.specs.steps.SlurmFile.{prefix_in, asn_in, comment_in, length_in, version_from, version_in, filter_of, filter_in, vrp_if, vrp_with, max_length, assertion_of, assertion_in, entries_from, bgpsec_from, part_in, filters_in, assertions_in, lists_in, slurm_in}
+use Rattle.addr.specs.VrpParts.{vrp_if, vrp_with}
+use Rattle.slurm.specs.steps.SlurmFile.{prefix_or_fault, asn_or_fault, comment_in, length_in, version_from, version_in, filter_of, filter_in, max_or_length, assertion_of, assertion_in, entries_from, bgpsec_from, part_in, filters_in, assertions_in, lists_in, slurm_in}
 use Rattle.slurm.proofs.SlurmEntryLemmas.{lists-said}
 use Rattle.slurm.specs.SlurmEntries.{SaysAssertion, SaysFilter}
 use Rattle.slurm.specs.SlurmFaults.{assertions_at, filters_at, assertion_names, file_names, filter_names, filters_faults, assertions_faults, prefix_of, prefix_faults, asn_faults, comment_faults, is_one, version_faults, is_max_length, max_length_faults, filter_faults, assertion_faults, array_at, entries_faults, bgpsec_faults, part_faults, entry_count, file_faults, slurm_fault}
@@ -35,10 +36,10 @@ use Rattle.slurm.specs.declared.members.MaxPrefixLength.{MaxPrefixLength as Leng
 
 -- ---- single members
 
-reported-prefix : (d : Data) → Reported slurm_fault_number (prefix_in d) (prefix_faults d)
+reported-prefix : (d : Data) → Reported slurm_fault_number (prefix_or_fault d) (prefix_faults d)
 reported-prefix d = reported-ok_or slurm_fault_number (as_prefix d) PrefixFault
 
-reported-asn : (d : Data) → Reported slurm_fault_number (asn_in d) (asn_faults d)
+reported-asn : (d : Data) → Reported slurm_fault_number (asn_or_fault d) (asn_faults d)
 reported-asn d = reported-ok_or slurm_fault_number (as_asn d) AsnFault
 
 reported-comment : (d : Data) → Reported slurm_fault_number (comment_in d) (comment_faults d)
@@ -65,18 +66,18 @@ err-filter_asn (Ok asn) = refl
 err-filter_asn (Err n) = refl
 
 reported-filter_of : (p asn : Option Data) →
-    Reported slurm_fault_number (and_then filter_of (both slurm_fault_number (optional prefix_in p) (optional asn_in asn)))
+    Reported slurm_fault_number (and_then filter_of (both slurm_fault_number (optional prefix_or_fault p) (optional asn_or_fault asn)))
     (optional_faults prefix_faults p ++ optional_faults asn_faults asn ++ fault_unless (is_some p || is_some asn) EmptyFilter)
 reported-filter_of (Some p) asn = record {
   is =
-      err-filter_prefix (prefix_in p) (optional asn_in asn)
-      ∙ (reported-both (reported-mapped Some (reported-prefix p)) (reported-optional slurm_fault_number asn_in asn_faults asn reported-asn)).is
+      err-filter_prefix (prefix_or_fault p) (optional asn_or_fault asn)
+      ∙ (reported-both (reported-mapped Some (reported-prefix p)) (reported-optional slurm_fault_number asn_or_fault asn_faults asn reported-asn)).is
       ∙ ap (lowest slurm_fault_number) (sym (append-nil (prefix_faults p ++ optional_faults asn_faults asn)));
 }
 reported-filter_of None (Some asn) = record {
   is =
-      err-filter_asn (asn_in asn)
-      ∙ err-both {A = Option Prefix} slurm_fault_number (Ok None) (mapped Some (asn_in asn))
+      err-filter_asn (asn_or_fault asn)
+      ∙ err-both {A = Option Prefix} slurm_fault_number (Ok None) (mapped Some (asn_or_fault asn))
       ∙ (reported-mapped {B = Option Asn} Some (reported-asn asn)).is
       ∙ ap (lowest slurm_fault_number) (sym (append-nil (asn_faults asn)));
 }
@@ -110,7 +111,7 @@ ok_or-low : (asn : Option Asn) → OfAsn (ok_or asn AsnFault)
 ok_or-low None = lit≤ tt
 ok_or-low (Some asn) = tt
 
-asn-low : (asn : Option Data) → OfAsn (required Members asn_in asn)
+asn-low : (asn : Option Data) → OfAsn (required Members asn_or_fault asn)
 asn-low None = lit≤ tt
 asn-low (Some d) = ok_or-low (as_asn d)
 
@@ -120,18 +121,18 @@ lower_of-low m false low = ap Some (sym (lower-first slurm_fault_number m MaxPre
 
 -- a prefix and a number: the VRP is there where the number is in its range
 reported-in_range : (p : Prefix) (max : Option LengthRead) (asn : Result Asn SlurmFault) (xs : List SlurmFault) → Reported slurm_fault_number asn xs → OfAsn asn →
-    Reported slurm_fault_number (and_then assertion_of (both slurm_fault_number (Ok p) (both slurm_fault_number asn (Ok max)))) (xs ++ fault_unless (fits_max_length p (max_length p max)) MaxPrefixLength)
+    Reported slurm_fault_number (and_then assertion_of (both slurm_fault_number (Ok p) (both slurm_fault_number asn (Ok max)))) (xs ++ fault_unless (fits_max_length p (max_or_length p max)) MaxPrefixLength)
 reported-in_range p max (Ok asn) xs h low =
-    let range = fits_max_length p (max_length p max) in
+    let range = fits_max_length p (max_or_length p max) in
     record {
       is =
-          (reported-ok_or slurm_fault_number (vrp_with p (max_length p max) asn) MaxPrefixLength).is
-          ∙ ap (λ (b : Bool). lowest slurm_fault_number (fault_unless b MaxPrefixLength)) (is_some-vrp_with p (max_length p max) asn)
+          (reported-ok_or slurm_fault_number (vrp_with p (max_or_length p max) asn) MaxPrefixLength).is
+          ∙ ap (λ (b : Bool). lowest slurm_fault_number (fault_unless b MaxPrefixLength)) (is_some-vrp_with p (max_or_length p max) asn)
           ∙ ap (λ (o : Option SlurmFault). lower_of slurm_fault_number o (lowest slurm_fault_number (fault_unless range MaxPrefixLength))) h.is
           ∙ sym (lowest-append slurm_fault_number xs (fault_unless range MaxPrefixLength));
     }
 reported-in_range p max (Err m) xs h low =
-    let range = fits_max_length p (max_length p max) in
+    let range = fits_max_length p (max_or_length p max) in
     record {
       is =
           lower_of-low m range low
@@ -158,13 +159,13 @@ reported-max p asn xs None h low = record {
 reported-max p asn xs (Some n) h low = reported-in_range p (Some (record { 0 = n })) asn xs h low
 
 reported-with_prefix : (p : Prefix) (asn max : Option Data) →
-    Reported slurm_fault_number (and_then assertion_of (both slurm_fault_number (Ok p) (both slurm_fault_number (required Members asn_in asn) (optional length_in max))))
+    Reported slurm_fault_number (and_then assertion_of (both slurm_fault_number (Ok p) (both slurm_fault_number (required Members asn_or_fault asn) (optional length_in max))))
     (required_faults Members asn_faults asn ++ optional_faults (max_length_faults (Some p)) max)
 reported-with_prefix p asn None =
-    let own = reported-in_range p None (required Members asn_in asn) (required_faults Members asn_faults asn) (reported-required slurm_fault_number Members asn_in asn_faults asn reported-asn) (asn-low asn) in
+    let own = reported-in_range p None (required Members asn_or_fault asn) (required_faults Members asn_faults asn) (reported-required slurm_fault_number Members asn_or_fault asn_faults asn reported-asn) (asn-low asn) in
     record { is = own.is ∙ ap (λ (b : Bool). lowest slurm_fault_number (required_faults Members asn_faults asn ++ fault_unless b MaxPrefixLength)) (own_length p) }
 reported-with_prefix p asn (Some max) =
-    reported-max p (required Members asn_in asn) (required_faults Members asn_faults asn) (whole_number max) (reported-required slurm_fault_number Members asn_in asn_faults asn reported-asn) (asn-low asn)
+    reported-max p (required Members asn_or_fault asn) (required_faults Members asn_faults asn) (whole_number max) (reported-required slurm_fault_number Members asn_or_fault asn_faults asn reported-asn) (asn-low asn)
 
 -- without a prefix
 reported-length : (d : Data) → Reported slurm_fault_number (length_in d) (max_length_faults None d)
@@ -179,20 +180,20 @@ err-no_prefix m (Ok others) = refl
 err-no_prefix m (Err n) = refl
 
 reported-no_prefix : (m : SlurmFault) (asn max : Option Data) →
-    Reported slurm_fault_number (and_then assertion_of (both slurm_fault_number (Err m) (both slurm_fault_number (required Members asn_in asn) (optional length_in max))))
+    Reported slurm_fault_number (and_then assertion_of (both slurm_fault_number (Err m) (both slurm_fault_number (required Members asn_or_fault asn) (optional length_in max))))
     (m ∷ [] ++ required_faults Members asn_faults asn ++ optional_faults (max_length_faults None) max)
 reported-no_prefix m asn max =
-    let others = reported-both (reported-required slurm_fault_number Members asn_in asn_faults asn reported-asn) (reported-optional slurm_fault_number length_in (max_length_faults None) max reported-length) in
-    record { is = err-no_prefix m (both slurm_fault_number (required Members asn_in asn) (optional length_in max)) ∙ ap (lower_of slurm_fault_number (Some m)) others.is }
+    let others = reported-both (reported-required slurm_fault_number Members asn_or_fault asn_faults asn reported-asn) (reported-optional slurm_fault_number length_in (max_length_faults None) max reported-length) in
+    record { is = err-no_prefix m (both slurm_fault_number (required Members asn_or_fault asn) (optional length_in max)) ∙ ap (lower_of slurm_fault_number (Some m)) others.is }
 
 reported-read_prefix : (p : Option Prefix) (asn max : Option Data) →
-    Reported slurm_fault_number (and_then assertion_of (both slurm_fault_number (ok_or p PrefixFault) (both slurm_fault_number (required Members asn_in asn) (optional length_in max))))
+    Reported slurm_fault_number (and_then assertion_of (both slurm_fault_number (ok_or p PrefixFault) (both slurm_fault_number (required Members asn_or_fault asn) (optional length_in max))))
     (fault_unless (is_some p) PrefixFault ++ required_faults Members asn_faults asn ++ optional_faults (max_length_faults p) max)
 reported-read_prefix None asn max = reported-no_prefix PrefixFault asn max
 reported-read_prefix (Some p) asn max = reported-with_prefix p asn max
 
 reported-assertion_of : (p asn max : Option Data) →
-    Reported slurm_fault_number (and_then assertion_of (both slurm_fault_number (required Members prefix_in p) (both slurm_fault_number (required Members asn_in asn) (optional length_in max))))
+    Reported slurm_fault_number (and_then assertion_of (both slurm_fault_number (required Members prefix_or_fault p) (both slurm_fault_number (required Members asn_or_fault asn) (optional length_in max))))
     (required_faults Members prefix_faults p ++ required_faults Members asn_faults asn ++ optional_faults (max_length_faults (option_and_then as_prefix p)) max)
 reported-assertion_of None asn max = reported-no_prefix Members asn max
 reported-assertion_of (Some p) asn max = reported-read_prefix (as_prefix p) asn max

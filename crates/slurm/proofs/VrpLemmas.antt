@@ -6,7 +6,7 @@ use Rattle.addr.specs.Family.{width}
 use Rattle.addr.specs.declared.prefix.Prefix.{Prefix}
 use Rattle.addr.specs.declared.asn.Asn.{Asn}
 use Rattle.addr.specs.declared.vrp.Vrp.{Vrp}
-use Rattle.slurm.specs.steps.SlurmFile.{vrp_if, vrp_with}
+use Rattle.addr.specs.VrpParts.{vrp_if, vrp_with}
 
 abbrev vrp_at : (p : Prefix) (max : ℕ) (asn : Asn) → p.length ≤ max → max ≤ width p.family → Vrp
 vrp_at p max asn low high = record { prefix = p; max = max; asn = asn; at_least_length = low; at_most_width = high }

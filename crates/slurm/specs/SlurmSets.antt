@@ -55,6 +55,6 @@ union files = record {
 }
 
 -- what the file of this name says; nothing where there is none
-abbrev pub exceptions_of : List NamedSlurm → List ℕ → Exceptions
-exceptions_of [] name = record { filters = []; assertions = [] }
-exceptions_of (f ∷ rest) name = if bytes_eq f.name name then f.file else exceptions_of rest name
+abbrev pub exceptions_named : List NamedSlurm → List ℕ → Exceptions
+exceptions_named [] name = record { filters = []; assertions = [] }
+exceptions_named (f ∷ rest) name = if bytes_eq f.name name then f.file else exceptions_named rest name

@@ -2,7 +2,8 @@
 ghost use Rattle.std.specs.Prelude.{◌≡◌};
 ghost use Rattle.std.specs.Option.{ok_or};
 ghost use Rattle.json_values.specs.Parts.{and_then};
-ghost use Rattle.slurm.specs.steps.SlurmFile.{filter_of, assertion_of, vrp_with};
+ghost use Rattle.addr.specs.VrpParts.{vrp_with};
+ghost use Rattle.slurm.specs.steps.SlurmFile.{filter_of, assertion_of};
 
 use crate::members::{Comment, MaxPrefixLength};
 use crate::{Filter, SlurmFault};

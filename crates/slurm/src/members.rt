@@ -6,9 +6,9 @@ use json_values::{FromJson, as_asn, as_prefix};
 use serde_json::Value;
 
 impl FromJson<SlurmFault> for Prefix {
-    ghost use Rattle.slurm.specs.steps.SlurmFile.{prefix_in};
+    ghost use Rattle.slurm.specs.steps.SlurmFile.{prefix_or_fault};
 
-    ghost reading = { prefix_in };
+    ghost reading = { prefix_or_fault };
 
     fn from_json(value: &Value) -> Result<Prefix, SlurmFault> {
         as_prefix(value).ok_or(SlurmFault::Prefix)
@@ -16,9 +16,9 @@ impl FromJson<SlurmFault> for Prefix {
 }
 
 impl FromJson<SlurmFault> for Asn {
-    ghost use Rattle.slurm.specs.steps.SlurmFile.{asn_in};
+    ghost use Rattle.slurm.specs.steps.SlurmFile.{asn_or_fault};
 
-    ghost reading = { asn_in };
+    ghost reading = { asn_or_fault };
 
     fn from_json(value: &Value) -> Result<Asn, SlurmFault> {
         as_asn(value).ok_or(SlurmFault::Asn)

@@ -19,13 +19,13 @@ use Rattle.registry.specs.Rows.{Rows}
 use Rattle.registry.specs.Values.{AuthFits}
 use Rattle.registry.specs.declared.authorization.Auth.{Auth}
 use Rattle.registry.proofs.Names.{same_name-true}
-use Rattle.tables.specs.declared.groups.OfHolder.{OfHolder}
-use Rattle.tables.specs.Tables.{auth, claim, contents, entry}
-use Rattle.tables.specs.TablesHold.{HoldsPart, Part, claim_part, entry_part, is_text, items_if_any, part_rows}
-use Rattle.tables.proofs.PartLemmas.{name_of_itself, names, take_local}
-use Rattle.moving.specs.OldTables.{HasOneEntry, HaveOneEntry, auth_part}
-use Rattle.database.specs.OldTablesRead.{HasSomeOldAuths, rows_of_auth}
-use Rattle.database.specs.TablesRead.{HasSomeAuths, row_of_claim, rows_of_entries}
+use Rattle.store_tables.specs.declared.groups.OfHolder.{OfHolder}
+use Rattle.store_tables.specs.Tables.{auth, claim, contents, entry}
+use Rattle.store_tables.specs.TablesHold.{HoldsPart, Part, claim_part, entry_part, is_text, items_if_any, part_rows}
+use Rattle.store_tables.proofs.PartLemmas.{name_of_itself, names, take_local}
+use Rattle.store_schema.specs.OldTables.{HasOneEntry, HaveOneEntry, auth_part}
+use Rattle.store_open.specs.OldTablesRead.{HasSomeOldAuths, rows_of_auth}
+use Rattle.store_open.specs.TablesRead.{HasSomeAuths, row_of_claim, rows_of_entries}
 
 -- ---- names, each once
 

@@ -5,23 +5,23 @@ use Rattle.sqlite_value.specs.Order.{Row}
 use Rattle.sqlite_rules.specs.Lists.{Has}
 use Rattle.sqlite_rules.proofs.ListLemmas.{all_from, has_contained}
 use Rattle.sqlite_trees.proofs.ListLemmas.{filter_all, IsPermutation-same}
-use Rattle.charters.specs.CharterSets.{CharterSets}
+use Rattle.registry.specs.CharterSets.{CharterSets}
 use Rattle.registry.specs.declared.authorization.Auth.{Auth}
-use Rattle.registry.specs.declared.authorization.RoaPrefix.{RoaPrefix}
+use Rattle.addr.specs.declared.roa_prefix.RoaPrefix.{RoaPrefix}
 use Rattle.registry.specs.Rows.{Rows}
 use Rattle.registry.specs.RowsOfAll.{AllRows}
-use Rattle.tables.specs.declared.entry.EntryRow.{EntryRow}
-use Rattle.tables.specs.Authorizations.{claim_of}
-use Rattle.tables.specs.Cells.{claim_row, entry_row}
-use Rattle.tables.specs.Groups.{claim_entry}
-use Rattle.tables.specs.Tables.{desk_tables, claim, entry, contents}
-use Rattle.tables.specs.TablesHold.{TablesHold, entry_part}
-use Rattle.tables.proofs.Once.{two_are_one, entry_row_once}
-use Rattle.tables.proofs.SomeRow.{in_table, has_entry_row}
-use Rattle.transactions.specs.Laws.{payload_columns, number_columns, ClaimsDiffer, EntriesDiffer}
-use Rattle.edits.proofs.Numbers.{number_of, numbered_apart}
+use Rattle.store_tables.specs.declared.entry.EntryRow.{EntryRow}
+use Rattle.store_tables.specs.Authorizations.{claim_of}
+use Rattle.store_tables.specs.Cells.{claim_row, entry_row}
+use Rattle.store_tables.specs.Groups.{claim_entry}
+use Rattle.store_tables.specs.Tables.{desk_tables, claim, entry, contents}
+use Rattle.store_tables.specs.TablesHold.{TablesHold, entry_part}
+use Rattle.store_tables.proofs.Once.{two_are_one, entry_row_once}
+use Rattle.store_tables.proofs.SomeRow.{in_table, has_entry_row}
+use Rattle.store_transactions.specs.Laws.{payload_columns, number_columns, ClaimsDiffer, EntriesDiffer}
+use Rattle.store_write.proofs.Numbers.{number_of, numbered_apart}
 use Rattle.store.specs.Given.{GivenOnce}
-use Rattle.loads.proofs.Giving.{cells_of_vrp}
+use Rattle.store_read.proofs.Giving.{cells_of_vrp}
 
 module _ (claims_differ : ClaimsDiffer) (charter : CharterSets) (rows : AllRows) (db : Database) (sound : IsDatabase db) (tables : db.schema.tables ≡ desk_tables) (holds : TablesHold charter rows db.trees) where
   -- no two authorizations of a holder have one number

@@ -18,8 +18,8 @@ use Rattle.addr.specs.Spans.{span_has, spans_have}
 use Rattle.addr.specs.declared.prefix.Prefix.{Prefix}
 use Rattle.addr.specs.declared.span.Span.{Span}
 use Rattle.addr.proofs.RunLemmas.{maximal_apart}
-use Rattle.charters.specs.declared.charter.Charter.{Charter}
-use Rattle.registry.specs.Answer.{AnswersCreate, AnswersDelegate, AnswersLoss, AnswersList, AnswersNumber, HasRuns, IfRegistered, IsMadeIfAny, SharesWithNone}
+use Rattle.registry.specs.declared.charter.Charter.{Charter}
+use Rattle.registry.specs.Answer.{AnswersCreate, AnswersDelegate, AnswersLoss, ListBasis, AnswersNumber, HasRuns, IfRegistered, IsMadeIfAny, SharesWithNone}
 use Rattle.registry.specs.declared.authorization.Auth.{Auth}
 use Rattle.registry.specs.declared.authorization.AuthTerms.{AuthTerms}
 use Rattle.registry.specs.declared.command.Command.{Command}
@@ -41,11 +41,11 @@ use Rattle.registry.proofs.Kept.{Keeps-unique}
 use Rattle.registry.proofs.Names.{held_by_itself, is_held_by-true}
 use Rattle.registry.proofs.Numbers.{Numbered}
 use Rattle.registry.proofs.Unregistered.{has_nothing}
-use Rattle.histories.proofs.SharedVrps.{share_vrp-flips}
-use Rattle.tables.specs.TablesHold.{items_if_any}
-use Rattle.loads.specs.declared.answers.Loaded.{Loaded}
-use Rattle.loads.specs.Loads.{AreCounted, AreGrants, AreHoldings, AreInOrder, AreNumbered, AreRunsApart, HasRun, HaveSame, IsForCreate, IsForDelegate, IsForLoss, MeetsSome, auths_held, created_if_any, some_gives}
-use Rattle.loads.proofs.Giving.{taken_iff}
+use Rattle.registry_laws.proofs.SharedVrps.{share_vrp-flips}
+use Rattle.store_tables.specs.TablesHold.{items_if_any}
+use Rattle.store_read.specs.declared.answers.Loaded.{Loaded}
+use Rattle.store_read.specs.Loads.{AreCounted, AreGrants, AreHoldings, AreInOrder, AreNumbered, AreRunsApart, HasRun, HaveSame, IsForCreate, IsForDelegate, IsForLoss, MeetsSome, auths_held, created_if_any, some_gives}
+use Rattle.store_read.proofs.Giving.{taken_iff}
 use Rattle.store.specs.Laws.{LoadsFactsOfHistories, LoadsListsOfHistories, LoadsNumberOfHistories, LoadsPartsOfHistories, LoadsRowsOfHistories}
 
 module _ {X : Type 0} (number : X → ℕ) where

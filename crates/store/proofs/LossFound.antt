@@ -10,17 +10,17 @@ use Rattle.addr.specs.Family.{family_eq}
 use Rattle.addr.specs.declared.prefix.Prefix.{Prefix}
 use Rattle.addr.specs.declared.span.Span.{Span}
 use Rattle.registry.specs.declared.authorization.Auth.{Auth}
-use Rattle.registry.specs.declared.authorization.RoaPrefix.{RoaPrefix}
+use Rattle.addr.specs.declared.roa_prefix.RoaPrefix.{RoaPrefix}
 use Rattle.registry.specs.declared.rows.HolderRows.{HolderRows}
 use Rattle.registry.specs.Rows.{Rows}
 use Rattle.registry.specs.Terms.{terms_overlap}
-use Rattle.tables.specs.Authorizations.{claim_of, entry_rows_of}
-use Rattle.tables.specs.Groups.{claim_entry}
-use Rattle.tables.specs.TablesHold.{items_if_any}
-use Rattle.tables.specs.declared.entry.EntryRow.{EntryRow}
-use Rattle.tables.proofs.TreeRows.{list_any-map}
-use Rattle.loads.specs.Loads.{auths_held, begins_up_to, entries_up_to, AreHoldings, AreOverlapping, HaveSame, IsForLoss}
-use Rattle.loads.proofs.GivenAuths.{any_and, any_each, any_kept}
+use Rattle.store_tables.specs.Authorizations.{claim_of, entry_rows_of}
+use Rattle.store_tables.specs.Groups.{claim_entry}
+use Rattle.store_tables.specs.TablesHold.{items_if_any}
+use Rattle.store_tables.specs.declared.entry.EntryRow.{EntryRow}
+use Rattle.store_tables.proofs.TreeRows.{list_any-map}
+use Rattle.store_read.specs.Loads.{auths_held, begins_up_to, entries_up_to, AreHoldings, AreOverlapping, HaveSame, IsForLoss}
+use Rattle.store_read.proofs.GivenAuths.{any_and, any_each, any_kept}
 use Rattle.store.specs.steps.PartNumbers.{has_number, overlaps_numbered, AreOfNumbers}
 use Rattle.store.proofs.PartFound.{in_order, passes_by_number, AreNumberedOnce}
 

@@ -5,12 +5,12 @@ use Rattle.sqlite.specs.Held.{Held, state}
 use Rattle.sqlite.specs.State.{State, HasCleanDisk, IsLive}
 use Rattle.sqlite.specs.Store.{Ghosts}
 use Rattle.sqlite_trees.specs.Tree.{Trees}
-use Rattle.charters.specs.CharterSets.{CharterSets, IsCharter}
-use Rattle.tables.specs.TablesHold.{TablesHold}
+use Rattle.registry.specs.CharterSets.{CharterSets, IsCharter}
+use Rattle.store_tables.specs.TablesHold.{TablesHold}
 use Rattle.store.specs.StoreRows.{IsOpened}
-use Rattle.transactions.specs.Databases.{IsDeskTrees}
-use Rattle.database.specs.Opening.{OpensDesk}
-use Rattle.database.proofs.SameCharter.{same_charter}
+use Rattle.store_transactions.specs.Databases.{IsDeskTrees}
+use Rattle.store_open.specs.Opening.{OpensDesk}
+use Rattle.store_open.proofs.SameCharter.{same_charter}
 use Rattle.store.proofs.ReadRows.{rows_fit}
 use Rattle.store.proofs.StoreLemmas.{over}
 

@@ -16,7 +16,7 @@ use Rattle.sqlite_rules.specs.Lists.{Has}
 use Rattle.sqlite_rules.proofs.ListLemmas.{all_from, has_filtered, some_from, some_has}
 use Rattle.sqlite_trees.specs.Tree.{IsAscending}
 use Rattle.sqlite_trees.proofs.ListLemmas.{all_weaker, all-permutation, ascending-append, filter_none, filter_same, all_of}
-use Rattle.charters.specs.CharterSets.{CharterSets}
+use Rattle.registry.specs.CharterSets.{CharterSets}
 use Rattle.registry.specs.declared.authorization.Auth.{Auth}
 use Rattle.registry.specs.declared.command.Proposed.{Proposed}
 use Rattle.registry.specs.declared.command.Proposed.TheVariants.{Create, Withdraw}
@@ -27,13 +27,13 @@ use Rattle.registry.specs.PartOfRows.{looked_for, looks_for}
 use Rattle.registry.specs.Rows.{Rows}
 use Rattle.registry.specs.RowsOfAll.{AllRows}
 use Rattle.registry.specs.Terms.{gives_some}
-use Rattle.tables.specs.Tables.{desk_tables}
-use Rattle.tables.specs.TablesHold.{TablesHold, items_if_any}
-use Rattle.tables.specs.declared.entry.EntryRow.{EntryRow}
-use Rattle.tables.proofs.TreeRows.{list_any-map}
-use Rattle.transactions.specs.Laws.{ClaimsDiffer}
-use Rattle.loads.specs.Loads.{AreCounted, AreGrants, AreInOrder, HaveSame, auths_held}
-use Rattle.loads.proofs.GivenAuths.{created_shown}
+use Rattle.store_tables.specs.Tables.{desk_tables}
+use Rattle.store_tables.specs.TablesHold.{TablesHold, items_if_any}
+use Rattle.store_tables.specs.declared.entry.EntryRow.{EntryRow}
+use Rattle.store_tables.proofs.TreeRows.{list_any-map}
+use Rattle.store_transactions.specs.Laws.{ClaimsDiffer}
+use Rattle.store_read.specs.Loads.{AreCounted, AreGrants, AreInOrder, HaveSame, auths_held}
+use Rattle.store_read.proofs.GivenAuths.{created_shown}
 use Rattle.store.proofs.HeldOnce.{one_of_number}
 use Rattle.store.specs.PartLoaded.{IsForChanges}
 use Rattle.store.specs.steps.PartNumbers.{AreOfNumbers, asks_for, has_number, some_asks_for}

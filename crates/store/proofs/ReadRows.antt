@@ -16,38 +16,38 @@ use Rattle.sqlite_rules.proofs.ProbeLemmas.{mapped_has}
 use Rattle.addr.specs.Address.{fits_max_length}
 use Rattle.addr.specs.Name.{is_name}
 use Rattle.slurm.specs.Exceptions.{Exceptions}
-use Rattle.slurm.specs.SlurmSets.{exceptions_of}
+use Rattle.slurm.specs.SlurmSets.{exceptions_named}
 use Rattle.slurm.specs.declared.set.NamedSlurm.{NamedSlurm}
-use Rattle.transactions.proofs.HeldRows.{some_row}
-use Rattle.transactions.proofs.NamedFiles.{said}
+use Rattle.store_transactions.proofs.HeldRows.{some_row}
+use Rattle.store_transactions.proofs.NamedFiles.{said}
 use Rattle.slurm.specs.declared.exceptions.TheConstants.{MOST_ENTRIES}
 use Rattle.slurm.specs.declared.filter.Filter.TheVariants.{Under, By, Both}
 use Rattle.registry.specs.declared.authorization.Auth.{Auth}
-use Rattle.registry.specs.declared.authorization.RoaPrefix.{RoaPrefix}
+use Rattle.addr.specs.declared.roa_prefix.RoaPrefix.{RoaPrefix}
 use Rattle.registry.specs.declared.grant.Granted.{Granted}
 use Rattle.registry.specs.RoaPrefixes.{AreEntries}
 use Rattle.registry.specs.Rows.{Rows}
 use Rattle.registry.specs.Values.{AuthFits, ExceptionsFit, FileFits, FilesFit, FilterFits, FitIfAny, GrantFits, IsCount, IsU32, VrpFits}
-use Rattle.tables.specs.declared.claim.Claim.{Claim}
-use Rattle.tables.specs.declared.entry.EntryRow.{EntryRow}
-use Rattle.tables.specs.declared.groups.OfHolder.{OfHolder}
-use Rattle.tables.specs.Authorizations.{claim_of, entry_rows_of}
-use Rattle.tables.specs.Groups.{claim_entry}
-use Rattle.tables.specs.Cells.{claim_row, entry_row, exception_cells, exception_row, granted_row, holder_row, kind_number, number_cell}
-use Rattle.tables.specs.Decode.{ClaimFits, EntryRowFits, ExceptionFits, exception_columns}
-use Rattle.tables.specs.Tables.{claim, contents, entry, slurm}
-use Rattle.tables.specs.TablesHold.{ArePlaced, HoldsExceptions, HoldsFiles, HoldsPart, is_of_file, Part, claim_part, entry_part, granted_part, holder_part, part_rows}
-use Rattle.tables.specs.declared.exception.Exception.{Exception}
-use Rattle.tables.specs.declared.exception.Exception.TheVariants.{Filter as FilterOf, Assertion}
-use Rattle.tables.specs.declared.exception.ExceptionRow.{ExceptionRow}
-use Rattle.tables.proofs.CellsOnce.{one_grant}
-use Rattle.tables.proofs.Once.{claim_row_once, entry_row_once}
-use Rattle.tables.proofs.HeldExceptions.{held_number}
-use Rattle.database.specs.TablesRead.{HasSomeAuths, ShowsException, ShowsHolder, ShowsOfHolder, row_of_claim, rows_of_entries}
-use Rattle.transactions.specs.Files.{AreFewOfEach}
+use Rattle.store_tables.specs.declared.claim.Claim.{Claim}
+use Rattle.store_tables.specs.declared.entry.EntryRow.{EntryRow}
+use Rattle.store_tables.specs.declared.groups.OfHolder.{OfHolder}
+use Rattle.store_tables.specs.Authorizations.{claim_of, entry_rows_of}
+use Rattle.store_tables.specs.Groups.{claim_entry}
+use Rattle.store_tables.specs.Cells.{claim_row, entry_row, exception_cells, exception_row, granted_row, holder_row, kind_number, number_cell}
+use Rattle.store_tables.specs.Decode.{ClaimFits, EntryRowFits, ExceptionFits, exception_columns}
+use Rattle.store_tables.specs.Tables.{claim, contents, entry, slurm}
+use Rattle.store_tables.specs.TablesHold.{ArePlaced, HoldsExceptions, HoldsFiles, HoldsPart, is_of_file, Part, claim_part, entry_part, granted_part, holder_part, part_rows}
+use Rattle.store_tables.specs.declared.exception.Exception.{Exception}
+use Rattle.store_tables.specs.declared.exception.Exception.TheVariants.{Filter as FilterOf, Assertion}
+use Rattle.store_tables.specs.declared.exception.ExceptionRow.{ExceptionRow}
+use Rattle.store_tables.proofs.CellsOnce.{one_grant}
+use Rattle.store_tables.proofs.Once.{claim_row_once, entry_row_once}
+use Rattle.store_tables.proofs.HeldExceptions.{held_number}
+use Rattle.store_open.specs.TablesRead.{HasSomeAuths, ShowsException, ShowsHolder, ShowsOfHolder, row_of_claim, rows_of_entries}
+use Rattle.store_transactions.specs.Files.{AreFewOfEach}
 use Rattle.store.specs.Laws.{RowsInRangeGive, RowsThatReadFit}
-use Rattle.loads.proofs.Giving.{gives_each}
-use Rattle.loads.proofs.Loading.{claim_fits, entries_of_fit}
+use Rattle.store_read.proofs.Giving.{gives_each}
+use Rattle.store_read.proofs.Loading.{claim_fits, entries_of_fit}
 
 -- what is so of each row of a table is so of each row of a holder in it
 part_shows : (part : Part) (rows : List ℕ → Option Rows) (table : List Row) (So : Row → Type 0)
@@ -196,8 +196,8 @@ module _ (files : List NamedSlurm) (table : List Row) (holds : HoldsFiles files 
   file_fits f has =
       let of_file = filter (is_of_file f.name) table in
       let mine = all-map ShowsException exception_columns of_file (all-filter (λ c. ShowsException (exception_columns c)) (is_of_file f.name) table (all_from_map ShowsException exception_columns table all)) in
-      let says = all_has (λ (g : NamedSlurm). exceptions_of files g.name ≡ g.file) files f (said files holds.rising) has in
-      record { name = name_fits f has; file = subst ExceptionsFit says (exceptions_fit f.name (exceptions_of files f.name) of_file (holds.each f.name) mine (few f.name)) }
+      let says = all_has (λ (g : NamedSlurm). exceptions_named files g.name ≡ g.file) files f (said files holds.rising) has in
+      record { name = name_fits f has; file = subst ExceptionsFit says (exceptions_fit f.name (exceptions_named files f.name) of_file (holds.each f.name) mine (few f.name)) }
 
   files_fit : FilesFit files
   files_fit = All-from_recursion FileFits files (all_from FileFits files file_fits)

@@ -8,20 +8,20 @@ use Rattle.sqlite.proofs.StateLemmas.{survives_then}
 use Rattle.sqlite.specs.Store.{Ghosts}
 use Rattle.sqlite_schema.specs.declared.schema.Schema.{Schema}
 use Rattle.sqlite_trees.specs.Tree.{Trees}
-use Rattle.charters.specs.CharterSets.{CharterSets}
+use Rattle.registry.specs.CharterSets.{CharterSets}
 use Rattle.registry.specs.declared.change.Change.{Change}
 use Rattle.registry.specs.RowsOfAll.{AllRows, blank_rows, changed_rows}
-use Rattle.transactions.specs.Statements.{IsAsBefore}
-use Rattle.transactions.specs.Queries.{IsAsked}
-use Rattle.transactions.specs.Laws.{ClaimsDiffer, EntriesDiffer}
+use Rattle.store_transactions.specs.Statements.{IsAsBefore}
+use Rattle.store_transactions.specs.Queries.{IsAsked}
+use Rattle.store_transactions.specs.Laws.{ClaimsDiffer, EntriesDiffer}
 use Rattle.store.proofs.HeldOnce.{held_once}
 use Rattle.store.specs.Given.{GivenOnce}
-use Rattle.loads.specs.Loads.{IsOfAll, IsOpenWith}
+use Rattle.store_read.specs.Loads.{EachRows, OpenEachRows}
 use Rattle.store.specs.StoreRows.{StoreView, Holds, IsRead, MayLeave, LeavesOnly, LeavesPlaced}
-use Rattle.edits.specs.Changes.{PlacesExceptions, MakesChange, RowsBecome}
-use Rattle.transactions.specs.Databases.{HasDeskTables, IsNew, IsDeskTrees, IsDeskWhileOpen, LeavesNew}
+use Rattle.store_write.specs.Changes.{PlacesExceptions, MakesChange, RowsBecome}
+use Rattle.store_transactions.specs.Databases.{HasDeskTables, IsNew, IsDeskTrees, IsDeskWhileOpen, LeavesNew}
 use Rattle.store.specs.steps.Commits.{CommitsChange, MayCommit}
-use Rattle.tables.specs.TablesHold.{TablesHold}
+use Rattle.store_tables.specs.TablesHold.{TablesHold}
 
 pub kept_still : (old new : State) → (HasCleanDisk new → HasCleanDisk old) → (HasCleanDisk new → IsTrue new.is_open → IsAsBefore old new) → IsDeskWhileOpen old → IsDeskWhileOpen new
 kept_still old new before same kept clean opened =
@@ -115,14 +115,14 @@ module _ {S : Type 0} (g : Ghosts S) (charter : CharterSets) (old : Held S) (sto
   before : HasCleanDisk (state g old)
   before = omega (arith, clean, asked.survives.clean)
 
-  pub found_held : (so : X → AllRows → Type 0) → IfOk r (λ x. IsOfAll (so x) (state g old)) → IfOk r (λ x. (rows : AllRows) → Holds g store rows → so x rows)
+  pub found_held : (so : X → AllRows → Type 0) → IfOk r (λ x. EachRows (so x) (state g old)) → IfOk r (λ x. (rows : AllRows) → Holds g store rows → so x rows)
   found_held so found = go r found (asked.same clean)
     where
-      go : (r : Result X E) → IfOk r (λ x. IsOfAll (so x) (state g old)) → OnOk r (IsUnchanged (state g old) (state g new)) → IfOk r (λ x. (rows : AllRows) → Holds g store rows → so x rows)
+      go : (r : Result X E) → IfOk r (λ x. EachRows (so x) (state g old)) → OnOk r (IsUnchanged (state g old) (state g new)) → IfOk r (λ x. (rows : AllRows) → Holds g store rows → so x rows)
       go (Ok x) found same = subst (λ held. (rows : AllRows) → Holds g held rows → so x rows) is (λ rows holds. found charter rows (holds before same.0.was_open))
       go (Err e) found same = tt
 
-  pub refused_held : (so : AllRows → Type 0) → IsOpenWith so (state g old) → (rows : AllRows) → Holds g store rows → so rows
+  pub refused_held : (so : AllRows → Type 0) → OpenEachRows so (state g old) → (rows : AllRows) → Holds g store rows → so rows
   refused_held so refusal = subst (λ held. (rows : AllRows) → Holds g held rows → so rows) is (λ rows holds. refusal.1 charter rows (holds before refusal.0))
 
 -- ---- a change within a transaction, and its commit

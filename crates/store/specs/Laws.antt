@@ -4,13 +4,13 @@ use Rattle.std.specs.List.{AllByRecursion}
 use Rattle.sqlite_trees.specs.Tree.{Trees}
 use Rattle.sqlite_trees.specs.declared.memory.MemStore.{MemStore}
 use Rattle.addr.specs.Name.{is_name}
-use Rattle.charters.specs.CharterSets.{IsCharter}
+use Rattle.registry.specs.CharterSets.{IsCharter}
 use Rattle.sqlite.specs.Effect.{Database}
 use Rattle.sqlite.specs.Held.{Held, state}
 use Rattle.sqlite.specs.Steps.{over_memory}
-use Rattle.charters.specs.declared.charter.Charter.{Charter}
+use Rattle.registry.specs.declared.charter.Charter.{Charter}
 use Rattle.registry.specs.declared.rows.HolderRows.{HolderRows}
-use Rattle.registry.specs.Answer.{AnswersList, AnswersNumber, AreFacts}
+use Rattle.registry.specs.Answer.{ListBasis, AnswersNumber, AreFacts}
 use Rattle.registry.specs.declared.command.Command.{Command}
 use Rattle.registry.specs.declared.command.Proposed.{Proposed}
 use Rattle.registry.specs.History.{History}
@@ -19,15 +19,15 @@ use Rattle.registry.specs.Rows.{Rows, rows_if_any, RowsIfAny}
 use Rattle.registry.specs.RowsOfAll.{AllRows, HasRows}
 use Rattle.registry.specs.Values.{HistoryFits, FitIfAny, FilesFit}
 use Rattle.registry.specs.Verdict.{IsLegal, auth_of_number}
-use Rattle.tables.specs.TablesHold.{TablesHold}
-use Rattle.tables.specs.Tables.{desk_tables}
-use Rattle.moving.specs.OldTables.{IsOldSchema, OldTablesHold}
-use Rattle.transactions.specs.Databases.{IsHonest}
-use Rattle.database.specs.Opening.{IsOfAnotherSchema}
-use Rattle.database.specs.OldTablesRead.{OldTablesRead}
-use Rattle.database.specs.TablesRead.{TablesRead}
-use Rattle.loads.specs.declared.answers.Loaded.{Loaded}
-use Rattle.loads.specs.Loads.{AreListed, AreLoaded, AreNumbered, IsLoadedFor, AllGiveOn}
+use Rattle.store_tables.specs.TablesHold.{TablesHold}
+use Rattle.store_tables.specs.Tables.{desk_tables}
+use Rattle.store_schema.specs.OldTables.{IsOldSchema, OldTablesHold}
+use Rattle.store_transactions.specs.Databases.{IsHonest}
+use Rattle.store_open.specs.Opening.{IsOfAnotherSchema}
+use Rattle.store_open.specs.OldTablesRead.{OldTablesRead}
+use Rattle.store_open.specs.TablesRead.{TablesRead}
+use Rattle.store_read.specs.declared.answers.Loaded.{Loaded}
+use Rattle.store_read.specs.Loads.{AreListed, AreLoaded, AreNumbered, IsLoadedFor, AllGiveOn}
 use Rattle.store.specs.PartLoaded.{IsForChanges}
 use Rattle.store.specs.declared.part.Part.{Part}
 use Rattle.store.specs.StoreRows.{AreInRange, StoreView, connection_state, Holds}
@@ -51,7 +51,7 @@ abbrev pub LoadsListsOfHistories : Type 0
 LoadsListsOfHistories =
     (charter : Charter) (history : History) (h : List ℕ) (rows : Option Rows) (part : HolderRows)
     → IsLegal charter history → RowsIfAny history h rows → AreListed rows part
-    → AnswersList history h part.grants.items part.auths.items
+    → ListBasis history h part.grants.items part.auths.items
 
 -- So is what is loaded for a command.
 abbrev pub LoadsFactsOfHistories : Type 0

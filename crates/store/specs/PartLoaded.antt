@@ -5,7 +5,7 @@ use Rattle.registry.specs.declared.command.Proposed.{Proposed}
 use Rattle.registry.specs.declared.limits.TheConstants.{MOST_AUTHORIZATIONS}
 use Rattle.registry.specs.PartOfRows.{looked_for}
 use Rattle.registry.specs.Rows.{Rows, auths_if_any}
-use Rattle.loads.specs.Loads.{AreCounted, AreHoldings, AreInOrder, auths_held, created_if_any}
+use Rattle.store_read.specs.Loads.{AreCounted, AreHoldings, AreInOrder, auths_held, created_if_any}
 use Rattle.store.specs.declared.part.Part.{Part}
 
 -- The grants, the counters and the addresses of the holder, and of its authorizations those that the rules of the changes

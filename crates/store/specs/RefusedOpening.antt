@@ -1,14 +1,14 @@
 -- What an opening or a making of a store that was refused leaves.
 use Rattle.std.specs.Prelude.{◌≡◌, ◌≢◌, IsTrue}
-use Rattle.charters.specs.CharterSets.{CharterSets}
+use Rattle.registry.specs.CharterSets.{CharterSets}
 use Rattle.sqlite.specs.Held.{Held, state}
 use Rattle.sqlite.specs.State.{State, HasCleanDisk}
 use Rattle.sqlite.specs.Store.{Ghosts}
-use Rattle.transactions.specs.Databases.{LeavesOldOrNew}
-use Rattle.transactions.specs.Statements.{IsAsBefore}
-use Rattle.transactions.specs.declared.fault.StoreFault.{StoreFault}
-use Rattle.transactions.specs.declared.fault.StoreFault.TheVariants.{Schema}
-use Rattle.database.specs.Opening.{IsOfAnotherSchema, LeavesOldOrMoved}
+use Rattle.store_transactions.specs.Databases.{LeavesOldOrNew}
+use Rattle.store_transactions.specs.Statements.{IsAsBefore}
+use Rattle.store_transactions.specs.declared.fault.StoreFault.{StoreFault}
+use Rattle.store_transactions.specs.declared.fault.StoreFault.TheVariants.{Schema}
+use Rattle.store_open.specs.Opening.{IsOfAnotherSchema, LeavesOldOrMoved}
 
 -- The connection is returned with the fault. If the disk returned what was written, the fault is `Schema` only of what
 -- was found as a database of another schema, the database is as it was found while the connection is open, and a crash

@@ -5,20 +5,20 @@ use Rattle.sqlite.specs.Held.{Held, held_code, state}
 use Rattle.sqlite.specs.State.{State, HasCleanDisk}
 use Rattle.sqlite.specs.Store.{Ghosts}
 use Rattle.sqlite_trees.specs.Tree.{Trees}
-use Rattle.charters.specs.contracts.charter.Charter as charter
-use Rattle.charters.specs.CharterSets.{CharterSets, IsCharter}
+use Rattle.registry.specs.contracts.charter.Charter as charter
+use Rattle.registry.specs.CharterSets.{CharterSets, IsCharter}
 use Rattle.registry.specs.Answer.{holder_of, taker_of}
 use Rattle.registry.specs.declared.change.Change.{Change}
 use Rattle.registry.specs.declared.command.Command.{Command}
 use Rattle.registry.specs.RowsOfAll.{AllRows}
 use Rattle.registry.specs.Values.{FilesFit, FitIfAny}
-use Rattle.tables.specs.Tables.{desk_tables}
-use Rattle.tables.specs.TablesHold.{TablesHold}
-use Rattle.moving.specs.EitherSchema.{AreOfEitherSchema, EitherSchemaHolds}
-use Rattle.transactions.specs.Databases.{IsDeskTrees}
-use Rattle.database.specs.Opening.{IsLeftAlone}
-use Rattle.database.specs.TablesRead.{TablesRead}
-use Rattle.edits.specs.Changes.{RowChange, PlacesExceptions}
+use Rattle.store_tables.specs.Tables.{desk_tables}
+use Rattle.store_tables.specs.TablesHold.{TablesHold}
+use Rattle.store_schema.specs.EitherSchema.{AreOfEitherSchema, EitherSchemaHolds}
+use Rattle.store_transactions.specs.Databases.{IsDeskTrees}
+use Rattle.store_open.specs.Opening.{IsLeftAlone}
+use Rattle.store_open.specs.TablesRead.{TablesRead}
+use Rattle.store_write.specs.Changes.{RowChange, PlacesExceptions}
 
 -- a store as its connection and its charter
 pub record StoreView (S : Type 0) : Type 0 where
@@ -41,9 +41,9 @@ Holds g store rows =
     → TablesHold store.charter rows (connection_state g store).now.trees
 
 -- this holds for the rows that a store holds
-abbrev pub OfHeldRows :
+abbrev pub EachHeldRows :
     {S : Type 0} → Ghosts S → StoreView S → (AllRows → Type 0) → Type 0
-OfHeldRows g store so = (rows : AllRows) → Holds g store rows → so rows
+EachHeldRows g store so = (rows : AllRows) → Holds g store rows → so rows
 
 -- the rows of each holder that the command names fit
 abbrev pub NamedFit : Command → AllRows → Type 0
@@ -52,8 +52,8 @@ NamedFit command rows =
     × IfSome (taker_of command) (λ h. FitIfAny (rows.of_holder h))
 
 -- this holds, unless the disk returned what was not written
-abbrev pub IfClean : {S : Type 0} → Ghosts S → StoreView S → Type 0 → Type 0
-IfClean g store so = HasCleanDisk (connection_state g store) → so
+abbrev pub OnCleanStore : {S : Type 0} → Ghosts S → StoreView S → Type 0 → Type 0
+OnCleanStore g store so = HasCleanDisk (connection_state g store) → so
 
 -- the tables hold the rows after the change, if they held those before it
 abbrev pub HoldsAfter : {S : Type 0} → Ghosts S → StoreView S → StoreView S → RowChange → Type 0

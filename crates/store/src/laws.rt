@@ -45,7 +45,7 @@ pub fn part_of_a_history()
 pub fn rows_of_a_history_fit()
     ensures { RowsOfHistoriesFit }
 {
-    histories::laws::legal_rows_fit();
+    registry_laws::histories::legal_rows_fit();
 }
 
 /// The SLURM files of a history whose values are those of their types are in their ranges, so that
@@ -53,7 +53,7 @@ pub fn rows_of_a_history_fit()
 pub fn files_of_a_history_fit()
     ensures { FilesOfHistoriesFit }
 {
-    histories::laws::files_in_force_fit();
+    registry_laws::histories::files_in_force_fit();
 }
 
 /// Each authorization in force of a legal history whose values are those of their types gives a
@@ -61,7 +61,7 @@ pub fn files_of_a_history_fit()
 pub fn auths_of_a_history_give()
     ensures { AuthsOfHistoriesGive }
 {
-    histories::laws::legal_rows_fit();
+    registry_laws::histories::legal_rows_fit();
 }
 
 /// If the tables hold a charter and the rows of a legal history whose values are those of their
@@ -69,8 +69,8 @@ pub fn auths_of_a_history_give()
 pub fn tables_of_a_history_read()
     ensures { HistoriesRead }
 {
-    histories::laws::legal_rows_fit();
-    histories::laws::files_in_force_fit();
+    registry_laws::histories::legal_rows_fit();
+    registry_laws::histories::files_in_force_fit();
 }
 
 /// If tables of schema 1 hold a charter and the rows of a legal history whose values are those of
@@ -78,8 +78,8 @@ pub fn tables_of_a_history_read()
 pub fn old_tables_of_a_history_read()
     ensures { OldHistoriesRead }
 {
-    histories::laws::legal_rows_fit();
-    histories::laws::files_in_force_fit();
+    registry_laws::histories::legal_rows_fit();
+    registry_laws::histories::files_in_force_fit();
 }
 
 /// The rows of tables that read are in range, so that after an opening no load answers `Schema`:
@@ -108,5 +108,5 @@ pub fn tables_that_read_are_ours()
     ensures now { TablesThatReadAreOurs }
     ensures old { OldTablesThatReadAreOurs }
 {
-    tables::laws::desk_tables_are_named();
+    store_tables::laws::desk_tables_are_named();
 }

@@ -6,7 +6,7 @@ mod loss;
 mod part;
 mod store;
 
-pub use loads::Loaded;
 pub use part::Part;
 pub use store::Store;
-pub use transactions::StoreFault;
+pub use store_read::Loaded;
+pub use store_transactions::StoreFault;

@@ -5,19 +5,19 @@ ghost use Rattle.std.specs.Ordering.{nat_cmp};
 ghost use Rattle.sqlite.specs.Held.{state};
 ghost use Rattle.addr.specs.Address.{overlaps};
 ghost use Rattle.registry.specs.Values.{FitIfAny};
-ghost use Rattle.transactions.specs.Queries.{IsAsked, IsClean, IsReadyToAsk};
-ghost use Rattle.loads.specs.Loads.{AreOverlapping, IsForLoss, IsOf, IsOpenWith, auths_held};
+ghost use Rattle.store_transactions.specs.Queries.{IsAsked, IsClean, IsReadyToAsk};
+ghost use Rattle.store_read.specs.Loads.{AreOverlapping, IsForLoss, EachRowsOf, OpenEachRows, auths_held};
 ghost use Rattle.store.specs.steps.PartNumbers.{has_number, overlaps_numbered};
 
 use crate::part::load_each;
 use addr::{Name, Prefix};
-use loads::{load_entries_up_to, load_holdings};
 use registry::{Auth, HolderRows};
 use sorted_items::sort_and_dedup;
 use sqlite::{Alter, Connection};
 use std::alloc::{AllocError, Global};
-use tables::EntryRow;
-use transactions::StoreFault;
+use store_read::{load_entries_up_to, load_holdings};
+use store_tables::EntryRow;
+use store_transactions::StoreFault;
 
 /// The numbers of the rows whose prefixes share an address with the prefix.
 fn numbers_overlapping(
@@ -43,12 +43,12 @@ fn load_numbers<S: Alter>(
 ) -> Result<Vec<u32>, StoreFault>
     requires { IsReadyToAsk S.Store conn.old }
     ensures asked { IsAsked S.Store conn.old conn.new result }
-    ensures found { IsClean S.Store conn.new → IfOk result (λ numbers. IsOf (λ rows. (n : ℕ)
+    ensures found { IsClean S.Store conn.new → IfOk result (λ numbers. EachRowsOf (λ rows. (n : ℕ)
         → has_number numbers.items n ≡ overlaps_numbered prefix.now (auths_held rows) n)
         holder.now (state S.Store conn.old)) }
     ensures rising { IfOk result (λ numbers. IsStrictlySortedBy nat_cmp numbers.items) }
     ensures schema { IsClean S.Store conn.new → result ≡ Err StoreFault.Schema
-        → IsOpenWith (λ all. ¬ FitIfAny (all.of_holder holder.now)) (state S.Store conn.old) }
+        → OpenEachRows (λ all. ¬ FitIfAny (all.of_holder holder.now)) (state S.Store conn.old) }
 {
     let entries = load_entries_up_to(conn, alloc, holder, prefix)?;
     let mut numbers = numbers_overlapping(alloc, &entries, prefix)?;
@@ -65,15 +65,15 @@ fn load_overlapping<S: Alter>(
 ) -> Result<Vec<Auth>, StoreFault>
     requires { IsReadyToAsk S.Store conn.old }
     ensures asked { IsAsked S.Store conn.old conn.new result }
-    ensures found { IsClean S.Store conn.new → IfOk result (λ auths. IsOf (λ rows.
+    ensures found { IsClean S.Store conn.new → IfOk result (λ auths. EachRowsOf (λ rows.
         AreOverlapping prefix.now (auths_held rows) auths.items)
         holder.now (state S.Store conn.old)) }
     ensures schema { IsClean S.Store conn.new → result ≡ Err StoreFault.Schema
-        → IsOpenWith (λ all. ¬ FitIfAny (all.of_holder holder.now)) (state S.Store conn.old) }
+        → OpenEachRows (λ all. ¬ FitIfAny (all.of_holder holder.now)) (state S.Store conn.old) }
 {
     // For the proof: its contract says that what the connection shows obeys the schema.
     let _schema = conn.schema();
-    transactions::laws::claims_differ();
+    store_transactions::laws::claims_differ();
     let numbers = load_numbers(conn, alloc, holder, prefix)?;
     load_each(conn, alloc, holder, &numbers)
 }
@@ -87,10 +87,10 @@ pub(crate) fn load_for_loss<S: Alter>(
 ) -> Result<Option<HolderRows>, StoreFault>
     requires { IsReadyToAsk S.Store conn.old }
     ensures asked { IsAsked S.Store conn.old conn.new result }
-    ensures found { IsClean S.Store conn.new → IfOk result (λ part. IsOf (λ rows.
+    ensures found { IsClean S.Store conn.new → IfOk result (λ part. EachRowsOf (λ rows.
         IsForLoss prefix.now rows part) holder.now (state S.Store conn.old)) }
     ensures schema { IsClean S.Store conn.new → result ≡ Err StoreFault.Schema
-        → IsOpenWith (λ all. ¬ FitIfAny (all.of_holder holder.now)) (state S.Store conn.old) }
+        → OpenEachRows (λ all. ¬ FitIfAny (all.of_holder holder.now)) (state S.Store conn.old) }
 {
     let Some(held) = load_holdings(conn, alloc, holder)? else {
         return Ok(None);

@@ -7,19 +7,19 @@ ghost use Rattle.registry.specs.declared.authorization.Auth.{Auth};
 ghost use Rattle.registry.specs.declared.limits.TheConstants.{MOST_AUTHORIZATIONS};
 ghost use Rattle.registry.specs.PartOfRows.{looked_for};
 ghost use Rattle.registry.specs.Values.{FitIfAny};
-ghost use Rattle.transactions.specs.Queries.{IsAsked, IsClean, IsReadyToAsk};
-ghost use Rattle.loads.specs.Loads.{AreInOrder, IsOf, IsOpenWith, auths_held};
+ghost use Rattle.store_transactions.specs.Queries.{IsAsked, IsClean, IsReadyToAsk};
+ghost use Rattle.store_read.specs.Loads.{AreInOrder, EachRowsOf, OpenEachRows, auths_held};
 ghost use Rattle.store.specs.PartLoaded.{IsForChanges};
 ghost use Rattle.store.specs.steps.PartNumbers.{AreOfNumbers, asks_for, gives_numbered, has_number, some_asks_for};
 
-use addr::{Asn, Name};
-use loads::{count_auths, load_auths_numbered, load_given, load_grants_counted, load_runs};
-use registry::{Auth, HolderRows, MOST_AUTHORIZATIONS, Proposed, RoaPrefix};
+use addr::{Asn, Name, RoaPrefix};
+use registry::{Auth, HolderRows, MOST_AUTHORIZATIONS, Proposed};
 use sorted_items::sort_and_dedup;
 use sqlite::{Alter, Connection};
 use std::alloc::{AllocError, Global};
-use tables::EntryRow;
-use transactions::StoreFault;
+use store_read::{count_auths, load_auths_numbered, load_given, load_grants_counted, load_runs};
+use store_tables::EntryRow;
+use store_transactions::StoreFault;
 
 /// What is loaded of a holder for hypothetical changes: rows with at least what their rules read,
 /// if it is registered, and how many of its authorizations these leave out; or 0, if the changes
@@ -53,12 +53,12 @@ fn push_given<S: Alter>(
     requires ready { IsReadyToAsk S.Store conn.old }
     requires is_open { IsClean S.Store conn.old → IsTrue (state S.Store conn.old).is_open }
     ensures asked { IsAsked S.Store conn.old conn.new result }
-    ensures found { IsClean S.Store conn.new → OnOk result (IsOf (λ rows. (n : ℕ)
+    ensures found { IsClean S.Store conn.new → OnOk result (EachRowsOf (λ rows. (n : ℕ)
         → has_number numbers.new.items n ≡ (has_number numbers.old.items n
         || gives_numbered asn entries.now (auths_held rows) n))
         holder.now (state S.Store conn.old)) }
     ensures schema { IsClean S.Store conn.new → result ≡ Err StoreFault.Schema
-        → IsOpenWith (λ all. ¬ FitIfAny (all.of_holder holder.now)) (state S.Store conn.old) }
+        → OpenEachRows (λ all. ¬ FitIfAny (all.of_holder holder.now)) (state S.Store conn.old) }
 {
     for entry in entries {
         let given = load_given(conn, alloc, holder, asn, entry)?;
@@ -78,12 +78,12 @@ fn push_looked_for<S: Alter>(
     requires ready { IsReadyToAsk S.Store conn.old }
     requires is_open { IsClean S.Store conn.old → IsTrue (state S.Store conn.old).is_open }
     ensures asked { IsAsked S.Store conn.old conn.new result }
-    ensures found { IsClean S.Store conn.new → OnOk result (IsOf (λ rows. (n : ℕ)
+    ensures found { IsClean S.Store conn.new → OnOk result (EachRowsOf (λ rows. (n : ℕ)
         → has_number numbers.new.items n
         ≡ (has_number numbers.old.items n || asks_for change.now (auths_held rows) n))
         holder.now (state S.Store conn.old)) }
     ensures schema { IsClean S.Store conn.new → result ≡ Err StoreFault.Schema
-        → IsOpenWith (λ all. ¬ FitIfAny (all.of_holder holder.now)) (state S.Store conn.old) }
+        → OpenEachRows (λ all. ¬ FitIfAny (all.of_holder holder.now)) (state S.Store conn.old) }
 {
     match change {
         Proposed::Create(terms) => {
@@ -107,12 +107,12 @@ fn load_numbers<S: Alter>(
     requires ready { IsReadyToAsk S.Store conn.old }
     requires is_open { IsClean S.Store conn.old → IsTrue (state S.Store conn.old).is_open }
     ensures asked { IsAsked S.Store conn.old conn.new result }
-    ensures found { IsClean S.Store conn.new → IfOk result (λ numbers. IsOf (λ rows. (n : ℕ)
+    ensures found { IsClean S.Store conn.new → IfOk result (λ numbers. EachRowsOf (λ rows. (n : ℕ)
         → has_number numbers.items n ≡ some_asks_for changes.now (auths_held rows) n)
         holder.now (state S.Store conn.old)) }
     ensures rising { IfOk result (λ numbers. IsStrictlySortedBy nat_cmp numbers.items) }
     ensures schema { IsClean S.Store conn.new → result ≡ Err StoreFault.Schema
-        → IsOpenWith (λ all. ¬ FitIfAny (all.of_holder holder.now)) (state S.Store conn.old) }
+        → OpenEachRows (λ all. ¬ FitIfAny (all.of_holder holder.now)) (state S.Store conn.old) }
 {
     let mut numbers = Vec::new(alloc);
     for change in changes {
@@ -133,11 +133,11 @@ pub(crate) fn load_each<S: Alter>(
     requires is_open { IsClean S.Store conn.old → IsTrue (state S.Store conn.old).is_open }
     requires rising { IsStrictlySortedBy nat_cmp numbers.now }
     ensures asked { IsAsked S.Store conn.old conn.new result }
-    ensures found { IsClean S.Store conn.new → IfOk result (λ auths. IsOf (λ rows.
+    ensures found { IsClean S.Store conn.new → IfOk result (λ auths. EachRowsOf (λ rows.
         AreOfNumbers numbers.now (auths_held rows) auths.items)
         holder.now (state S.Store conn.old)) }
     ensures schema { IsClean S.Store conn.new → result ≡ Err StoreFault.Schema
-        → IsOpenWith (λ all. ¬ FitIfAny (all.of_holder holder.now)) (state S.Store conn.old) }
+        → OpenEachRows (λ all. ¬ FitIfAny (all.of_holder holder.now)) (state S.Store conn.old) }
 {
     let mut auths = Vec::new(alloc);
     for number in numbers {
@@ -157,15 +157,15 @@ fn load_looked_for<S: Alter>(
     requires ready { IsReadyToAsk S.Store conn.old }
     requires is_open { IsClean S.Store conn.old → IsTrue (state S.Store conn.old).is_open }
     ensures asked { IsAsked S.Store conn.old conn.new result }
-    ensures found { IsClean S.Store conn.new → IfOk result (λ auths. IsOf (λ rows.
+    ensures found { IsClean S.Store conn.new → IfOk result (λ auths. EachRowsOf (λ rows.
         AreInOrder (λ (x : Auth). x.number) (filter (looked_for changes.now) (auths_held rows))
         auths.items) holder.now (state S.Store conn.old)) }
     ensures schema { IsClean S.Store conn.new → result ≡ Err StoreFault.Schema
-        → IsOpenWith (λ all. ¬ FitIfAny (all.of_holder holder.now)) (state S.Store conn.old) }
+        → OpenEachRows (λ all. ¬ FitIfAny (all.of_holder holder.now)) (state S.Store conn.old) }
 {
     // For the proof: its contract says that what the connection shows obeys the schema.
     let _schema = conn.schema();
-    transactions::laws::claims_differ();
+    store_transactions::laws::claims_differ();
     let numbers = load_numbers(conn, alloc, holder, changes)?;
     load_each(conn, alloc, holder, &numbers)
 }
@@ -182,7 +182,7 @@ fn count_others<S: Alter>(
     requires ready { IsReadyToAsk S.Store conn.old }
     requires is_open { IsClean S.Store conn.old → IsTrue (state S.Store conn.old).is_open }
     ensures asked { IsAsked S.Store conn.old conn.new result }
-    ensures found { IsClean S.Store conn.new → IfOk result (λ others. IsOf (λ rows.
+    ensures found { IsClean S.Store conn.new → IfOk result (λ others. EachRowsOf (λ rows.
         loaded ≤ length (auths_held rows) → (others + loaded ≡ length (auths_held rows))
         ⊎ ((others ≡ 0) × (created + more < MOST_AUTHORIZATIONS)))
         holder.now (state S.Store conn.old)) }
@@ -204,10 +204,10 @@ pub(crate) fn load_part<S: Alter>(
 ) -> Result<Part, StoreFault>
     requires { IsReadyToAsk S.Store conn.old }
     ensures asked { IsAsked S.Store conn.old conn.new result }
-    ensures found { IsClean S.Store conn.new → IfOk result (λ part. IsOf (λ rows.
+    ensures found { IsClean S.Store conn.new → IfOk result (λ part. EachRowsOf (λ rows.
         IsForChanges changes.now rows part) holder.now (state S.Store conn.old)) }
     ensures schema { IsClean S.Store conn.new → result ≡ Err StoreFault.Schema
-        → IsOpenWith (λ all. ¬ FitIfAny (all.of_holder holder.now)) (state S.Store conn.old) }
+        → OpenEachRows (λ all. ¬ FitIfAny (all.of_holder holder.now)) (state S.Store conn.old) }
 {
     let Some(counted) = load_grants_counted(conn, alloc, holder)? else {
         return Ok(Part {

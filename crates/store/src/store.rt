@@ -5,27 +5,27 @@ ghost use Rattle.sqlite.specs.State.{HasCleanDisk};
 ghost use Rattle.registry.specs.RowsOfAll.{blank_rows, changed_rows};
 ghost use Rattle.store.specs.RefusedOpening.{IsGivenBack, IsNotMade};
 ghost use Rattle.store.specs.StoreRows.{IsOpened};
-ghost use Rattle.transactions.specs.Databases.{HasDeskTables, IsUnused, IsNew, LeavesNew, IsHonest};
-ghost use Rattle.database.specs.Opening.{IsOfAnotherSchema};
+ghost use Rattle.store_transactions.specs.Databases.{HasDeskTables, IsUnused, IsNew, LeavesNew, IsHonest};
+ghost use Rattle.store_open.specs.Opening.{IsOfAnotherSchema};
 ghost use Rattle.store.specs.steps.Commits.{CommitsChange, MayCommit};
-ghost use Rattle.transactions.specs.Statements.{IfCommitted, IfRolledBack, CommitsAtMost};
+ghost use Rattle.store_transactions.specs.Statements.{IfCommitted, IfRolledBack, CommitsAtMost};
 
 use crate::loss::load_for_loss;
 use crate::part::{Part, load_part};
 use addr::{Day, Name, Prefix, Vrp};
-use database::{make_tables, open_tables};
-use edits::make_change;
-use loads::{
-    Loaded, is_registered, load_files, load_for_amend, load_for_create, load_for_delegate,
-    load_grants_counted, load_holdings, load_listed, load_numbered, load_rows, load_vrps,
-    some_overlap,
-};
 use registry::{Answers, Change, Charter, Command, HolderRows, Proposed};
 use slurm::Slurm;
 use sqlite::{Alter, Connection, MemStore};
 use std::alloc::Global;
 use std::marker::Model;
-use transactions::StoreFault;
+use store_open::{make_tables, open_tables};
+use store_read::{
+    Loaded, is_registered, load_files, load_for_amend, load_for_create, load_for_delegate,
+    load_grants_counted, load_holdings, load_listed, load_numbered, load_rows, load_vrps,
+    some_overlap,
+};
+use store_transactions::StoreFault;
+use store_write::make_change;
 
 /// Makes the change in one transaction.
 fn commit_change<S: Alter>(conn: &mut Connection<S>, change: &Change) -> Result<(), StoreFault>
@@ -73,7 +73,7 @@ impl<S: Alter> Model for Store<S> {
     ghost use Rattle.std.specs.Prelude.{◌≡◌, false};
     ghost use Rattle.sqlite.specs.Held.{state};
     ghost use Rattle.store.specs.StoreRows.{StoreView, view_code};
-    ghost use Rattle.transactions.specs.Databases.{IsDeskWhileOpen};
+    ghost use Rattle.store_transactions.specs.Databases.{IsDeskWhileOpen};
 
     ghost Value = { StoreView S };
 
@@ -86,7 +86,7 @@ impl<S: Alter> Model for Store<S> {
 }
 
 impl<S: Alter + Drop> Store<S> {
-    ghost use Rattle.store.specs.StoreRows.{connection_state, Holds, IfClean};
+    ghost use Rattle.store.specs.StoreRows.{connection_state, Holds, OnCleanStore};
 
     /// A store over a connection to a database that has no table yet, with this charter, where no
     /// holder is registered and no exception is in force. A connection in a transaction is refused,
@@ -97,11 +97,11 @@ impl<S: Alter + Drop> Store<S> {
         ensures rows { IfOk result (λ store. Holds S.Store store blank_rows) }
         ensures unused { OnOk result (IsUnused (state S.Store conn)) }
         ensures unlimited { IfOk result (λ store. store.connection.step_limit ≡ None) }
-        ensures made { IfOk result (λ store. IfClean S.Store store
+        ensures made { IfOk result (λ store. OnCleanStore S.Store store
             (IsNew charter.now (connection_state S.Store store))) }
-        ensures clean { IfOk result (λ store. IfClean S.Store store
+        ensures clean { IfOk result (λ store. OnCleanStore S.Store store
             (HasCleanDisk (state S.Store conn))) }
-        ensures left { IfOk result (λ store. IfClean S.Store store
+        ensures left { IfOk result (λ store. OnCleanStore S.Store store
             (LeavesNew charter.now (connection_state S.Store store))) }
         ensures no_schema { result ≢ Err StoreFault.Schema }
     {
@@ -121,11 +121,11 @@ impl<S: Alter + Drop> Store<S> {
         ensures rows { IfOk result (λ store. Holds S.Store store blank_rows) }
         ensures unused { OnOk result (IsUnused (state S.Store conn)) }
         ensures unlimited { IfOk result (λ store. store.connection.step_limit ≡ None) }
-        ensures made { IfOk result (λ store. IfClean S.Store store
+        ensures made { IfOk result (λ store. OnCleanStore S.Store store
             (IsNew charter.now (connection_state S.Store store))) }
-        ensures clean { IfOk result (λ store. IfClean S.Store store
+        ensures clean { IfOk result (λ store. OnCleanStore S.Store store
             (HasCleanDisk (state S.Store conn))) }
-        ensures left { IfOk result (λ store. IfClean S.Store store
+        ensures left { IfOk result (λ store. OnCleanStore S.Store store
             (LeavesNew charter.now (connection_state S.Store store))) }
         ensures err { IfErr result (λ refused.
             IsNotMade S.Store charter.now (state S.Store conn) refused.0 refused.1) }
@@ -147,10 +147,10 @@ impl<S: Alter + Drop> Store<S> {
     /// a transaction is refused, and a limit of its steps is lifted. What was done to a database
     /// that is refused is in no value: a caller that needs to know calls `open_or_return`.
     pub fn open_from(alloc: Global, conn: Connection<S>) -> Result<Self, StoreFault>
-        ensures opened { IfOk result (λ store. IfClean S.Store store
+        ensures opened { IfOk result (λ store. OnCleanStore S.Store store
             (IsOpened S.Store (state S.Store conn) store)) }
         ensures unlimited { IfOk result (λ store. store.connection.step_limit ≡ None) }
-        ensures clean { IfOk result (λ store. IfClean S.Store store
+        ensures clean { IfOk result (λ store. OnCleanStore S.Store store
             (HasCleanDisk (state S.Store conn))) }
         ensures schema { IsHonest S.Store → result ≡ Err StoreFault.Schema
             → IsOfAnotherSchema (state S.Store conn).now }
@@ -167,10 +167,10 @@ impl<S: Alter + Drop> Store<S> {
         alloc: Global,
         mut conn: Connection<S>,
     ) -> Result<Self, (StoreFault, Connection<S>)>
-        ensures opened { IfOk result (λ store. IfClean S.Store store
+        ensures opened { IfOk result (λ store. OnCleanStore S.Store store
             (IsOpened S.Store (state S.Store conn) store)) }
         ensures unlimited { IfOk result (λ store. store.connection.step_limit ≡ None) }
-        ensures clean { IfOk result (λ store. IfClean S.Store store
+        ensures clean { IfOk result (λ store. OnCleanStore S.Store store
             (HasCleanDisk (state S.Store conn))) }
         ensures err { IfErr result (λ refused.
             IsGivenBack S.Store (state S.Store conn) refused.0 refused.1) }
@@ -195,11 +195,11 @@ impl<S: Alter> Store<S> {
     ghost use Rattle.registry.specs.Values.{FitIfAny, FilesFit};
     ghost use Rattle.store.specs.Given.{GivenOnce};
     ghost use Rattle.store.specs.PartLoaded.{IsForChanges};
-    ghost use Rattle.loads.specs.Loads.{AllGiveOn, AreCounted, AreFilesOf, AreLoaded};
-    ghost use Rattle.loads.specs.Loads.{AreHoldings, AreListed, AreNumbered, IsForLoss, IsLoadedFor};
-    ghost use Rattle.store.specs.StoreRows.{connection_state, Holds, IsRead, NamedFit, OfHeldRows};
-    ghost use Rattle.transactions.specs.Databases.{IsDeskWhileOpen};
-    ghost use Rattle.store.specs.StoreRows.{IfClean, HoldsAfter, MayLeave, LeavesOnly};
+    ghost use Rattle.store_read.specs.Loads.{AllGiveOn, AreCounted, AreFilesOf, AreLoaded};
+    ghost use Rattle.store_read.specs.Loads.{AreHoldings, AreListed, AreNumbered, IsForLoss, IsLoadedFor};
+    ghost use Rattle.store.specs.StoreRows.{connection_state, Holds, IsRead, NamedFit, EachHeldRows};
+    ghost use Rattle.store_transactions.specs.Databases.{IsDeskWhileOpen};
+    ghost use Rattle.store.specs.StoreRows.{OnCleanStore, HoldsAfter, MayLeave, LeavesOnly};
     ghost use Rattle.store.specs.StoreRows.{KeepsSchema, LeavesPlaced};
 
     /// The operators and the pool.
@@ -216,10 +216,10 @@ impl<S: Alter> Store<S> {
         holder: &Name,
     ) -> Result<Option<HolderRows>, StoreFault>
         ensures read { IsRead S.Store self.old self.new }
-        ensures found { IfClean S.Store self.new (IfOk result (λ loaded.
-            OfHeldRows S.Store self.old (λ rows. AreLoaded (rows.of_holder holder.now) loaded))) }
-        ensures schema { IfClean S.Store self.new (result ≡ Err StoreFault.Schema
-            → OfHeldRows S.Store self.old (λ rows. ¬ FitIfAny (rows.of_holder holder.now))) }
+        ensures found { OnCleanStore S.Store self.new (IfOk result (λ loaded.
+            EachHeldRows S.Store self.old (λ rows. AreLoaded (rows.of_holder holder.now) loaded))) }
+        ensures schema { OnCleanStore S.Store self.new (result ≡ Err StoreFault.Schema
+            → EachHeldRows S.Store self.old (λ rows. ¬ FitIfAny (rows.of_holder holder.now))) }
     {
         load_rows(&mut self.conn, alloc, holder)
     }
@@ -233,11 +233,11 @@ impl<S: Alter> Store<S> {
         number: u32,
     ) -> Result<HolderRows, StoreFault>
         ensures read { IsRead S.Store self.old self.new }
-        ensures found { IfClean S.Store self.new (IfOk result (λ part.
-            OfHeldRows S.Store self.old
+        ensures found { OnCleanStore S.Store self.new (IfOk result (λ part.
+            EachHeldRows S.Store self.old
             (λ rows. AreNumbered number (rows.of_holder holder.now) part))) }
-        ensures schema { IfClean S.Store self.new (result ≡ Err StoreFault.Schema
-            → OfHeldRows S.Store self.old (λ rows. ¬ FitIfAny (rows.of_holder holder.now))) }
+        ensures schema { OnCleanStore S.Store self.new (result ≡ Err StoreFault.Schema
+            → EachHeldRows S.Store self.old (λ rows. ¬ FitIfAny (rows.of_holder holder.now))) }
     {
         load_numbered(&mut self.conn, alloc, holder, number)
     }
@@ -246,10 +246,10 @@ impl<S: Alter> Store<S> {
     /// not registered.
     pub fn load_listed(&mut self, alloc: Global, holder: &Name) -> Result<HolderRows, StoreFault>
         ensures read { IsRead S.Store self.old self.new }
-        ensures found { IfClean S.Store self.new (IfOk result (λ part.
-            OfHeldRows S.Store self.old (λ rows. AreListed (rows.of_holder holder.now) part))) }
-        ensures schema { IfClean S.Store self.new (result ≡ Err StoreFault.Schema
-            → OfHeldRows S.Store self.old (λ rows. ¬ FitIfAny (rows.of_holder holder.now))) }
+        ensures found { OnCleanStore S.Store self.new (IfOk result (λ part.
+            EachHeldRows S.Store self.old (λ rows. AreListed (rows.of_holder holder.now) part))) }
+        ensures schema { OnCleanStore S.Store self.new (result ≡ Err StoreFault.Schema
+            → EachHeldRows S.Store self.old (λ rows. ¬ FitIfAny (rows.of_holder holder.now))) }
     {
         load_listed(&mut self.conn, alloc, holder)
     }
@@ -257,11 +257,11 @@ impl<S: Alter> Store<S> {
     /// Whether the holder is registered.
     pub fn is_registered(&mut self, alloc: Global, holder: &Name) -> Result<bool, StoreFault>
         ensures read { IsRead S.Store self.old self.new }
-        ensures found { IfClean S.Store self.new (IfOk result (λ registered.
-            OfHeldRows S.Store self.old
+        ensures found { OnCleanStore S.Store self.new (IfOk result (λ registered.
+            EachHeldRows S.Store self.old
             (λ rows. registered ≡ is_some (rows.of_holder holder.now)))) }
-        ensures schema { IfClean S.Store self.new (result ≡ Err StoreFault.Schema
-            → OfHeldRows S.Store self.old (λ rows. ¬ FitIfAny (rows.of_holder holder.now))) }
+        ensures schema { OnCleanStore S.Store self.new (result ≡ Err StoreFault.Schema
+            → EachHeldRows S.Store self.old (λ rows. ¬ FitIfAny (rows.of_holder holder.now))) }
     {
         is_registered(&mut self.conn, alloc, holder)
     }
@@ -274,12 +274,12 @@ impl<S: Alter> Store<S> {
         second: &Name,
     ) -> Result<(Option<HolderRows>, Option<HolderRows>), StoreFault>
         ensures read { IsRead S.Store self.old self.new }
-        ensures found { IfClean S.Store self.new (IfOk result (λ both.
-            OfHeldRows S.Store self.old (λ rows.
+        ensures found { OnCleanStore S.Store self.new (IfOk result (λ both.
+            EachHeldRows S.Store self.old (λ rows.
             AreLoaded (rows.of_holder first.now) both.0
             × AreLoaded (rows.of_holder second.now) both.1))) }
-        ensures schema { IfClean S.Store self.new (result ≡ Err StoreFault.Schema
-            → OfHeldRows S.Store self.old
+        ensures schema { OnCleanStore S.Store self.new (result ≡ Err StoreFault.Schema
+            → EachHeldRows S.Store self.old
             (λ rows. ¬ (FitIfAny (rows.of_holder first.now)
             × FitIfAny (rows.of_holder second.now)))) }
     {
@@ -292,10 +292,10 @@ impl<S: Alter> Store<S> {
     /// commands a part of the holder's rows, by key.
     pub fn load_for(&mut self, alloc: Global, command: &Command) -> Result<Loaded, StoreFault>
         ensures read { IsRead S.Store self.old self.new }
-        ensures found { IfClean S.Store self.new (IfOk result (λ loaded.
-            OfHeldRows S.Store self.old (λ rows. IsLoadedFor command.now rows loaded))) }
-        ensures schema { IfClean S.Store self.new (result ≡ Err StoreFault.Schema
-            → OfHeldRows S.Store self.old (λ rows. ¬ NamedFit command.now rows)) }
+        ensures found { OnCleanStore S.Store self.new (IfOk result (λ loaded.
+            EachHeldRows S.Store self.old (λ rows. IsLoadedFor command.now rows loaded))) }
+        ensures schema { OnCleanStore S.Store self.new (result ≡ Err StoreFault.Schema
+            → EachHeldRows S.Store self.old (λ rows. ¬ NamedFit command.now rows)) }
     {
         match command {
             Command::Register { holder } => self.load_counted(alloc, holder),
@@ -337,11 +337,11 @@ impl<S: Alter> Store<S> {
         changes: &[Proposed],
     ) -> Result<Part, StoreFault>
         ensures read { IsRead S.Store self.old self.new }
-        ensures found { IfClean S.Store self.new (IfOk result (λ part.
-            OfHeldRows S.Store self.old
+        ensures found { OnCleanStore S.Store self.new (IfOk result (λ part.
+            EachHeldRows S.Store self.old
             (λ rows. IsForChanges changes.now (rows.of_holder holder.now) part))) }
-        ensures schema { IfClean S.Store self.new (result ≡ Err StoreFault.Schema
-            → OfHeldRows S.Store self.old (λ rows. ¬ FitIfAny (rows.of_holder holder.now))) }
+        ensures schema { OnCleanStore S.Store self.new (result ≡ Err StoreFault.Schema
+            → EachHeldRows S.Store self.old (λ rows. ¬ FitIfAny (rows.of_holder holder.now))) }
     {
         load_part(&mut self.conn, alloc, holder, changes)
     }
@@ -349,11 +349,11 @@ impl<S: Alter> Store<S> {
     /// The grants of the holder and its counters.
     fn load_counted(&mut self, alloc: Global, holder: &Name) -> Result<Loaded, StoreFault>
         ensures read { IsRead S.Store self.old self.new }
-        ensures found { IfClean S.Store self.new (IfOk result (λ loaded.
-            OfHeldRows S.Store self.old
+        ensures found { OnCleanStore S.Store self.new (IfOk result (λ loaded.
+            EachHeldRows S.Store self.old
             (λ rows. AreCounted (rows.of_holder holder.now) loaded.rows))) }
-        ensures schema { IfClean S.Store self.new (result ≡ Err StoreFault.Schema
-            → OfHeldRows S.Store self.old (λ rows. ¬ FitIfAny (rows.of_holder holder.now))) }
+        ensures schema { OnCleanStore S.Store self.new (result ≡ Err StoreFault.Schema
+            → EachHeldRows S.Store self.old (λ rows. ¬ FitIfAny (rows.of_holder holder.now))) }
     {
         Ok(alone(load_grants_counted(&mut self.conn, alloc, holder)?))
     }
@@ -365,11 +365,11 @@ impl<S: Alter> Store<S> {
         holder: &Name,
     ) -> Result<Option<HolderRows>, StoreFault>
         ensures read { IsRead S.Store self.old self.new }
-        ensures found { IfClean S.Store self.new (IfOk result (λ part.
-            OfHeldRows S.Store self.old
+        ensures found { OnCleanStore S.Store self.new (IfOk result (λ part.
+            EachHeldRows S.Store self.old
             (λ rows. AreHoldings (rows.of_holder holder.now) part))) }
-        ensures schema { IfClean S.Store self.new (result ≡ Err StoreFault.Schema
-            → OfHeldRows S.Store self.old (λ rows. ¬ FitIfAny (rows.of_holder holder.now))) }
+        ensures schema { OnCleanStore S.Store self.new (result ≡ Err StoreFault.Schema
+            → EachHeldRows S.Store self.old (λ rows. ¬ FitIfAny (rows.of_holder holder.now))) }
     {
         load_holdings(&mut self.conn, alloc, holder)
     }
@@ -383,11 +383,11 @@ impl<S: Alter> Store<S> {
         prefix: &Prefix,
     ) -> Result<Option<HolderRows>, StoreFault>
         ensures read { IsRead S.Store self.old self.new }
-        ensures found { IfClean S.Store self.new (IfOk result (λ part.
-            OfHeldRows S.Store self.old
+        ensures found { OnCleanStore S.Store self.new (IfOk result (λ part.
+            EachHeldRows S.Store self.old
             (λ rows. IsForLoss prefix.now (rows.of_holder holder.now) part))) }
-        ensures schema { IfClean S.Store self.new (result ≡ Err StoreFault.Schema
-            → OfHeldRows S.Store self.old (λ rows. ¬ FitIfAny (rows.of_holder holder.now))) }
+        ensures schema { OnCleanStore S.Store self.new (result ≡ Err StoreFault.Schema
+            → EachHeldRows S.Store self.old (λ rows. ¬ FitIfAny (rows.of_holder holder.now))) }
     {
         load_for_loss(&mut self.conn, alloc, holder, prefix)
     }
@@ -401,12 +401,12 @@ impl<S: Alter> Store<S> {
         taker: &Name,
     ) -> Result<Loaded, StoreFault>
         ensures read { IsRead S.Store self.old self.new }
-        ensures found { IfClean S.Store self.new (IfOk result (λ loaded.
-            OfHeldRows S.Store self.old (λ rows.
+        ensures found { OnCleanStore S.Store self.new (IfOk result (λ loaded.
+            EachHeldRows S.Store self.old (λ rows.
             IsForLoss prefix.now (rows.of_holder giver.now) loaded.rows
             × AreHoldings (rows.of_holder taker.now) loaded.taker))) }
-        ensures schema { IfClean S.Store self.new (result ≡ Err StoreFault.Schema
-            → OfHeldRows S.Store self.old
+        ensures schema { OnCleanStore S.Store self.new (result ≡ Err StoreFault.Schema
+            → EachHeldRows S.Store self.old
             (λ rows. ¬ (FitIfAny (rows.of_holder giver.now)
             × FitIfAny (rows.of_holder taker.now)))) }
     {
@@ -427,11 +427,11 @@ impl<S: Alter> Store<S> {
         prefix: &Prefix,
     ) -> Result<Loaded, StoreFault>
         ensures read { IsRead S.Store self.old self.new }
-        ensures found { IfClean S.Store self.new (IfOk result (λ loaded.
-            OfHeldRows S.Store self.old
+        ensures found { OnCleanStore S.Store self.new (IfOk result (λ loaded.
+            EachHeldRows S.Store self.old
             (λ rows. IsForLoss prefix.now (rows.of_holder holder.now) loaded.rows))) }
-        ensures schema { IfClean S.Store self.new (result ≡ Err StoreFault.Schema
-            → OfHeldRows S.Store self.old (λ rows. ¬ FitIfAny (rows.of_holder holder.now))) }
+        ensures schema { OnCleanStore S.Store self.new (result ≡ Err StoreFault.Schema
+            → EachHeldRows S.Store self.old (λ rows. ¬ FitIfAny (rows.of_holder holder.now))) }
     {
         Ok(alone(self.load_for_loss(alloc, holder, prefix)?))
     }
@@ -439,11 +439,11 @@ impl<S: Alter> Store<S> {
     /// All rows of the holder.
     fn load_whole(&mut self, alloc: Global, holder: &Name) -> Result<Loaded, StoreFault>
         ensures read { IsRead S.Store self.old self.new }
-        ensures found { IfClean S.Store self.new (IfOk result (λ loaded.
-            OfHeldRows S.Store self.old
+        ensures found { OnCleanStore S.Store self.new (IfOk result (λ loaded.
+            EachHeldRows S.Store self.old
             (λ rows. AreLoaded (rows.of_holder holder.now) loaded.rows))) }
-        ensures schema { IfClean S.Store self.new (result ≡ Err StoreFault.Schema
-            → OfHeldRows S.Store self.old (λ rows. ¬ FitIfAny (rows.of_holder holder.now))) }
+        ensures schema { OnCleanStore S.Store self.new (result ≡ Err StoreFault.Schema
+            → EachHeldRows S.Store self.old (λ rows. ¬ FitIfAny (rows.of_holder holder.now))) }
     {
         Ok(alone(self.load_holder(alloc, holder)?))
     }
@@ -451,8 +451,8 @@ impl<S: Alter> Store<S> {
     /// Whether some holder holds an address of the prefix.
     pub fn overlapping(&mut self, prefix: &Prefix) -> Result<bool, StoreFault>
         ensures read { IsRead S.Store self.old self.new }
-        ensures found { IfClean S.Store self.new (IfOk result (λ some.
-            OfHeldRows S.Store self.old (λ rows. IsTrue some ↔ IsTaken rows prefix.now))) }
+        ensures found { OnCleanStore S.Store self.new (IfOk result (λ some.
+            EachHeldRows S.Store self.old (λ rows. IsTrue some ↔ IsTaken rows prefix.now))) }
         ensures no_schema { result ≢ Err StoreFault.Schema }
     {
         Ok(some_overlap(&mut self.conn, prefix)?)
@@ -461,13 +461,13 @@ impl<S: Alter> Store<S> {
     /// The VRPs of the authorizations of all holders that are in force on the day, in no order.
     pub fn all_auths_on(&mut self, alloc: Global, day: Day) -> Result<Vec<Vrp>, StoreFault>
         ensures read { IsRead S.Store self.old self.new }
-        ensures found { IfClean S.Store self.new (IfOk result (λ vrps.
-            OfHeldRows S.Store self.old (λ rows.
+        ensures found { OnCleanStore S.Store self.new (IfOk result (λ vrps.
+            EachHeldRows S.Store self.old (λ rows.
             (v : Vrp) → Contains vrps.items v ↔ IsGivenOn rows day v))) }
-        ensures once { IfClean S.Store self.new (IfOk result (λ vrps.
-            OfHeldRows S.Store self.old (λ _. AllPairs ◌≢◌ vrps.items))) }
-        ensures schema { IfClean S.Store self.new (result ≡ Err StoreFault.Schema
-            → OfHeldRows S.Store self.old (λ rows. ¬ AllGiveOn rows day)) }
+        ensures once { OnCleanStore S.Store self.new (IfOk result (λ vrps.
+            EachHeldRows S.Store self.old (λ _. AllPairs ◌≢◌ vrps.items))) }
+        ensures schema { OnCleanStore S.Store self.new (result ≡ Err StoreFault.Schema
+            → EachHeldRows S.Store self.old (λ rows. ¬ AllGiveOn rows day)) }
     {
         load_vrps(&mut self.conn, alloc, day)
     }
@@ -475,10 +475,10 @@ impl<S: Alter> Store<S> {
     /// The SLURM files in force, rising by name; none if there is no exception.
     pub fn slurm_files(&mut self, alloc: Global) -> Result<Vec<Slurm>, StoreFault>
         ensures read { IsRead S.Store self.old self.new }
-        ensures found { IfClean S.Store self.new (IfOk result (λ files.
-            OfHeldRows S.Store self.old (λ rows. AreFilesOf rows.files files.items))) }
-        ensures schema { IfClean S.Store self.new (result ≡ Err StoreFault.Schema
-            → OfHeldRows S.Store self.old (λ rows. ¬ FilesFit rows.files)) }
+        ensures found { OnCleanStore S.Store self.new (IfOk result (λ files.
+            EachHeldRows S.Store self.old (λ rows. AreFilesOf rows.files files.items))) }
+        ensures schema { OnCleanStore S.Store self.new (result ≡ Err StoreFault.Schema
+            → EachHeldRows S.Store self.old (λ rows. ¬ FilesFit rows.files)) }
     {
         load_files(&mut self.conn, alloc)
     }
@@ -488,30 +488,30 @@ impl<S: Alter> Store<S> {
     pub fn apply(&mut self, change: &Change) -> Result<(), StoreFault>
         ensures charter { self.new.charter ≡ self.old.charter }
         ensures limit { self.new.connection.step_limit ≡ self.old.connection.step_limit }
-        ensures ok { IfClean S.Store self.new
+        ensures ok { OnCleanStore S.Store self.new
             (OnOk result (HoldsAfter S.Store self.old self.new (changed_rows change.now))) }
-        ensures err { IfClean S.Store self.new
+        ensures err { OnCleanStore S.Store self.new
             (OnErr result (HoldsAfter S.Store self.old self.new (λ rows. rows))) }
-        ensures crash { IfClean S.Store self.new
+        ensures crash { OnCleanStore S.Store self.new
             (MayLeave S.Store self.old self.new (changed_rows change.now)) }
-        ensures left { IfClean S.Store self.new
+        ensures left { OnCleanStore S.Store self.new
             (OnOk result (LeavesOnly S.Store self.old self.new (changed_rows change.now))) }
-        ensures positions { IfClean S.Store self.new
-            (OnOk result (OfHeldRows S.Store self.old (λ _.
+        ensures positions { OnCleanStore S.Store self.new
+            (OnOk result (EachHeldRows S.Store self.old (λ _.
             LeavesPlaced S.Store change.now self.old self.new))) }
-        ensures once { IfClean S.Store self.new
-            (OnOk result (OfHeldRows S.Store self.old GivenOnce)) }
-        ensures beside { IfClean S.Store self.new (KeepsSchema S.Store self.old self.new) }
-        ensures clean { IfClean S.Store self.new
+        ensures once { OnCleanStore S.Store self.new
+            (OnOk result (EachHeldRows S.Store self.old GivenOnce)) }
+        ensures beside { OnCleanStore S.Store self.new (KeepsSchema S.Store self.old self.new) }
+        ensures clean { OnCleanStore S.Store self.new
             (HasCleanDisk (connection_state S.Store self.old)) }
-        ensures is_open { IfClean S.Store self.new
+        ensures is_open { OnCleanStore S.Store self.new
             (OnOk result (IsTrue (connection_state S.Store self.new).is_open)) }
         ensures no_schema { result ≢ Err StoreFault.Schema }
     {
         // For the proof: its contract says that what the connection shows obeys the schema.
         let _schema = self.conn.schema();
-        transactions::laws::claims_differ();
-        transactions::laws::entries_differ();
+        store_transactions::laws::claims_differ();
+        store_transactions::laws::entries_differ();
         commit_change(&mut self.conn, change)
     }
 

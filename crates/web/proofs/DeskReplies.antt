@@ -3,9 +3,9 @@ use Rattle.std.proofs.Common.{◌≡◌, ◌↔◌, ℕ, false, IsTrue, Option, 
 use Rattle.std.proofs.lemmas.Bool.{false≢true}
 use Rattle.sqlite.specs.Store.{Ghosts}
 use Rattle.desk.specs.Answer.{is_accepted}
-use Rattle.desk.specs.CrashOutcomes.{IsKept}
+use Rattle.desk.specs.CrashOutcomes.{IsDurablyAnswered}
 use Rattle.desk.specs.DayAfter.{DayAfter, MovesDay}
-use Rattle.desk.specs.Desk.{charter_of, KeepsRows, OfHistories}
+use Rattle.desk.specs.Desk.{charter_of, RowsStay, EachHistory}
 use Rattle.desk.specs.Lent.{HasLent}
 use Rattle.desk.specs.Prepared.{day_of}
 use Rattle.desk.proofs.CrashLemmas.{read_kept}
@@ -31,8 +31,8 @@ lent_reply (Some vrps) = Payloads (set.items vrps.now)
 module _ {S : Type 0} (g : Ghosts S) where
   -- the desk answered a request
   pub replies_at : (old new : Desk S) (request : Asked) (reply : Reply) → AskedFits request → IsLaterDesk g old new
-      → OfHistories g old new (λ history. IsKept g (charter_of old) history request reply old new)
-      → (is_accepted reply ≡ false → KeepsRows g old new)
+      → EachHistory g old new (λ history. IsDurablyAnswered g (charter_of old) history request reply old new)
+      → (is_accepted reply ≡ false → RowsStay g old new)
       → DayAfter request.day request.request reply (day_of old.kept) (day_of new.kept)
       → (request.request ≡ QueryRequest PayloadsQuery → reply ≡ Unavailable → day_of new.kept ≡ None)
       → RepliesAt g old request reply new

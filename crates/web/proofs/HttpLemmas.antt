@@ -11,7 +11,7 @@ use Rattle.sqlite.specs.Store.{Ghosts}
 use Rattle.addr.specs.declared.vrp.Vrp.{Vrp}
 use Rattle.registry.specs.declared.authorization.Auth.{Auth}
 use Rattle.registry.specs.History.{History}
-use Rattle.charters.specs.declared.charter.Charter.{Charter}
+use Rattle.registry.specs.declared.charter.Charter.{Charter}
 use Rattle.http_messages.specs.HeadEnd.{IsWholeHead}
 use Rattle.http_messages.specs.Input.{Gives}
 use Rattle.requests.specs.RequestHeads.{Head, SaysHead}
@@ -20,7 +20,7 @@ use Rattle.http_messages.specs.declared.response.ContentType.{ContentType}
 use Rattle.http_messages.specs.declared.response.ContentType.TheVariants.{Csv}
 use Rattle.http_messages.specs.declared.status.Status.TheVariants.{Done as DoneStatus, Forbidden, ServiceUnavailable}
 use Rattle.desk.specs.Answer.{AnswersRequest, is_accepted}
-use Rattle.desk.specs.Desk.{charter_of, KeepsRows}
+use Rattle.desk.specs.Desk.{charter_of, RowsStay}
 use Rattle.registry.specs.declared.asked.Asked.{Asked}
 use Rattle.registry.specs.declared.asked.Request.{Request}
 use Rattle.registry.specs.declared.asked.Request.TheVariants.{Command as CommandRequest, Query as QueryRequest}
@@ -29,7 +29,7 @@ use Rattle.desk.specs.CrashOutcomes.{LeavesAtMost, pending_after}
 use Rattle.desk.specs.declared.desk.Desk.{Desk}
 use Rattle.desk.specs.declared.reply.Reply.{Reply}
 use Rattle.desk.specs.declared.reply.Reply.TheVariants.{Done, Imported, Listed, Payloads, Denied, Unavailable}
-use Rattle.web.specs.HttpAnswers.{KeepsAll, RespondsTo}
+use Rattle.web.specs.HttpAnswers.{AllStays, RespondsTo}
 use Rattle.requests.specs.Actions.{takes_body}
 use Rattle.requests.specs.HttpRequests.{asked, IsMessage, malformed, NeedsMemory, refused}
 use Rattle.requests.proofs.HeadLemmas.{says-length}
@@ -172,11 +172,11 @@ longer_error text more (status, rest, other, is) =
     (status, rest ++ more, other, ap (λ u. u ++ more) is ∙ append_assoc (codes "HTTP/1.1 " ++ status_line status) rest more)
 
 module _ {S : Type 0} (g : Ghosts S) where
-  pub same_keeps : (desk : Desk S) → KeepsAll g desk desk
+  pub same_keeps : (desk : Desk S) → AllStays g desk desk
   same_keeps desk = (λ clean rows holds. holds, λ clean before stands. (before, stands, λ fits. fits, (refl, λ pending left. left)))
 
   shown_keeps : (old new : Desk S) (request : Asked) (reply : Reply) → RepliesAt g old request reply new
-      → short_text reply ≡ None → KeepsAll g old new
+      → short_text reply ≡ None → AllStays g old new
   shown_keeps old new request reply replies long = (
     replies.kept (shown-unaccepted reply long),
     λ clean before stands.
@@ -223,12 +223,12 @@ module _ {S : Type 0} (g : Ghosts S) where
 
   -- a response of an error keeps the rows
   pub keeps_rows : (old new : Desk S) (day : ℕ) (bytes text : List ℕ) → RespondsTo g old day bytes text new
-      → HasErrorStatus text → KeepsRows g old new
+      → HasErrorStatus text → RowsStay g old new
   keeps_rows old new day bytes text (inl (refused refusal, reads, (is, same))) error = λ clean rows holds. rw same holds
   keeps_rows old new day bytes text (inl (malformed fault, reads, (is, same))) error = λ clean rows holds. rw same holds
   keeps_rows old new day bytes text (inl (asked form request, reads, (reply, is, replies))) error = go (is_accepted reply) refl
     where
-      go : (accepted : Bool) → is_accepted reply ≡ accepted → KeepsRows g old new
+      go : (accepted : Bool) → is_accepted reply ≡ accepted → RowsStay g old new
       go false unaccepted = replies.kept unaccepted
       go true accepted =
           let (rest, line) = accepted_line form reply accepted in

@@ -6,7 +6,7 @@ use Rattle.std.proofs.lemmas.List.Elements.{All-from_get_or}
 use Rattle.std.proofs.lemmas.List.Splits.{slice_split_at, slice_split_none}
 use Rattle.std.specs.List.{All, onto_first}
 use Rattle.memchr.specs.Find.{Nowhere, NoneBefore, Passes, is_byte}
-use Rattle.web.specs.ScriptLines.{all_but_last, last_of, pieces, whole_lines, script_lines, unless_empty, within_limit}
+use Rattle.web.specs.ScriptLines.{all_but_last, last_piece, pieces, whole_lines, script_lines, unless_empty, within_limit}
 use Rattle.requests.specs.declared.request.TheConstants.{LINE_LENGTH_LIMIT}
 use Rattle.web.specs.steps.LineSplitting.{behind, completed_lines, unfinished_line}
 
@@ -39,7 +39,7 @@ all_but_last-cons [] y ys = refl
 all_but_last-cons (x ∷ []) y ys = refl
 all_but_last-cons (x ∷ x' ∷ xs) y ys = ap (λ ls. x ∷ ls) (all_but_last-cons (x' ∷ xs) y ys)
 
-last_of-cons : (xs : List (List ℕ)) (y : List ℕ) (ys : List (List ℕ)) → last_of (xs ++ y ∷ ys) ≡ last_of (y ∷ ys)
+last_of-cons : (xs : List (List ℕ)) (y : List ℕ) (ys : List (List ℕ)) → last_piece (xs ++ y ∷ ys) ≡ last_piece (y ∷ ys)
 last_of-cons [] y ys = refl
 last_of-cons (x ∷ []) y ys = refl
 last_of-cons (x ∷ x' ∷ xs) y ys = last_of-cons (x' ∷ xs) y ys
@@ -47,7 +47,7 @@ last_of-cons (x ∷ x' ∷ xs) y ys = last_of-cons (x' ∷ xs) y ys
 pub all_but_last-one : (xs : List (List ℕ)) (y : List ℕ) → all_but_last (xs ++ y ∷ []) ≡ xs
 all_but_last-one xs y = all_but_last-cons xs y [] ∙ append-nil xs
 
-pub last_of-one : (xs : List (List ℕ)) (y : List ℕ) → last_of (xs ++ y ∷ []) ≡ y
+pub last_of-one : (xs : List (List ℕ)) (y : List ℕ) → last_piece (xs ++ y ∷ []) ≡ y
 last_of-one xs y = last_of-cons xs y []
 
 -- bytes have a piece at least
@@ -57,7 +57,7 @@ all_but_last-append xs front [] = all_but_last-cons xs front []
 all_but_last-append xs front (piece ∷ more) = all_but_last-cons xs (front ++ piece) more
 
 last_of-append : (xs : List (List ℕ)) (front : List ℕ) (parts : List (List ℕ))
-    → last_of (xs ++ behind front parts) ≡ last_of (behind front parts)
+    → last_piece (xs ++ behind front parts) ≡ last_piece (behind front parts)
 last_of-append xs front [] = last_of-cons xs front []
 last_of-append xs front (piece ∷ more) = last_of-cons xs (front ++ piece) more
 
@@ -118,7 +118,7 @@ behind-append unfinished (byte ∷ xs) ys =
     (elim (nat_eq byte 10) as (λ (b : Bool).
     cond b (unfinished ∷ behind [] (pieces (xs ++ ys))) (behind (unfinished ++ byte ∷ []) (pieces (xs ++ ys)))
     ≡ all_but_last (cond b (unfinished ∷ behind [] (pieces xs)) (behind (unfinished ++ byte ∷ []) (pieces xs)))
-    ++ behind (last_of (cond b (unfinished ∷ behind [] (pieces xs)) (behind (unfinished ++ byte ∷ []) (pieces xs)))) (pieces ys)) [
+    ++ behind (last_piece (cond b (unfinished ∷ behind [] (pieces xs)) (behind (unfinished ++ byte ∷ []) (pieces xs)))) (pieces ys)) [
       | true ↦ rw (all_but_last-append (unfinished ∷ []) [] (pieces xs), last_of-append (unfinished ∷ []) [] (pieces xs))
           (ap (λ ls. unfinished ∷ ls) (behind-append [] xs ys))
       | false ↦ behind-append (unfinished ++ byte ∷ []) xs ys
@@ -134,7 +134,7 @@ completed_lines-append unfinished xs ys =
 pub unfinished_line-append : (unfinished xs ys : List ℕ)
     → unfinished_line unfinished (xs ++ ys) ≡ unfinished_line (unfinished_line unfinished xs) ys
 unfinished_line-append unfinished xs ys =
-    ap last_of (behind-append unfinished xs ys)
+    ap last_piece (behind-append unfinished xs ys)
     ∙ last_of-append (completed_lines unfinished xs) (unfinished_line unfinished xs) (pieces ys)
 
 -- ---- from the start
@@ -143,7 +143,7 @@ pub whole_lines-lem : (text : List ℕ) → whole_lines text ≡ completed_lines
 whole_lines-lem text = ap all_but_last (sym (behind-nil text))
 
 pub script_lines-lem : (text : List ℕ) → script_lines text ≡ completed_lines [] text ++ unless_empty (unfinished_line [] text)
-script_lines-lem text = ap (λ ps. all_but_last ps ++ unless_empty (last_of ps)) (sym (behind-nil text))
+script_lines-lem text = ap (λ ps. all_but_last ps ++ unless_empty (last_piece ps)) (sym (behind-nil text))
 
 -- an empty line is known from how it is held
 pub within_limit-nil : (line : List ℕ) → within_limit line ≡ within_limit [] → line ≡ []

@@ -5,7 +5,7 @@ use Rattle.sqlite.specs.Store.{Ghosts}
 use Rattle.registry.specs.History.{History}
 use Rattle.registry.specs.Values.{AskedFits, HistoryFits}
 use Rattle.registry.specs.declared.asked.Asked.{Asked}
-use Rattle.charters.specs.declared.charter.Charter.{Charter}
+use Rattle.registry.specs.declared.charter.Charter.{Charter}
 use Rattle.desk.specs.CrashOutcomes.{LeavesAlong, LeavesAtMost, pending_after}
 use Rattle.desk.specs.Desk.{IsOnCleanDisk, Represents}
 use Rattle.desk.specs.declared.desk.Desk.{Desk}

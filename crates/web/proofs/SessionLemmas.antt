@@ -3,9 +3,9 @@ use Rattle.std.proofs.Common.{◌≡◌, ◌≢◌, ◌∙◌, ℕ, Bool, true, 
 use Rattle.std.specs.Io.{appended_bytes}
 use Rattle.sqlite.specs.Store.{Ghosts}
 use Rattle.registry.specs.History.{History}
-use Rattle.charters.specs.declared.charter.Charter.{Charter}
+use Rattle.registry.specs.declared.charter.Charter.{Charter}
 use Rattle.desk.specs.Answer.{is_accepted}
-use Rattle.desk.specs.Desk.{charter_of, IsOnCleanDisk, KeepsRows}
+use Rattle.desk.specs.Desk.{charter_of, IsOnCleanDisk, RowsStay}
 use Rattle.streams.proofs.StreamLemmas.{appended_bytes-append}
 use Rattle.web.specs.ReplyText.{line_text}
 use Rattle.web.specs.Script.{AnswersEach, BreaksOff, Replies}
@@ -98,17 +98,17 @@ module _ {S : Type 0} (g : Ghosts S) where
   still_silent first rest silent (before, after, reply, accepted, is) =
       silent (first ++ before, after, reply, accepted, ap (λ u. first ++ u) is ∙ sym (append_assoc first (before ++ line_text reply) after) ∙ ap (λ u. u ++ after) (sym (append_assoc first before (line_text reply))))
 
-  line_keeps : (old new : Desk S) (line : Option (List ℕ)) (text rest : List ℕ) → AnswersLineAt g old line text new → ¬ SaysAccepted (text ++ rest) → KeepsRows g old new
+  line_keeps : (old new : Desk S) (line : Option (List ℕ)) (text rest : List ℕ) → AnswersLineAt g old line text new → ¬ SaysAccepted (text ++ rest) → RowsStay g old new
   line_keeps old new None text rest (is, same) silent = λ clean rows holds. rw same holds
   line_keeps old new (Some line) text rest (inl (refused, same)) silent = λ clean rows holds. rw same holds
   line_keeps old new (Some line) text rest (inr (inr (is, same))) silent = λ clean rows holds. rw same holds
   line_keeps old new (Some line) text rest (inr (inl (request, reply, reads, at, is))) silent = go (is_accepted reply) refl
     where
-      go : (accepted : Bool) → is_accepted reply ≡ accepted → KeepsRows g old new
+      go : (accepted : Bool) → is_accepted reply ≡ accepted → RowsStay g old new
       go false unaccepted = at.kept unaccepted
       go true accepted = absurd (silent ([], rest, reply, accepted, ap (λ u. u ++ rest) is))
 
-  replies_keep : (old new : Desk S) (lines : List (List ℕ)) (text : List ℕ) → Replies (AnswersLineAt g) old lines text new → ¬ SaysAccepted text → KeepsRows g old new
+  replies_keep : (old new : Desk S) (lines : List (List ℕ)) (text : List ℕ) → Replies (AnswersLineAt g) old lines text new → ¬ SaysAccepted text → RowsStay g old new
   replies_keep old new [] text (is, same) silent = λ clean rows holds. rw same holds
   replies_keep old new (line ∷ lines) text (reply, replies, next, is, acted, rest) silent = λ clean rows holds.
       let clean_next = Replies-sound (AnswersLineAt g) (IsOnCleanDisk g) clean_before next new lines replies rest clean in
@@ -116,6 +116,6 @@ module _ {S : Type 0} (g : Ghosts S) where
       let here = line_keeps old next (within_limit line) reply replies acted silent_here clean_next rows holds in
       replies_keep next new lines replies rest (still_silent reply replies silent_here) clean rows here
 
-  pub each_keeps : (old new : Desk S) (lines : List (List ℕ)) (w w' : List ℕ) → ¬ SaysAccepted (appended_bytes w w') → AnswersEach (AnswersLineAt g) old new lines w w' → KeepsRows g old new
+  pub each_keeps : (old new : Desk S) (lines : List (List ℕ)) (w w' : List ℕ) → ¬ SaysAccepted (appended_bytes w w') → AnswersEach (AnswersLineAt g) old new lines w w' → RowsStay g old new
   each_keeps old new lines w w' silent (text, replied, written) =
       replies_keep old new lines text replied (rw (appended_bytes-append w text w' written) at silent)

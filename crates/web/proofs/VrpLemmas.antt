@@ -3,7 +3,7 @@ use Rattle.std.proofs.Common.{◌≡◌, ◌≤◌, ◌^◌, ℕ, Bool, true, Li
 use Rattle.std.proofs.lemmas.List.{take-append-drop}
 use Rattle.std.specs.Result.{OnErr, OnOk}
 use Rattle.addr.specs.declared.vrp.Vrp.{Vrp}
-use Rattle.kept.specs.CsvLength.{csv_of, IsCsvLength}
+use Rattle.daily_vrps.specs.CsvLength.{csv_of, IsCsvLength}
 use Rattle.payload.specs.VrpSet as set
 use Rattle.csv_records.proofs.LineLemmas.{rows-split}
 use Rattle.csv_records.specs.Lines.{csv_line, csv_text, payload_header, payload_row, payload_rows}

@@ -4,18 +4,18 @@ use Rattle.sqlite.specs.Store.{Ghosts}
 use Rattle.http_messages.specs.declared.response.ContentType.{ContentType}
 use Rattle.registry.specs.declared.asked.Asked.{Asked}
 use Rattle.desk.specs.CrashOutcomes.{LeavesAlong}
-use Rattle.desk.specs.Desk.{charter_of, KeepsRows}
+use Rattle.desk.specs.Desk.{charter_of, RowsStay}
 use Rattle.desk.specs.declared.desk.Desk.{Desk}
 use Rattle.desk.specs.declared.reply.Reply.{Reply}
 use Rattle.requests.specs.HttpRequests.{asked, HttpRequest, malformed, NeedsMemory, ReadsHttp, refused}
 use Rattle.web.specs.HttpResponses.{malformed_response, MayStayUnsent, refusal_response, reply_response, unavailable_response}
-use Rattle.web.specs.ScriptAnswer.{OnHistories, RepliesAt}
+use Rattle.web.specs.ScriptAnswer.{EachHistoryGoesOn, RepliesAt}
 
 -- the rows of the tables stay, and each history that the desk represents, of which a crash leaves no more than before
-abbrev pub KeepsAll : {S : Type 0} → Ghosts S → Desk S → Desk S → Type 0
-KeepsAll g old new =
-    KeepsRows g old new
-    × OnHistories g old new (λ before after. (after ≡ before)
+abbrev pub AllStays : {S : Type 0} → Ghosts S → Desk S → Desk S → Type 0
+AllStays g old new =
+    RowsStay g old new
+    × EachHistoryGoesOn g old new (λ before after. (after ≡ before)
     × LeavesAlong g (charter_of old) old before (λ pending. pending) new after)
 
 -- The response to the request that the bytes are, a list in the form that it asks for, by what `replies state request
@@ -54,4 +54,4 @@ abbrev pub RespondsTo : {S : Type 0} → Ghosts S → Desk S → ℕ → List �
 RespondsTo g old day bytes text new =
     ((request : HttpRequest) × ReadsHttp day bytes request × AnswersHttp g old request text new)
     ⊎ (((NeedsMemory bytes × (new ≡ old)) ⊎ StaysUnsentBy (RepliesAt g) day old bytes new)
-    × (text ≡ unavailable_response) × KeepsAll g old new)
+    × (text ≡ unavailable_response) × AllStays g old new)

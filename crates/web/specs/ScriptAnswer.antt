@@ -5,11 +5,11 @@ use Rattle.std.specs.Prelude.{◌≡◌, ℕ, true, false, All, List, ◌++◌, 
 use Rattle.sqlite.specs.Store.{Ghosts}
 use Rattle.registry.specs.History.{History}
 use Rattle.registry.specs.Values.{AskedFits, HistoryFits}
-use Rattle.charters.specs.declared.charter.Charter.{Charter}
+use Rattle.registry.specs.declared.charter.Charter.{Charter}
 use Rattle.desk.specs.Answer.{AnswersRequest, is_accepted}
 use Rattle.desk.specs.CrashOutcomes.{LeavesAlong, LeavesAtMost, pending_after}
 use Rattle.desk.specs.DayAfter.{DayAfter}
-use Rattle.desk.specs.Desk.{charter_of, store_of, IsOnCleanDisk, KeepsRows, Represents}
+use Rattle.desk.specs.Desk.{charter_of, store_of, IsOnCleanDisk, RowsStay, Represents}
 use Rattle.desk.specs.Prepared.{day_of}
 use Rattle.requests.specs.MalformedText.{malformed_text}
 use Rattle.web.specs.ReplyText.{line_text, unavailable_text}
@@ -33,8 +33,8 @@ RepliesOn charter before request reply after =
 
 -- Each history that the old desk represents goes on to one that the new desk represents, of values of their
 -- types where the first was so. Nothing is said where the disk returned what was not written.
-abbrev pub OnHistories : {S : Type 0} → Ghosts S → Desk S → Desk S → (History → History → Type 0) → Type 0
-OnHistories g old new goes_on =
+abbrev pub EachHistoryGoesOn : {S : Type 0} → Ghosts S → Desk S → Desk S → (History → History → Type 0) → Type 0
+EachHistoryGoesOn g old new goes_on =
     IsOnCleanDisk g new → (before : History) → Represents g (charter_of old) old before
     → (after : History)
     × Represents g (charter_of old) new after
@@ -52,7 +52,7 @@ RepliesLeaving charter before request reply after =
     RepliesOn charter before.history request reply after.history
     × (after.pending ≡ pending_after request reply before.pending)
 
--- As OnHistories, with what a crash may leave: where it leaves of the old desk at most the history, or that with one of
+-- As EachHistoryGoesOn, with what a crash may leave: where it leaves of the old desk at most the history, or that with one of
 -- the pending requests, it leaves of the new desk at most the history and the requests to which these go on. The values of
 -- these requests, too, are those of their types where those of the first ones were.
 abbrev pub OnStandings : {S : Type 0} → Ghosts S → Desk S → Desk S → (Charter → Standing → Standing → Type 0) → Type 0
@@ -82,9 +82,9 @@ pub record IsLaterDesk {S : Type 0} (g : Ghosts S) (old new : Desk S) : Type 0 w
 pub record RepliesAt {S : Type 0} (g : Ghosts S) (old : Desk S) (request : Asked) (reply : Reply) (new : Desk S) : Type 0 where
   pub fits : AskedFits request
   pub later : IsLaterDesk g old new
-  pub replies : OnHistories g old new (λ before after. RepliesOn (charter_of old) before request reply after
+  pub replies : EachHistoryGoesOn g old new (λ before after. RepliesOn (charter_of old) before request reply after
       × LeavesAlong g (charter_of old) old before (pending_after request reply) new after)
-  pub kept : is_accepted reply ≡ false → KeepsRows g old new
+  pub kept : is_accepted reply ≡ false → RowsStay g old new
   pub day : DayAfter request.day request.request reply (day_of old.kept) (day_of new.kept)
   pub unkept : request.request ≡ QueryRequest PayloadsQuery → reply ≡ Unavailable → day_of new.kept ≡ None
 
@@ -130,7 +130,7 @@ AnswersLineLeaving charter = AnswersLine (RepliesLeaving charter)
 abbrev pub AnswersLines : {S : Type 0} → Ghosts S → Desk S → Desk S → List (List ℕ) → List ℕ → List ℕ → Type 0
 AnswersLines g old new lines written_old written_new =
     AnswersEach (AnswersLineAt g) old new lines written_old written_new
-    × OnHistories g old new (λ before after.
+    × EachHistoryGoesOn g old new (λ before after.
     AnswersEach (AnswersLineOn (charter_of old)) before after lines written_old written_new)
     × OnStandings g old new (λ charter before after.
     AnswersEach (AnswersLineLeaving charter) before after lines written_old written_new)
@@ -139,7 +139,7 @@ AnswersLines g old new lines written_old written_new =
 abbrev pub BreaksOffLines : {S : Type 0} → Ghosts S → Desk S → Desk S → List (List ℕ) → List ℕ → List ℕ → Type 0
 BreaksOffLines g old new lines written_old written_new =
     BreaksOff (AnswersLineAt g) old new lines written_old written_new
-    × OnHistories g old new (λ before after.
+    × EachHistoryGoesOn g old new (λ before after.
     BreaksOff (AnswersLineOn (charter_of old)) before after lines written_old written_new)
     × OnStandings g old new (λ charter before after.
     BreaksOff (AnswersLineLeaving charter) before after lines written_old written_new)

@@ -13,10 +13,10 @@ all_but_last [] = []
 all_but_last (piece ∷ []) = []
 all_but_last (piece ∷ next ∷ more) = piece ∷ all_but_last (next ∷ more)
 
-abbrev pub last_of : List (List ℕ) → List ℕ
-last_of [] = []
-last_of (piece ∷ []) = piece
-last_of (piece ∷ next ∷ more) = last_of (next ∷ more)
+abbrev pub last_piece : List (List ℕ) → List ℕ
+last_piece [] = []
+last_piece (piece ∷ []) = piece
+last_piece (piece ∷ next ∷ more) = last_piece (next ∷ more)
 
 -- the pieces that a line feed ends
 abbrev pub whole_lines : List ℕ → List (List ℕ)
@@ -30,7 +30,7 @@ unless_empty (byte ∷ bytes) = (byte ∷ bytes) ∷ []
 -- the lines of a script: the pieces that a line feed ends, and a last piece that is not empty.
 -- Nothing is trimmed
 abbrev pub script_lines : List ℕ → List (List ℕ)
-script_lines text = whole_lines text ++ unless_empty (last_of (pieces text))
+script_lines text = whole_lines text ++ unless_empty (last_piece (pieces text))
 
 -- the lines of what was read so far: a last piece is a line only where the source has ended
 abbrev pub lines_read : Bool → List ℕ → List (List ℕ)

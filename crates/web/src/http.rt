@@ -2,8 +2,8 @@
 ghost use Rattle.std.specs.Prelude.{◌≡◌, ◌≢◌, ◌++◌, ℕ, List, Err, None, true, IfOk, OnOk};
 ghost use Rattle.std.specs.Io.{appended_bytes};
 ghost use Rattle.streams.specs.Streams.{AppendsBeginning};
-ghost use Rattle.desk.specs.Desk.{KeepsRows};
-ghost use Rattle.http_messages.specs.Input.{Gives, IsOver};
+ghost use Rattle.desk.specs.Desk.{RowsStay};
+ghost use Rattle.http_messages.specs.Input.{Gives, HasNoMore};
 ghost use Rattle.requests.specs.HttpRequests.{IsCutShort};
 ghost use Rattle.web.specs.HttpAnswers.{RespondsTo};
 ghost use Rattle.web.specs.HttpResponses.{HasErrorStatus};
@@ -71,7 +71,7 @@ pub fn serve_one<S: Source, D: Drain, A: Alter>(
     ensures read { result ≡ Err WebFault.Read → (bytes : List ℕ)
         × Gives bytes (S.handed_out source.old) (S.handed_out source.new)
         × IsCutShort bytes
-        × IsOver (S.has_ended source.new) (S.has_failed source.new)
+        × HasNoMore (S.has_ended source.new) (S.has_failed source.new)
         × (desk.new ≡ desk.old) × (drain.new ≡ drain.old) }
 
     // A beginning of the response is out, and the request was acted on as it says.
@@ -83,7 +83,7 @@ pub fn serve_one<S: Source, D: Drain, A: Alter>(
 
     // A response of another status than 200 leaves the rows, even if it breaks off.
     ensures kept { HasErrorStatus (appended_bytes (D.written drain.old) (D.written drain.new))
-        → KeepsRows A.Store desk.old desk.new }
+        → RowsStay A.Store desk.old desk.new }
 
     ensures desk { IsLaterDesk A.Store desk.old desk.new }
 {
@@ -112,7 +112,7 @@ pub fn serve_request<S: Source, D: Drain, A: Alter>(
     ensures read { result ≡ Err WebFault.Read → (bytes : List ℕ)
         × Gives bytes (S.handed_out source.old) (S.handed_out source.new)
         × IsCutShort bytes
-        × IsOver (S.has_ended source.new) (S.has_failed source.new)
+        × HasNoMore (S.has_ended source.new) (S.has_failed source.new)
         × (desk.new ≡ desk.old) × (drain.new ≡ drain.old) }
 
     // A beginning of the response is out, and the request was acted on as it says.
@@ -123,7 +123,7 @@ pub fn serve_request<S: Source, D: Drain, A: Alter>(
     ensures write_failed { result ≡ Err WebFault.Write → D.has_failed drain.new ≡ true }
 
     ensures kept { HasErrorStatus (appended_bytes (D.written drain.old) (D.written drain.new))
-        → KeepsRows A.Store desk.old desk.new }
+        → RowsStay A.Store desk.old desk.new }
     ensures desk { IsLaterDesk A.Store desk.old desk.new }
 
     // If the routes are given, no response comes before a byte was read.

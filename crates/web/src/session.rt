@@ -1,7 +1,7 @@
 //! Scripts over a desk.
 ghost use Rattle.std.specs.Prelude.{◌≡◌, ◌≢◌, ◌++◌, true, Err, OnOk, OnErr};
 ghost use Rattle.std.specs.Io.{StartsWith, appended_bytes};
-ghost use Rattle.desk.specs.Desk.{KeepsRows};
+ghost use Rattle.desk.specs.Desk.{RowsStay};
 ghost use Rattle.requests.specs.MalformedText.{malformed_text};
 ghost use Rattle.web.specs.ReplyText.{line_text};
 ghost use Rattle.web.specs.ScriptAnswer.{AnswersLineAt, AnswersLines, BreaksOffLines, IsLaterDesk, RepliesAt, SaysAccepted};
@@ -38,7 +38,8 @@ fn write_payloads<D: Drain, A: Alter>(
     requires { asked.now.request ≡ Request.Query Query.Payloads }
     ensures ok { OnOk result ((reply : Reply) × RepliesAt A.Store desk.old asked.now reply desk.new
         × (D.written drain.new ≡ D.written drain.old ++ line_text reply)) }
-    ensures err { OnErr result ((reply : Reply) × RepliesAt A.Store desk.old asked.now reply desk.new
+    ensures err { OnErr result ((reply : Reply)
+        × RepliesAt A.Store desk.old asked.now reply desk.new
         × AppendsBeginning (D.written drain.old) (D.written drain.new) (line_text reply)) }
     ensures failed { OnErr result (D.has_failed drain.new ≡ true) }
 {
@@ -56,7 +57,8 @@ fn reply_to<D: Drain, A: Alter>(
 ) -> Result<(), Failed>
     ensures ok { OnOk result ((reply : Reply) × RepliesAt A.Store desk.old asked.now reply desk.new
         × (D.written drain.new ≡ D.written drain.old ++ line_text reply)) }
-    ensures err { OnErr result ((reply : Reply) × RepliesAt A.Store desk.old asked.now reply desk.new
+    ensures err { OnErr result ((reply : Reply)
+        × RepliesAt A.Store desk.old asked.now reply desk.new
         × AppendsBeginning (D.written drain.old) (D.written drain.new) (line_text reply)) }
     ensures failed { OnErr result (D.has_failed drain.new ≡ true) }
 {
@@ -120,7 +122,7 @@ pub fn run_script<S: Source, D: Drain, A: Alter>(
     // off.
     ensures kept { result ≢ Err ScriptFault.Write
         → ¬ SaysAccepted (appended_bytes (D.written drain.old) (D.written drain.new))
-        → KeepsRows A.Store desk.old desk.new }
+        → RowsStay A.Store desk.old desk.new }
 
     ensures desk { IsLaterDesk A.Store desk.old desk.new }
 

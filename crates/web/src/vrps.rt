@@ -52,7 +52,8 @@ impl<D: Drain> Sink for Lines<'_, D> {
 
 /// Adds the line of a VRP.
 fn add_line<D: Drain>(pieces: &mut Pieces<'_, D>, vrp: &Vrp)
-    ensures { HasAdded D.written D.has_failed pieces.old (csv_line (payload_row vrp.now)) pieces.new }
+    ensures { HasAdded D.written D.has_failed pieces.old (csv_line (payload_row vrp.now))
+        pieces.new }
 {
     pieces.make_room(160);
     push_payload_line(&mut pieces.piece, vrp);

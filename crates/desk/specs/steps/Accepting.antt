@@ -4,12 +4,12 @@ use Rattle.registry.specs.Answer.{IsAccepted}
 use Rattle.registry.specs.Edits.{HasEditsOf}
 use Rattle.registry.specs.History.{History}
 use Rattle.registry.specs.declared.change.Change.{Change}
-use Rattle.charters.specs.declared.charter.Charter.{Charter}
+use Rattle.registry.specs.declared.charter.Charter.{Charter}
 use Rattle.registry.specs.declared.command.Command.{Command}
 use Rattle.sqlite.specs.Store.{Ghosts}
-use Rattle.store.specs.StoreRows.{IfClean, OfHeldRows}
+use Rattle.store.specs.StoreRows.{OnCleanStore, EachHeldRows}
 use Rattle.desk.specs.Answer.{is_accepted, AnswersCommand}
-use Rattle.desk.specs.Desk.{charter_of, OfRows}
+use Rattle.desk.specs.Desk.{charter_of, EachHeld}
 use Rattle.desk.specs.declared.desk.Desk.{Desk}
 use Rattle.desk.specs.declared.desk.following.Decided.{Decided}
 use Rattle.desk.specs.declared.reply.Reply.{Reply}
@@ -20,9 +20,9 @@ use Rattle.desk.specs.steps.Following.{AreEnoughFor}
 pub record Decides {S : Type 0} (g : Ghosts S) (day : ℕ) (caller : List ℕ) (command : Command) (old new : Desk S)
     (result : Result Decided Reply) : Type 0 where
   pub shape : IfOk result (λ decided. HasEditsOf command decided.change)
-  pub enough : IfClean g new.store (IfOk result (λ decided.
-      OfHeldRows g old.store (AreEnoughFor decided.change decided.first decided.second)))
-  pub answer : OfRows g old new (λ history. MatchResult result
+  pub enough : OnCleanStore g new.store (IfOk result (λ decided.
+      EachHeldRows g old.store (AreEnoughFor decided.change decided.first decided.second)))
+  pub answer : EachHeld g old new (λ history. MatchResult result
       (λ decided. IsAccepted (charter_of old) history day caller command decided.change)
       (λ reply. AnswersCommand (charter_of old) history day caller command reply history))
   pub never_done : IfErr result (λ reply. is_accepted reply ≡ false)

@@ -9,7 +9,7 @@ use Rattle.registry.specs.Edits.{begun, ended}
 use Rattle.registry.specs.Rows.{Rows}
 use Rattle.registry.specs.RowsOfAll.{AllRows, IsGivenOn, changed_rows}
 use Rattle.store.specs.Given.{GivenOnce}
-use Rattle.kept.specs.Giving.{AreGivingOn}
+use Rattle.daily_vrps.specs.Giving.{AreGivingOn}
 
 -- of the authorizations of a holder, those that the edit ends, and those that it begins; none where the holder has no rows
 abbrev pub ended_if_any : Edit → Option (List Auth) → List Auth

@@ -2,10 +2,10 @@
 use Rattle.std.specs.Prelude.{◌≡◌, ◌↔◌, ◌⊎◌, ℕ, ◌≤◌, false, List, Option, Some, None, option_map, Result, Ok, Err, Contains, IfSome, ⊤}
 use Rattle.std.specs.Global.{Vec}
 use Rattle.addr.specs.declared.vrp.Vrp.{Vrp}
-use Rattle.kept.specs.Changes.{AreJoined, IsAdded, IsSpared, IsWithSame}
-use Rattle.kept.specs.Days.{IsDayOfRows}
-use Rattle.kept.specs.Giving.{AreGivingOn}
-use Rattle.kept.specs.KeptDay.{KeptDay}
+use Rattle.daily_vrps.specs.Changes.{AreJoined, IsAdded, IsSpared, IsWithSame}
+use Rattle.daily_vrps.specs.Days.{IsDayOfRows}
+use Rattle.daily_vrps.specs.Giving.{AreGivingOn}
+use Rattle.daily_vrps.specs.KeptDay.{KeptDay}
 use Rattle.payload.specs.VrpSet as set
 use Rattle.registry.specs.Edits.{IsHold}
 use Rattle.registry.specs.History.{same_name}

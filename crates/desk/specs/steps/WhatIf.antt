@@ -5,11 +5,11 @@ use Rattle.registry.specs.HypotheticalHistory.{HypotheticalHistory}
 use Rattle.registry.specs.PartOfRows.{looked_for, IsPartIfAny}
 use Rattle.registry.specs.Rows.{Rows, RowsIfAny, rows_if_any}
 use Rattle.registry.specs.declared.authorization.Auth.{Auth}
-use Rattle.charters.specs.declared.charter.Charter.{Charter}
+use Rattle.registry.specs.declared.charter.Charter.{Charter}
 use Rattle.registry.specs.declared.command.Proposed.{Proposed}
 use Rattle.registry.specs.Verdict.{IsLegal}
-use Rattle.kept.specs.Days.{ExchangesVrps, IsDayOfRows}
-use Rattle.kept.specs.KeptDay.{KeptDay}
+use Rattle.daily_vrps.specs.Days.{ExchangesVrps, IsDayOfRows}
+use Rattle.daily_vrps.specs.KeptDay.{KeptDay}
 use Rattle.sqlite.specs.Store.{Ghosts}
 use Rattle.store.specs.declared.part.Part.{Part}
 use Rattle.desk.specs.Desk.{charter_of, HoldsRowsOf}

@@ -3,11 +3,11 @@ ghost use Rattle.std.specs.Prelude.{◌≡◌, true, false, option_map};
 ghost use Rattle.registry.specs.Answer.{imported};
 ghost use Rattle.store.specs.StoreRows.{IsRead};
 ghost use Rattle.desk.specs.Answer.{is_accepted, only_reads, IsAnswered};
-ghost use Rattle.desk.specs.CrashOutcomes.{asked_on, IsKept, StaysOpen};
+ghost use Rattle.desk.specs.CrashOutcomes.{asked_on, IsDurablyAnswered, StaysOpen};
 ghost use Rattle.desk.specs.DayAfter.{has_made_none, DayAfter, DropsForGain};
 ghost use Rattle.desk.specs.Prepared.{day_of};
-ghost use Rattle.desk.specs.Desk.{charter_of, IsOnCleanDisk, KeepsRows, OfHistories};
-ghost use Rattle.desk.specs.HolderAnswers.{may_change, may_except, KeepsOthers};
+ghost use Rattle.desk.specs.Desk.{charter_of, IsOnCleanDisk, RowsStay, EachHistory};
+ghost use Rattle.desk.specs.HolderAnswers.{may_change, may_except, OthersStay};
 ghost use Rattle.desk.specs.steps.Accepting.{AnswersAccepted, Decides};
 
 use super::Desk;
@@ -51,32 +51,32 @@ impl<S: Alter> Desk<S> {
     /// Judges the command, and makes its change if it is accepted. After the commit nothing fails:
     /// if the kept day cannot follow, it is dropped.
     pub(super) fn carry_out(&mut self, day: Day, caller: &Name, command: &Command) -> Reply
-        ensures left { OfHistories S.Store self.old self.new (λ history.
-            IsKept S.Store (charter_of self.old) history
+        ensures left { EachHistory S.Store self.old self.new (λ history.
+            IsDurablyAnswered S.Store (charter_of self.old) history
             (asked_on day caller.now (Request.Command command.now)) result self.old self.new) }
         ensures charter { charter_of self.new ≡ charter_of self.old }
         ensures limit { self.new.store.connection.step_limit
             ≡ self.old.store.connection.step_limit }
         ensures clean { IsOnCleanDisk S.Store self.new → IsOnCleanDisk S.Store self.old }
-        ensures kept { is_accepted result ≡ false → KeepsRows S.Store self.old self.new }
+        ensures kept { is_accepted result ≡ false → RowsStay S.Store self.old self.new }
         ensures read { only_reads (Request.Command command.now) result ≡ true
             → IsRead S.Store self.old.store self.new.store }
         ensures is_open { is_accepted result ≡ true → StaysOpen S.Store self.new }
         ensures kept_day { DayAfter day (Request.Command command.now) result
             (day_of self.old.kept) (day_of self.new.kept) }
-        ensures dropped { OfHistories S.Store self.old self.new (λ history.
+        ensures dropped { EachHistory S.Store self.old self.new (λ history.
             (is : IsAnswered S.Store (charter_of self.old) history day caller.now
             (Request.Command command.now) result self.new)
             × DropsForGain (Request.Command command.now) history is.after
             (day_of self.old.kept) (day_of self.new.kept)) }
-        ensures others { OfHistories S.Store self.old self.new (λ _.
-            KeepsOthers S.Store (may_change (Request.Command command.now))
+        ensures others { EachHistory S.Store self.old self.new (λ _.
+            OthersStay S.Store (may_change (Request.Command command.now))
             (may_except (Request.Command command.now)) self.old self.new) }
     {
         // For the proof: the theorems that it uses. The first reads the values of the request.
         registry::laws::entry_fits(day, caller, command);
-        histories::laws::growth_is_legal();
-        histories::laws::growth_fits();
+        registry_laws::histories::growth_is_legal();
+        registry_laws::histories::growth_fits();
         self.keeps_its_rows();
         let decided = match self.decide(day, caller, command) {
             Ok(decided) => decided,

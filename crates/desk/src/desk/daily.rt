@@ -2,17 +2,17 @@
 ghost use Rattle.std.specs.Prelude.{◌≡◌, ◌≢◌, ◌↔◌, Contains, true, false, None, Some, option_copied, option_map, IfOk, IfSome, OnOk, OnErr};
 ghost use Rattle.std.specs.Borrow.{sem};
 ghost use Rattle.addr.specs.declared.vrp.Vrp.{Vrp};
-ghost use Rattle.kept.specs.Days.{IsDayOf, IsDayOfRows};
+ghost use Rattle.daily_vrps.specs.Days.{IsDayOf, IsDayOfRows};
 ghost use Rattle.registry.specs.RowsOfAll.{IsGivenOn};
-ghost use Rattle.loads.specs.Loads.{AreFilesOf};
-ghost use Rattle.store.specs.StoreRows.{IfClean, IsRead, OfHeldRows};
-ghost use Rattle.desk.specs.Desk.{OfRows};
+ghost use Rattle.store_read.specs.Loads.{AreFilesOf};
+ghost use Rattle.store.specs.StoreRows.{OnCleanStore, IsRead, EachHeldRows};
+ghost use Rattle.desk.specs.Desk.{EachHeld};
 ghost use Rattle.desk.specs.Lent.{Lends};
 ghost use Rattle.desk.specs.Prepared.{day_of, IsPrepared};
 
 use super::Desk;
 use addr::{Day, Name, Vrp};
-use kept::{CountedVrps, Kept, assertions_of, filters_of};
+use daily_vrps::{CountedVrps, DailyVrps, assertions_of, filters_of};
 use payload::Trie;
 use slurm::Slurm;
 use sqlite::Alter;
@@ -26,8 +26,8 @@ fn read_day<S: Alter>(
     day: Day,
 ) -> Result<(Vec<Vrp>, Vec<Slurm>), StoreFault>
     ensures read { IsRead S.Store store.old store.new }
-    ensures found { IfClean S.Store store.new (IfOk result (λ found.
-        OfHeldRows S.Store store.old (λ rows.
+    ensures found { OnCleanStore S.Store store.new (IfOk result (λ found.
+        EachHeldRows S.Store store.old (λ rows.
         ((v : Vrp) → Contains found.0.items v ↔ IsGivenOn rows day v)
         × AreFilesOf rows.files found.1.items))) }
 {
@@ -41,20 +41,20 @@ pub(super) fn kept_on<S: Alter>(
     store: &mut Store<S>,
     alloc: Global,
     day: Day,
-) -> Result<Kept, StoreFault>
+) -> Result<DailyVrps, StoreFault>
     ensures read { IsRead S.Store store.old store.new }
     ensures day { IfOk result (λ kept. kept.day ≡ day) }
-    ensures kept { IfClean S.Store store.new (IfOk result (λ kept.
-        OfHeldRows S.Store store.old (λ rows. IsDayOfRows rows kept))) }
+    ensures kept { OnCleanStore S.Store store.new (IfOk result (λ kept.
+        EachHeldRows S.Store store.old (λ rows. IsDayOfRows rows kept))) }
 {
     let (vrps, files) = read_day(store, alloc, day)?;
     let filters = filters_of(alloc, &files)?;
     let assertions = assertions_of(alloc, &files)?;
-    Ok(Kept::of(alloc, day, vrps, filters, assertions)?)
+    Ok(DailyVrps::of(alloc, day, vrps, filters, assertions)?)
 }
 
 /// The kept day, if it is this day.
-pub(super) fn kept_if(kept: &Option<Kept>, day: Day) -> Option<&Kept>
+pub(super) fn kept_if(kept: &Option<DailyVrps>, day: Day) -> Option<&DailyVrps>
     ensures { IfSome (option_copied result) (λ found. (kept.now ≡ Some found) × (found.day ≡ day)) }
 {
     kept.as_ref().filter(|kept| kept.day() == day)
@@ -65,7 +65,7 @@ impl<S: Alter> Desk<S> {
     pub fn kept(&self) -> Option<Day>
         ensures { result ≡ day_of self.now.kept }
     {
-        self.kept.as_ref().map(Kept::day)
+        self.kept.as_ref().map(DailyVrps::day)
     }
 
     /// The VRPs of the day with the exceptions in force; `None` if an allocation fails or the
@@ -105,7 +105,7 @@ impl<S: Alter> Desk<S> {
     fn counted_vrps(&self) -> Option<&CountedVrps>
         ensures { option_copied result ≡ option_map (λ kept. kept.vrps) self.now.kept }
     {
-        self.kept.as_ref().map(Kept::counted_vrps)
+        self.kept.as_ref().map(DailyVrps::counted_vrps)
     }
 
     /// Keeps the VRPs of the day in place of those of another, which are dropped first; returns
@@ -125,7 +125,7 @@ impl<S: Alter> Desk<S> {
     pub(super) fn kept_vrps(&self) -> Option<&Trie>
         ensures { option_copied result ≡ option_map (λ kept. kept.vrps) self.now.kept }
     {
-        self.kept.as_ref().map(Kept::vrps)
+        self.kept.as_ref().map(DailyVrps::vrps)
     }
 
     fn is_kept(&self, day: Day) -> bool
@@ -140,7 +140,7 @@ impl<S: Alter> Desk<S> {
         ensures read { IsRead S.Store self.old.store self.new.store }
         ensures ok { OnOk result (day_of self.new.kept ≡ Some day) }
         ensures err { OnErr result (self.new.kept ≡ None) }
-        ensures found { OfRows S.Store self.old self.new (λ history.
+        ensures found { EachHeld S.Store self.old self.new (λ history.
             IfSome self.new.kept (IsDayOf history)) }
     {
         self.kept.take();

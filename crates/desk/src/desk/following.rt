@@ -3,7 +3,7 @@ ghost use Rattle.std.specs.Prelude.{◌≡◌, true, false, option_copied, OnOk,
 ghost use Rattle.desk.specs.steps.Following.{AddsSome, EditsTwoApart, MayDrop};
 ghost use Rattle.desk.specs.steps.Following.{Follows, FollowsChange, FollowsDay, FollowsEdit};
 
-use kept::Kept;
+use daily_vrps::DailyVrps;
 use registry::{Auth, Change, Edit};
 use std::alloc::AllocError;
 
@@ -18,7 +18,11 @@ pub(super) struct Decided {
 }
 
 /// Follows an edit of a holder's rows. If the holder has none, nothing ends and nothing begins.
-fn follow_edit(kept: &mut Kept, edit: &Edit, auths: Option<&Vec<Auth>>) -> Result<(), AllocError>
+fn follow_edit(
+    kept: &mut DailyVrps,
+    edit: &Edit,
+    auths: Option<&Vec<Auth>>,
+) -> Result<(), AllocError>
     ensures ok { OnOk result (FollowsEdit edit.now (option_copied auths.entry) kept.old kept.new) }
     ensures err { OnErr result (AddsSome edit.now (option_copied auths.entry) kept.old) }
 {
@@ -30,7 +34,7 @@ fn follow_edit(kept: &mut Kept, edit: &Edit, auths: Option<&Vec<Auth>>) -> Resul
 
 /// Follows the change; returns whether it did. It does not follow new SLURM files, nor an edit that
 /// puts a VRP in if an allocation fails.
-fn follow_change(kept: &mut Kept, decided: &Decided) -> bool
+fn follow_change(kept: &mut DailyVrps, decided: &Decided) -> bool
     ensures yes { result ≡ true
         → FollowsChange decided.now.change decided.now.first decided.now.second kept.old kept.new }
     ensures no { result ≡ false
@@ -49,7 +53,7 @@ fn follow_change(kept: &mut Kept, decided: &Decided) -> bool
 }
 
 /// Makes the kept day that of the rows after the change, or drops it.
-pub(super) fn follow(kept: &mut Option<Kept>, decided: &Decided)
+pub(super) fn follow(kept: &mut Option<DailyVrps>, decided: &Decided)
     ensures follows { EditsTwoApart decided.now.change
         → Follows decided.now.change decided.now.first decided.now.second kept.old kept.new }
     ensures day { FollowsDay decided.now.change decided.now.first decided.now.second

@@ -5,13 +5,13 @@ ghost use Rattle.desk.specs.Answer.{is_accepted, AnswersQuery, AnswersShow, Answ
 ghost use Rattle.desk.specs.DayAfter.{DayAfterQuery, MovesDay};
 ghost use Rattle.desk.specs.Prepared.{day_of};
 ghost use Rattle.desk.specs.steps.Following.{reply_of};
-ghost use Rattle.desk.specs.Desk.{charter_of, HoldsHistory, OfHistories, OfRows};
+ghost use Rattle.desk.specs.Desk.{charter_of, HoldsHistory, EachHistory, EachHeld};
 
 use super::Desk;
+use crate::content_text::content_text;
 use crate::{Reply, Vrps};
 use addr::{Day, Name, Route};
-use contents::content_text;
-use kept::{gather, judge};
+use daily_vrps::{gather, judge};
 use registry::{Auth, Query};
 use sqlite::Alter;
 use std::alloc::AllocError;
@@ -28,8 +28,8 @@ impl<S: Alter> Desk<S> {
     /// Answers the query from the rows as they are now.
     pub(super) fn answer(&mut self, day: Day, caller: &Name, query: &Query) -> Reply
         ensures read { IsRead S.Store self.old.store self.new.store }
-        ensures held { OfHistories S.Store self.old self.new (HoldsHistory S.Store self.new) }
-        ensures answered { OfHistories S.Store self.old self.new (λ history.
+        ensures held { EachHistory S.Store self.old self.new (HoldsHistory S.Store self.new) }
+        ensures answered { EachHistory S.Store self.old self.new (λ history.
             AnswersQuery (charter_of self.old) history day caller.now query.now result) }
         ensures kept_day { DayAfterQuery day query.now result
             (day_of self.old.kept) (day_of self.new.kept) }
@@ -44,8 +44,8 @@ impl<S: Alter> Desk<S> {
     /// Like `answer`, but fails if an allocation fails or the database does not answer.
     fn look_up(&mut self, day: Day, caller: &Name, query: &Query) -> Result<Reply, StoreFault>
         ensures read { IsRead S.Store self.old.store self.new.store }
-        ensures held { OfHistories S.Store self.old self.new (HoldsHistory S.Store self.new) }
-        ensures answered { IfOk result (λ reply. OfHistories S.Store self.old self.new (λ history.
+        ensures held { EachHistory S.Store self.old self.new (HoldsHistory S.Store self.new) }
+        ensures answered { IfOk result (λ reply. EachHistory S.Store self.old self.new (λ history.
             AnswersQuery (charter_of self.old) history day caller.now query.now reply)) }
         ensures kept_day { DayAfterQuery day query.now (reply_of result)
             (day_of self.old.kept) (day_of self.new.kept) }
@@ -76,7 +76,7 @@ impl<S: Alter> Desk<S> {
     ) -> Result<Reply, StoreFault>
         ensures read { IsRead S.Store self.old.store self.new.store }
         ensures same { self.new.kept ≡ self.old.kept }
-        ensures answered { IfOk result (λ reply. OfRows S.Store self.old self.new (λ history.
+        ensures answered { IfOk result (λ reply. EachHeld S.Store self.old self.new (λ history.
             AnswersShow history holder.now day caller.now number reply)) }
         ensures never_done { IfOk result (λ reply. is_accepted reply ≡ false) }
     {
@@ -97,7 +97,7 @@ impl<S: Alter> Desk<S> {
     ) -> Result<Reply, StoreFault>
         ensures read { IsRead S.Store self.old.store self.new.store }
         ensures same { self.new.kept ≡ self.old.kept }
-        ensures answered { IfOk result (λ reply. OfRows S.Store self.old self.new (λ history.
+        ensures answered { IfOk result (λ reply. EachHeld S.Store self.old self.new (λ history.
             AnswersContent history holder.now day caller.now number reply)) }
         ensures never_done { IfOk result (λ reply. is_accepted reply ≡ false) }
     {
@@ -117,7 +117,7 @@ impl<S: Alter> Desk<S> {
     fn list(&mut self, holder: &Name, day: Day, caller: &Name) -> Result<Reply, StoreFault>
         ensures read { IsRead S.Store self.old.store self.new.store }
         ensures same { self.new.kept ≡ self.old.kept }
-        ensures answered { IfOk result (λ reply. OfRows S.Store self.old self.new (λ history.
+        ensures answered { IfOk result (λ reply. EachHeld S.Store self.old self.new (λ history.
             AnswersList history holder.now day caller.now reply)) }
         ensures never_done { IfOk result (λ reply. is_accepted reply ≡ false) }
     {
@@ -131,8 +131,8 @@ impl<S: Alter> Desk<S> {
     /// The VRPs of the day, rising.
     fn export(&mut self, day: Day) -> Result<Reply, StoreFault>
         ensures read { IsRead S.Store self.old.store self.new.store }
-        ensures held { OfHistories S.Store self.old self.new (HoldsHistory S.Store self.new) }
-        ensures answered { IfOk result (λ reply. OfHistories S.Store self.old self.new (λ history.
+        ensures held { EachHistory S.Store self.old self.new (HoldsHistory S.Store self.new) }
+        ensures answered { IfOk result (λ reply. EachHistory S.Store self.old self.new (λ history.
             AnswersPayloads history day reply)) }
         ensures moved { MovesDay day (reply_of result)
             (day_of self.old.kept) (day_of self.new.kept) }
@@ -149,8 +149,8 @@ impl<S: Alter> Desk<S> {
     /// The state of each route on the day.
     fn validity(&mut self, day: Day, routes: &[Route]) -> Result<Reply, StoreFault>
         ensures read { IsRead S.Store self.old.store self.new.store }
-        ensures held { OfHistories S.Store self.old self.new (HoldsHistory S.Store self.new) }
-        ensures answered { IfOk result (λ reply. OfHistories S.Store self.old self.new (λ history.
+        ensures held { EachHistory S.Store self.old self.new (HoldsHistory S.Store self.new) }
+        ensures answered { IfOk result (λ reply. EachHistory S.Store self.old self.new (λ history.
             AnswersValidity history day routes.now reply)) }
         ensures moved { MovesDay day (reply_of result)
             (day_of self.old.kept) (day_of self.new.kept) }

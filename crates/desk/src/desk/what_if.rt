@@ -1,20 +1,20 @@
 //! What-if requests.
 ghost use Rattle.std.specs.Prelude.{◌≡◌, false, option_copied, IfErr, IfOk, List, MatchResult};
 ghost use Rattle.addr.specs.declared.route.Route.{Route};
-ghost use Rattle.kept.specs.Days.{ExchangesVrps};
-ghost use Rattle.kept.specs.States.{states_after, states_now};
+ghost use Rattle.daily_vrps.specs.Days.{ExchangesVrps};
+ghost use Rattle.daily_vrps.specs.States.{states_after, states_now};
 ghost use Rattle.registry.specs.History.{History};
 ghost use Rattle.registry.specs.Rows.{auths_if_any};
 ghost use Rattle.store.specs.StoreRows.{IsRead};
 ghost use Rattle.desk.specs.Answer.{is_accepted, AnswersWhatIf, AreStatesOn};
-ghost use Rattle.desk.specs.Desk.{charter_of, OfRows};
+ghost use Rattle.desk.specs.Desk.{charter_of, EachHeld};
 ghost use Rattle.desk.specs.steps.WhatIf.{IsEnoughFor, WouldExchange};
 
 use super::Desk;
 use super::daily::{kept_if, kept_on};
 use crate::Reply;
 use addr::{Day, Name, Route};
-use kept::judge_twice;
+use daily_vrps::judge_twice;
 use payload::Validity;
 use registry::{Auth, HolderRows, Proposed};
 use sqlite::Alter;
@@ -43,7 +43,7 @@ impl<S: Alter> Desk<S> {
     ) -> Result<Reply, StoreFault>
         ensures read { IsRead S.Store self.old.store self.new.store }
         ensures same { self.new.kept ≡ self.old.kept }
-        ensures answered { IfOk result (λ reply. OfRows S.Store self.old self.new (λ history.
+        ensures answered { IfOk result (λ reply. EachHeld S.Store self.old self.new (λ history.
             AnswersWhatIf (charter_of self.old) history day caller.now holder.now changes.now
             routes.now reply)) }
         ensures never_done { IfOk result (λ reply. is_accepted reply ≡ false) }
@@ -73,16 +73,16 @@ impl<S: Alter> Desk<S> {
     ) -> Result<(Option<HolderRows>, Option<HolderRows>), Reply>
         ensures read { IsRead S.Store self.old.store self.new.store }
         ensures same { self.new.kept ≡ self.old.kept }
-        ensures found { OfRows S.Store self.old self.new (λ history. MatchResult result
+        ensures found { EachHeld S.Store self.old self.new (λ history. MatchResult result
             (λ supposed. WouldExchange (charter_of self.old) history day caller.now holder.now
             changes.now (auths_if_any supposed.0) (auths_if_any supposed.1))
             (λ reply. (routes : List Route) → AnswersWhatIf (charter_of self.old) history day
             caller.now holder.now changes.now routes reply)) }
         ensures never_done { IfErr result (λ reply. is_accepted reply ≡ false) }
     {
-        histories::laws::no_shared_vrp();
-        histories::laws::hypothetical_is_legal();
-        isolation::laws::hypothetical_keeps_others();
+        registry_laws::histories::no_shared_vrp();
+        registry_laws::histories::hypothetical_is_legal();
+        registry_laws::isolation::hypothetical_keeps_others();
         if changes.is_empty() {
             return Ok((None, None));
         }
@@ -95,7 +95,7 @@ impl<S: Alter> Desk<S> {
     fn load_for_changes(&mut self, holder: &Name, changes: &[Proposed]) -> Result<Part, StoreFault>
         ensures read { IsRead S.Store self.old.store self.new.store }
         ensures same { self.new.kept ≡ self.old.kept }
-        ensures part { IfOk result (λ part. OfRows S.Store self.old self.new (λ history.
+        ensures part { IfOk result (λ part. EachHeld S.Store self.old self.new (λ history.
             IsEnoughFor history holder.now changes.now part)) }
     {
         store::laws::part_of_a_history();
@@ -115,9 +115,9 @@ impl<S: Alter> Desk<S> {
     ) -> Result<Vec<(Validity, Validity)>, StoreFault>
         ensures read { IsRead S.Store self.old.store self.new.store }
         ensures same { self.new.kept ≡ self.old.kept }
-        ensures now { IfOk result (λ states. OfRows S.Store self.old self.new (λ history.
+        ensures now { IfOk result (λ states. EachHeld S.Store self.old self.new (λ history.
             AreStatesOn history day routes.now (states_now states.items))) }
-        ensures after { IfOk result (λ states. OfRows S.Store self.old self.new (λ history.
+        ensures after { IfOk result (λ states. EachHeld S.Store self.old self.new (λ history.
             (after : History) → ExchangesVrps history after day ended.now begun.now
             → AreStatesOn after day routes.now (states_after states.items))) }
     {

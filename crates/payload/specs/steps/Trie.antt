@@ -3,7 +3,6 @@ use Rattle.std.specs.Prelude.{refl, ℕ, zero, suc, ◌+◌, ◌-◌, ◌^◌, �
 use Rattle.std.specs.List.{filter_map, list_any}
 use Rattle.std.specs.Option.{option_and_then}
 use Rattle.std.proofs.Common.{lit≤}
-use Rattle.std.proofs.Math.Decide.{dec_le}
 use Rattle.addr.specs.Address.{bit_of}
 use Rattle.addr.specs.Family.{width}
 use Rattle.addr.specs.OriginValidation.{ValidationState, Valid, Invalid, NotFound, covers, is_from, matches}
@@ -14,6 +13,7 @@ use Rattle.addr.specs.declared.family.Family.TheVariants.{V4, V6}
 use Rattle.addr.specs.declared.prefix.Prefix.{Prefix}
 use Rattle.addr.specs.declared.route.Route.{Route}
 use Rattle.addr.specs.declared.vrp.Vrp.{Vrp}
+use Rattle.addr.specs.VrpParts.{vrp_with}
 use Rattle.payload.specs.declared.originator.Originator.{Originator}
 use Rattle.payload.specs.steps.Tree.{Tree, Leaf, Fork, has_on_path}
 
@@ -56,15 +56,9 @@ bits_from p at = last_bits p (p.length - at)
 
 -- ---- the VRPs of a tree
 
-abbrev pub vrp_if : (p : Prefix) (max : ℕ) (asn : Asn)
-    → Dec (p.length ≤ max) → Dec (max ≤ width p.family) → Option Vrp
-vrp_if p max asn (yes low) (yes high) =
-    Some (record { prefix = p; max = max; asn = asn; at_least_length = low; at_most_width = high })
-vrp_if p max asn _ _ = None
-
 -- the VRP of these parts, if there is one
 abbrev pub vrp_of_parts : Originator → Prefix → Option Vrp
-vrp_of_parts o p = vrp_if p o.max o.asn (dec_le p.length o.max) (dec_le o.max (width p.family))
+vrp_of_parts o p = vrp_with p o.max o.asn
 
 abbrev pub vrp_at : Family → ℕ → ℕ → Originator → Option Vrp
 vrp_at family first len o =

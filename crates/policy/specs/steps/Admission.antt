@@ -1,6 +1,6 @@
 -- What the rules of a command say of the rows that it is judged on.
 use Rattle.std.specs.Prelude.{ℕ, List, Some, None, Result, Ok, Err}
-use Rattle.charters.specs.declared.charter.Charter.{Charter}
+use Rattle.registry.specs.declared.charter.Charter.{Charter}
 use Rattle.registry.specs.declared.command.Command.{Command}
 use Rattle.registry.specs.declared.rule.Rule.{Rule}
 use Rattle.registry.specs.History.{History}

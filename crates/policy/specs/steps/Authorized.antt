@@ -4,7 +4,7 @@ use Rattle.std.specs.List.{list_any}
 use Rattle.std.specs.BTreeSet.{BTreeSet, contains}
 use Rattle.registry.specs.declared.authorization.Auth.{Auth}
 use Rattle.registry.specs.declared.authorization.ImportRow.{ImportRow}
-use Rattle.registry.specs.declared.authorization.RoaPrefix.{RoaPrefix}
+use Rattle.addr.specs.declared.roa_prefix.RoaPrefix.{RoaPrefix}
 use Rattle.registry.specs.contracts.authorization.ImportRowOrd.TheImpl as ImportRowOrd
 use Rattle.registry.specs.Import.{has_terms}
 use Rattle.registry.specs.Terms.{row_terms}
@@ -15,8 +15,8 @@ row_of_entries x (e ∷ []) =
     Some (record { asn = x.asn; prefix = e.prefix; max = e.max; from = x.from; until = x.until })
 row_of_entries x _ = None
 
-abbrev pub row_of : Auth → Option ImportRow
-row_of x = row_of_entries x x.entries
+abbrev pub row_of_auth : Auth → Option ImportRow
+row_of_auth x = row_of_entries x x.entries
 
 -- the set has the rows of which some authorization has the terms
 abbrev pub AreAuthorized : BTreeSet ImportRow → List Auth → Type 0

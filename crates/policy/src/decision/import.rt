@@ -3,13 +3,13 @@
 ghost use Rattle.std.specs.Prelude.{◌≡◌, Some, Err, option_copied, IfOk, OnOk};
 ghost use Rattle.std.specs.Global.{Vec};
 ghost use Rattle.registry.specs.declared.authorization.ImportRow.{ImportRow as ImportRowValue};
-ghost use Rattle.charters.specs.declared.charter.Charter.{Charter as CharterValue};
+ghost use Rattle.registry.specs.declared.charter.Charter.{Charter as CharterValue};
 ghost use Rattle.registry.specs.declared.command.Command.{Command};
 ghost use Rattle.registry.specs.History.{History};
 ghost use Rattle.registry.specs.Import.{JudgesRow};
 ghost use Rattle.registry.specs.Verdict.{IsLegal};
 ghost use Rattle.registry.specs.Rows.{rows_of, rows_if_any, RowsIfAny};
-ghost use Rattle.registry.specs.Answer.{OfRows, IsAnswer};
+ghost use Rattle.registry.specs.Answer.{AtEachHolder, IsAnswer};
 ghost use Rattle.registry.specs.Edits.{HasEditsOf, IsImportOf};
 ghost use Rattle.policy.specs.steps.Authorized.{AreAuthorized};
 ghost use Rattle.policy.specs.steps.Import.{AnswersImport, IsRowDone, MakesOfRow};
@@ -36,7 +36,7 @@ fn import_row(
     row: &ImportRow,
 ) -> Result<(), Refusal>
     requires { AreAuthorized authorized.old rows.old.auths.items }
-    ensures judged { (charter : CharterValue) → OfRows charter (Some (rows_of rows.old))
+    ensures judged { (charter : CharterValue) → AtEachHolder charter (Some (rows_of rows.old))
         (λ history h. Judged
         (λ _. IsRowDone charter history h day caller.now row.now auths.old auths.new
         (rows_of rows.old) (rows_of rows.new))
@@ -62,7 +62,7 @@ fn import_rows(
     caller: &Name,
     listed: &[ImportRow],
 ) -> Result<Edit, Refusal>
-    ensures answer { (charter : CharterValue) → OfRows charter (Some (rows_of before.now))
+    ensures answer { (charter : CharterValue) → AtEachHolder charter (Some (rows_of before.now))
         (λ history h. AnswersImport charter history h day caller.now listed.now result) }
     ensures shape { IfOk result (IsImportOf listed.now) }
 {
@@ -101,7 +101,7 @@ fn import_edit(
     listed: &[ImportRow],
 ) -> Result<Edit, Refusal>
     ensures answer { (charter : CharterValue)
-        → OfRows charter (rows_if_any (option_copied rows.entry))
+        → AtEachHolder charter (rows_if_any (option_copied rows.entry))
         (λ history h. AnswersImport charter history h day caller.now listed.now result) }
     ensures shape { IfOk result (IsImportOf listed.now) }
 {

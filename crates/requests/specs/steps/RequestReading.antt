@@ -10,10 +10,10 @@ use Rattle.addr.specs.Order.{prefix_cmp}
 use Rattle.addr.specs.declared.asn.Asn.{Asn as AsnValue}
 use Rattle.addr.specs.declared.prefix.Prefix.{Prefix}
 use Rattle.addr.specs.declared.route.Route.{Route}
-use Rattle.charters.specs.Repeats.{has_repeat}
+use Rattle.registry.specs.Repeats.{has_repeat}
 use Rattle.registry.specs.declared.authorization.AuthTerms.{AuthTerms}
 use Rattle.registry.specs.declared.authorization.ImportRow.{ImportRow}
-use Rattle.registry.specs.declared.authorization.RoaPrefix.{RoaPrefix}
+use Rattle.addr.specs.declared.roa_prefix.RoaPrefix.{RoaPrefix}
 use Rattle.requests.specs.declared.request.entries.TheConstants.{MOST_ENTRIES}
 use Rattle.registry.specs.RoaPrefixes.{repeats_prefix}
 use Rattle.registry.specs.declared.command.Command.TheVariants.{Register, Delegate, Transfer, Reclaim, Grant, Revoke, Create, Amend, Withdraw, Import, Slurm}
@@ -76,23 +76,23 @@ abbrev pub member_in : {A : Type 0} → (Data → Option A) → Fault → List �
 member_in reading fault name d =
     required Members (λ found. ok_or (reading found) fault) (get name d)
 
-abbrev pub holder_in : List ℕ → Data → Result (List ℕ) Fault
-holder_in = member_in as_name Holder
+abbrev pub holder_member : List ℕ → Data → Result (List ℕ) Fault
+holder_member = member_in as_name Holder
 
-abbrev pub caller_in : List ℕ → Data → Result (List ℕ) Fault
-caller_in = member_in as_name Caller
+abbrev pub caller_member : List ℕ → Data → Result (List ℕ) Fault
+caller_member = member_in as_name Caller
 
-abbrev pub prefix_in : Data → Result Prefix Fault
-prefix_in = member_in as_prefix PrefixFault (codes "prefix")
+abbrev pub prefix_member : Data → Result Prefix Fault
+prefix_member = member_in as_prefix PrefixFault (codes "prefix")
 
-abbrev pub max_in : Data → Result ℕ Fault
-max_in = member_in as_max Max (codes "max")
+abbrev pub max_member : Data → Result ℕ Fault
+max_member = member_in as_max Max (codes "max")
 
-abbrev pub number_in : Data → Result ℕ Fault
-number_in = member_in as_number Number (codes "number")
+abbrev pub number_member : Data → Result ℕ Fault
+number_member = member_in as_number Number (codes "number")
 
-abbrev pub day_in : List ℕ → Data → Result ℕ Fault
-day_in = member_in as_day Day
+abbrev pub day_member : List ℕ → Data → Result ℕ Fault
+day_member = member_in as_day Day
 
 -- a SLURM file, its fault as one of the request
 abbrev pub as_file : Data → Result Exceptions Fault
@@ -159,7 +159,7 @@ chosen has_one has_other one other = Err Members
 
 abbrev pub entry_members_in : Data → Result RoaPrefix Fault
 entry_members_in d =
-    mapped (λ p. record { prefix = p.0; max = p.1 }) (both fault_order (prefix_in d) (max_in d))
+    mapped (λ p. record { prefix = p.0; max = p.1 }) (both fault_order (prefix_member d) (max_member d))
 
 abbrev pub entry_in : Data → Result RoaPrefix Fault
 entry_in d = unless fault_order (entry_members_in d) (only Members (names_of entry_members) d)
@@ -183,7 +183,7 @@ abbrev pub max_item_in : Data → Result ℕ Fault
 max_item_in d = ok_or (as_max d) Max
 
 abbrev pub one_max_in : Data → Result (List ℕ) Fault
-one_max_in d = mapped (λ max. max ∷ []) (max_in d)
+one_max_in d = mapped (λ max. max ∷ []) (max_member d)
 
 abbrev pub maxes_in : Data → Result (List ℕ) Fault
 maxes_in d =
@@ -222,7 +222,7 @@ files_in d =
 abbrev pub asn_and_days_in : Data → Result (AsnValue × (ℕ × ℕ)) Fault
 asn_and_days_in d =
     both fault_order (member_in as_asn Asn (codes "asn") d)
-    (both fault_order (day_in (codes "from") d) (day_in (codes "until") d))
+    (both fault_order (day_member (codes "from") d) (day_member (codes "until") d))
 
 abbrev pub terms_of : (AsnValue × (ℕ × ℕ)) × List RoaPrefix → AuthTerms
 terms_of p = record { asn = p.0.0; entries = p.1; from = p.0.1.0; until = p.0.1.1 }
@@ -230,12 +230,12 @@ terms_of p = record { asn = p.0.0; entries = p.1; from = p.0.1.0; until = p.0.1.
 abbrev pub terms_in : Data → Result AuthTerms Fault
 terms_in d = mapped terms_of (both fault_order (asn_and_days_in d) (entries_in d))
 
-abbrev pub row_of : (AsnValue × (ℕ × ℕ)) × RoaPrefix → ImportRow
-row_of p =
+abbrev pub row_of_members : (AsnValue × (ℕ × ℕ)) × RoaPrefix → ImportRow
+row_of_members p =
     record { asn = p.0.0; prefix = p.1.prefix; max = p.1.max; from = p.0.1.0; until = p.0.1.1 }
 
 abbrev pub row_members_in : Data → Result ImportRow Fault
-row_members_in d = mapped row_of (both fault_order (asn_and_days_in d) (entry_members_in d))
+row_members_in d = mapped row_of_members (both fault_order (asn_and_days_in d) (entry_members_in d))
 
 -- ---- rows, changes and routes
 
@@ -247,7 +247,7 @@ abbrev pub change_by : Option Action → Data → Result Proposed Fault
 change_by (Some AskCreate) d =
     mapped CreateChange (unless fault_order (terms_in d) (only Members (part_names creation_members (entry_choice ∷ [])) d))
 change_by (Some AskWithdraw) d =
-    mapped WithdrawChange (unless fault_order (number_in d) (only Members (names_of withdrawal_members) d))
+    mapped WithdrawChange (unless fault_order (number_member d) (only Members (names_of withdrawal_members) d))
 change_by other d = Err Members
 
 abbrev pub change_in : Data → Result Proposed Fault
@@ -256,11 +256,11 @@ change_in d = change_by (action_in d) d
 abbrev pub route_in : Data → Result Route Fault
 route_in d =
     unless fault_order (mapped (λ p. record { prefix = p.0; origin = p.1 })
-    (both fault_order (prefix_in d) (member_in as_origin Asn (codes "origin") d)))
+    (both fault_order (prefix_member d) (member_in as_origin Asn (codes "origin") d)))
     (only Members (names_of route_members) d)
 
-abbrev pub rows_in : Data → Result (List ImportRow) Fault
-rows_in = items_in row_in 1 MOST_ITEMS (codes "rows")
+abbrev pub row_list_in : Data → Result (List ImportRow) Fault
+row_list_in = items_in row_in 1 MOST_ITEMS (codes "rows")
 
 abbrev pub changes_in : Data → Result (List Proposed) Fault
 changes_in = items_in change_in 0 MOST_CHANGES (codes "changes")
@@ -274,7 +274,7 @@ abbrev pub slurm_request : Result (List NamedSlurm) Fault → Result RequestTerm
 slurm_request files = mapped (λ f. request (CommandRequest (Slurm f))) files
 
 abbrev pub holder_and_prefix : Subject → Data → Result (List ℕ × Prefix) Fault
-holder_and_prefix subject d = both fault_order subject.holder (prefix_in d)
+holder_and_prefix subject d = both fault_order subject.holder (prefix_member d)
 
 abbrev pub holder_and_number : Subject → Result (List ℕ × ℕ) Fault
 holder_and_number subject = both fault_order subject.holder subject.number
@@ -283,10 +283,10 @@ holder_and_number subject = both fault_order subject.holder subject.number
 abbrev pub grant_terms_in : Data → Result GrantTerms Fault
 grant_terms_in d =
     mapped (λ p. record { to = p.0; role = p.1.0; scope = p.1.1.0; until = p.1.1.1 })
-    (both fault_order (caller_in (codes "name") d)
+    (both fault_order (caller_member (codes "name") d)
     (both fault_order (member_in as_role Role (codes "role") d)
     (both fault_order (member_in (as_scope (role_at d)) Role (codes "scope") d)
-    (day_in (codes "until") d))))
+    (day_member (codes "until") d))))
 
 abbrev pub request_in : Action → Subject → Data → Result RequestTerms Fault
 request_in AskRegister subject d =
@@ -295,8 +295,8 @@ request_in AskDelegate subject d =
     mapped (λ p. request (CommandRequest (Delegate p.0 p.1))) (holder_and_prefix subject d)
 request_in AskTransfer subject d =
     mapped (λ p. request (CommandRequest (Transfer p.0 p.1.0 p.1.1)))
-    (both fault_order (prefix_in d)
-    (both fault_order (holder_in (codes "giver") d) (holder_in (codes "taker") d)))
+    (both fault_order (prefix_member d)
+    (both fault_order (holder_member (codes "giver") d) (holder_member (codes "taker") d)))
 request_in AskReclaim subject d =
     mapped (λ p. request (CommandRequest (Reclaim p.0 p.1))) (holder_and_prefix subject d)
 request_in AskGrant subject d =
@@ -308,7 +308,7 @@ request_in AskCreate subject d =
 request_in AskAmend subject d =
     mapped (λ p. amend p.0.0 p.0.1 p.1.1 p.1.0)
     (both fault_order (holder_and_number subject)
-    (both fault_order (day_in (codes "until") d) (maxes_in d)))
+    (both fault_order (day_member (codes "until") d) (maxes_in d)))
 request_in AskWithdraw subject d =
     mapped (λ p. request (CommandRequest (Withdraw p.0 p.1))) (holder_and_number subject)
 request_in AskSlurm subject d = slurm_request (files_in d)
@@ -322,7 +322,7 @@ request_in AskList subject d =
 request_in AskExport subject d =
     mapped (λ p. request (QueryRequest (ListQuery p))) subject.holder
 request_in AskImport subject d =
-    mapped (λ p. import p.0 p.1) (both fault_order subject.holder (rows_in d))
+    mapped (λ p. import p.0 p.1) (both fault_order subject.holder (row_list_in d))
 request_in AskWhatIf subject d =
     mapped (λ p. what_if p.0 p.1.0 p.1.1)
     (both fault_order subject.holder (both fault_order (changes_in d) (routes_in d)))
@@ -333,13 +333,13 @@ request_in AskValidity subject d = mapped validity (routes_in d)
 
 -- a line has members for its holder and its number
 abbrev pub line_subject : Data → Subject
-line_subject d = record { holder = holder_in (codes "holder") d; number = number_in d }
+line_subject d = record { holder = holder_member (codes "holder") d; number = number_member d }
 
 abbrev pub asked_as : Action → Data → Result AskedTerms Fault
 asked_as action d =
     unless fault_order
-    (both fault_order (day_in (codes "day") d)
-    (both fault_order (caller_in (codes "caller") d) (request_in action (line_subject d) d)))
+    (both fault_order (day_member (codes "day") d)
+    (both fault_order (caller_member (codes "caller") d) (request_in action (line_subject d) d)))
     (only Members (line_names action) d)
 
 abbrev pub asked_by : Option Action → Data → Result AskedTerms Fault

@@ -10,8 +10,9 @@ use super::form::has_some;
 use super::lists::items_in;
 use super::members::{as_max, max_in, prefix_in};
 use crate::member_names::{ENTRIES, MAX, MAXES, PREFIX};
+use addr::RoaPrefix;
 use json_values::{FromJson, both, only, unless};
-use registry::{RoaPrefix, RoaPrefixes, RoaPrefixesFault};
+use registry::{RoaPrefixes, RoaPrefixesFault};
 use serde_json::Value;
 use std::alloc::Global;
 

@@ -4,7 +4,7 @@ ghost use Rattle.serde_json.specs.View.{view};
 ghost use Rattle.json_values.specs.Values.{as_asn, as_name};
 ghost use Rattle.requests.specs.RequestFaults.{role_at};
 ghost use Rattle.requests.specs.RequestValues.{any_scope, as_max, as_number, as_origin, as_role, as_scope, fitting_scope, role_of};
-ghost use Rattle.requests.specs.steps.RequestReading.{caller_in, day_in, holder_in, max_in, member_in, number_in, prefix_in};
+ghost use Rattle.requests.specs.steps.RequestReading.{caller_member, day_member, holder_member, max_member, member_in, number_member, prefix_member};
 
 use super::fault::Fault;
 use crate::member_names::{ASN, MAX, NAME, NUMBER, ORIGIN, PREFIX, ROLE, SCOPE};
@@ -90,13 +90,13 @@ fn as_scope(role: Option<Role>, value: &Value) -> Option<Scope>
 // ---- members
 
 pub(crate) fn holder_in(value: &Value, name: &str) -> Result<Name, Fault>
-    ensures { result ≡ holder_in name.now (view value.now) }
+    ensures { result ≡ holder_member name.now (view value.now) }
 {
     as_name(member(value, name)?).ok_or(Fault::Holder)
 }
 
 pub(crate) fn caller_in(value: &Value, name: &str) -> Result<Name, Fault>
-    ensures { result ≡ caller_in name.now (view value.now) }
+    ensures { result ≡ caller_member name.now (view value.now) }
 {
     as_name(member(value, name)?).ok_or(Fault::Caller)
 }
@@ -109,7 +109,7 @@ pub(crate) fn file_name_in(value: &Value) -> Result<Name, Fault>
 }
 
 pub(crate) fn prefix_in(value: &Value) -> Result<Prefix, Fault>
-    ensures { result ≡ prefix_in (view value.now) }
+    ensures { result ≡ prefix_member (view value.now) }
 {
     as_prefix(member(value, PREFIX)?).ok_or(Fault::Prefix)
 }
@@ -127,19 +127,19 @@ pub(crate) fn origin_in(value: &Value) -> Result<Origin, Fault>
 }
 
 pub(crate) fn max_in(value: &Value) -> Result<u8, Fault>
-    ensures { result ≡ max_in (view value.now) }
+    ensures { result ≡ max_member (view value.now) }
 {
     as_max(member(value, MAX)?).ok_or(Fault::Max)
 }
 
 pub(crate) fn number_in(value: &Value) -> Result<u32, Fault>
-    ensures { result ≡ number_in (view value.now) }
+    ensures { result ≡ number_member (view value.now) }
 {
     as_number(member(value, NUMBER)?).ok_or(Fault::Number)
 }
 
 pub(crate) fn day_in(value: &Value, name: &str) -> Result<Day, Fault>
-    ensures { result ≡ day_in name.now (view value.now) }
+    ensures { result ≡ day_member name.now (view value.now) }
 {
     as_day(member(value, name)?).ok_or(Fault::Day)
 }

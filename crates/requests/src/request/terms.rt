@@ -2,15 +2,15 @@
 ghost use Rattle.std.specs.Prelude.{◌≡◌, IfOk};
 ghost use Rattle.serde_json.specs.View.{view};
 ghost use Rattle.json_values.specs.Parts.{mapped};
-ghost use Rattle.requests.specs.steps.RequestReading.{asn_and_days_in, row_members_in, row_of, terms_in, terms_of};
+ghost use Rattle.requests.specs.steps.RequestReading.{asn_and_days_in, row_members_in, row_of_members, terms_in, terms_of};
 
 use super::entries::{entries_in, entry_members_in};
 use super::fault::{Fault, Read};
 use super::members::{asn_in, day_in};
 use crate::member_names::{FROM, UNTIL};
-use addr::{Asn, Day};
+use addr::{Asn, Day, RoaPrefix};
 use json_values::both;
-use registry::{AuthTerms, ImportRow, RoaPrefix, RoaPrefixes};
+use registry::{AuthTerms, ImportRow, RoaPrefixes};
 use serde_json::Value;
 use std::alloc::Global;
 
@@ -55,7 +55,7 @@ pub(crate) fn row_members_in(value: &Value) -> Result<ImportRow, Fault>
 }
 
 fn row_of(parts: Result<(AsnAndDays, RoaPrefix), Fault>) -> Result<ImportRow, Fault>
-    ensures { result ≡ mapped row_of parts }
+    ensures { result ≡ mapped row_of_members parts }
 {
     let ((asn, (from, until)), entry) = parts?;
     Ok(ImportRow {

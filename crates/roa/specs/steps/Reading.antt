@@ -1,21 +1,18 @@
 -- Reading octets from left to right, as the reader's functions do. None: no content begins so.
-use Rattle.std.specs.Prelude.{◌≡◌, ℕ, zero, suc, ◌+◌, ◌-◌, ◌*◌, ◌/◌, ◌%◌, ◌^◌, ◌&&◌, ◌==◌, nat_eq, nat_lt, nat_le, if◌then◌else◌, List, [], ◌∷◌, ◌++◌, length, take, drop, map, Option, Some, None, option_and_then, Result, Ok, Err}
+use Rattle.std.specs.Prelude.{◌≡◌, ℕ, zero, suc, ◌+◌, ◌-◌, ◌*◌, ◌/◌, ◌%◌, ◌^◌, ◌&&◌, ◌==◌, nat_eq, nat_lt, nat_le, if◌then◌else◌, List, [], ◌∷◌, ◌++◌, length, take, drop, map, Option, Some, None, Result, Ok, Err}
 use Rattle.std.specs.Option.{option_map}
 use denote.Ref.{Bor}
 use Rattle.roa.specs.declared.fault.DecodeFault.{DecodeFault}
 use Rattle.roa.specs.declared.fault.DecodeFault.TheVariants.{NotContent, Memory}
 use Rattle.std.specs.Cmp.Lexicographic.{pointwise}
 use Rattle.addr.specs.Family.{width}
+use Rattle.addr.specs.PrefixText.{◌>>=◌}
 use Rattle.addr.specs.declared.family.Family.{Family}
 use Rattle.addr.specs.declared.family.Family.TheVariants.{V4, V6}
-use Rattle.roa.specs.declared.content.Entry.{Entry}
+use Rattle.addr.specs.declared.roa_prefix.RoaPrefix.{RoaPrefix as Entry}
 use Rattle.roa.specs.declared.content.TheConstants.Content.{MAX_ENTRIES}
 use Rattle.roa.specs.RoaContent.{be_value, family_octets}
 use Rattle.roa.specs.ContentOctets.{integer_len}
-
-infixl 10 ◌>>=◌
-abbrev pub ◌>>=◌ : {A B : Type 0} → Option A → (A → Option B) → Option B
-o >>= f = option_and_then f o
 
 -- an entry without the facts that its type keeps
 pub record Numbers : Type 0 where
@@ -93,11 +90,11 @@ entry_at family bytes = do
   Some (entry, contents.1)
 
 -- the entries of a family, at most so many, that are all of the octets
-unfoldable pub entries_of : ℕ → Family → List ℕ → Option (List Numbers)
-entries_of zero family bytes = if length bytes == 0 then Some [] else None
-entries_of (suc room) family bytes =
+unfoldable pub entries_in_octets : ℕ → Family → List ℕ → Option (List Numbers)
+entries_in_octets zero family bytes = if length bytes == 0 then Some [] else None
+entries_in_octets (suc room) family bytes =
     if length bytes == 0 then Some []
-    else (entry_at family bytes >>= λ entry. entries_of room family entry.1 >>= λ others. Some (entry.0 ∷ others))
+    else (entry_at family bytes >>= λ entry. entries_in_octets room family entry.1 >>= λ others. Some (entry.0 ∷ others))
 
 -- the addresses of a block of the family, and the octets after the block
 unfoldable pub block_at : Family → List ℕ → Option (List ℕ × List ℕ)
@@ -109,7 +106,7 @@ block_at family bytes = do
 
 abbrev pub entries_after : ℕ → Family → List ℕ → Option (List ℕ × List ℕ) → Option (List Numbers × List ℕ)
 entries_after room family bytes None = Some ([], bytes)
-entries_after room family bytes (Some block) = entries_of room family block.0 >>= λ entries. Some (entries, block.1)
+entries_after room family bytes (Some block) = entries_in_octets room family block.0 >>= λ entries. Some (entries, block.1)
 
 -- the entries of a family, none where no block of it begins here, and the octets after them
 unfoldable pub family_at : ℕ → Family → List ℕ → Option (List Numbers × List ℕ)
@@ -141,9 +138,9 @@ content_of bytes = do
 -- ---- what a reader answers
 
 -- a reader's answer, seen by view, is what reading gives
-abbrev pub Gives : {X Y : Type 0} → (X → Y) → Option X → Option Y → Type 0
-Gives view None read = read ≡ None
-Gives view (Some x) read = read ≡ Some (view x)
+abbrev pub ReadsAs : {X Y : Type 0} → (X → Y) → Option X → Option Y → Type 0
+ReadsAs view None read = read ≡ None
+ReadsAs view (Some x) read = read ≡ Some (view x)
 
 -- a reader that adds the entries that it reads: their list before and after
 abbrev pub Adds : {X : Type 0} → Result X DecodeFault → List Entry → List Entry → Option (List Numbers) → Type 0

@@ -1,12 +1,11 @@
 -- What the reader answers, part by part: what the tree says, or its lowest fault. A file is read
 -- from all of its parts at once (`both`, `unless`, `each`), so that the fault is the lowest.
-use Rattle.std.specs.Prelude.{ℕ, ◌≤◌, ◌==◌, List, [], ◌∷◌, codes, if◌then◌else◌, Option, Some, None, is_some, option_map, Result, Ok, Err}
+use Rattle.std.specs.Prelude.{ℕ, ◌==◌, List, [], ◌∷◌, codes, if◌then◌else◌, Option, Some, None, is_some, option_map, Result, Ok, Err}
 use Rattle.std.specs.Option.{ok_or}
-use Rattle.std.proofs.Math.Decide.{dec_le}
-use Rattle.addr.specs.Family.{width}
 use Rattle.addr.specs.declared.prefix.Prefix.{Prefix}
 use Rattle.addr.specs.declared.asn.Asn.{Asn}
 use Rattle.addr.specs.declared.vrp.Vrp.{Vrp}
+use Rattle.addr.specs.VrpParts.{vrp_with}
 use Rattle.serde_json.specs.Data.{Data, Items, no_items, item}
 use Rattle.serde_json.specs.Find.{get, as_object, as_str}
 use Rattle.json_values.specs.Parts.{both, and_then, unless, each}
@@ -25,11 +24,11 @@ use Rattle.slurm.specs.declared.filter.Filter.TheVariants.{Under, By, Both}
 
 -- ---- single members
 
-abbrev pub prefix_in : Data → Result Prefix SlurmFault
-prefix_in d = ok_or (as_prefix d) PrefixFault
+abbrev pub prefix_or_fault : Data → Result Prefix SlurmFault
+prefix_or_fault d = ok_or (as_prefix d) PrefixFault
 
-abbrev pub asn_in : Data → Result Asn SlurmFault
-asn_in d = ok_or (as_asn d) AsnFault
+abbrev pub asn_or_fault : Data → Result Asn SlurmFault
+asn_or_fault d = ok_or (as_asn d) AsnFault
 
 abbrev pub comment_in : Data → Result CommentRead SlurmFault
 comment_in d = if is_some (as_str d) then Ok (record {}) else Err Comment
@@ -57,36 +56,26 @@ filter_of (None, None) = Err EmptyFilter
 abbrev pub filter_in : Data → Result Filter SlurmFault
 filter_in d =
     unless slurm_fault_number (unless slurm_fault_number (and_then filter_of
-    (both slurm_fault_number (optional prefix_in (get (codes "prefix") d))
-    (optional asn_in (get (codes "asn") d))))
+    (both slurm_fault_number (optional prefix_or_fault (get (codes "prefix") d))
+    (optional asn_or_fault (get (codes "asn") d))))
     (only Members filter_names d))
     (optional comment_in (get (codes "comment") d))
 
 -- ---- prefix assertions
 
--- the VRP of this maxLength, which lies between the prefix's length and the family's width
-abbrev pub vrp_if : (p : Prefix) (max : ℕ) (asn : Asn)
-    → Dec (p.length ≤ max) → Dec (max ≤ width p.family) → Option Vrp
-vrp_if p max asn (yes low) (yes high) =
-    Some (record { prefix = p; max = max; asn = asn; at_least_length = low; at_most_width = high })
-vrp_if p max asn _ _ = None
-
-abbrev pub vrp_with : Prefix → ℕ → Asn → Option Vrp
-vrp_with p max asn = vrp_if p max asn (dec_le p.length max) (dec_le max (width p.family))
-
 -- without a maxPrefixLength it is the prefix's own length
-abbrev pub max_length : Prefix → Option LengthRead → ℕ
-max_length p None = p.length
-max_length p (Some max) = max.0
+abbrev pub max_or_length : Prefix → Option LengthRead → ℕ
+max_or_length p None = p.length
+max_or_length p (Some max) = max.0
 
 abbrev pub assertion_of : Prefix × (Asn × Option LengthRead) → Result Vrp SlurmFault
-assertion_of (p, (asn, max)) = ok_or (vrp_with p (max_length p max) asn) MaxPrefixLength
+assertion_of (p, (asn, max)) = ok_or (vrp_with p (max_or_length p max) asn) MaxPrefixLength
 
 abbrev pub assertion_in : Data → Result Vrp SlurmFault
 assertion_in d =
     unless slurm_fault_number (unless slurm_fault_number (and_then assertion_of
-    (both slurm_fault_number (required Members prefix_in (get (codes "prefix") d))
-    (both slurm_fault_number (required Members asn_in (get (codes "asn") d))
+    (both slurm_fault_number (required Members prefix_or_fault (get (codes "prefix") d))
+    (both slurm_fault_number (required Members asn_or_fault (get (codes "asn") d))
     (optional length_in (get (codes "maxPrefixLength") d)))))
     (only Members assertion_names d))
     (optional comment_in (get (codes "comment") d))

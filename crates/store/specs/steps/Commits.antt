@@ -4,9 +4,9 @@ use Rattle.sqlite.specs.Effect.{Database, IsDatabase}
 use Rattle.sqlite.specs.State.{State}
 use Rattle.sqlite_trees.specs.Tree.{Trees}
 use Rattle.registry.specs.declared.change.Change.{Change}
-use Rattle.tables.specs.Tables.{desk_tables}
-use Rattle.transactions.specs.Databases.{IsDeskTrees}
-use Rattle.edits.specs.Changes.{RowsBecome}
+use Rattle.store_tables.specs.Tables.{desk_tables}
+use Rattle.store_transactions.specs.Databases.{IsDeskTrees}
+use Rattle.store_write.specs.Changes.{RowsBecome}
 
 -- the change is made and committed, and the schema stays
 pub record CommitsChange (change : Change) (old new : State) : Type 0 where

@@ -5,7 +5,7 @@ use Rattle.sqlite_trees.specs.Tree.{IsAscending}
 use Rattle.addr.specs.declared.asn.Asn.{Asn}
 use Rattle.addr.specs.declared.prefix.Prefix.{Prefix}
 use Rattle.registry.specs.declared.authorization.Auth.{Auth}
-use Rattle.registry.specs.declared.authorization.RoaPrefix.{RoaPrefix}
+use Rattle.addr.specs.declared.roa_prefix.RoaPrefix.{RoaPrefix}
 use Rattle.registry.specs.declared.command.Proposed.{Proposed}
 use Rattle.registry.specs.declared.command.Proposed.TheVariants.{Create, Withdraw}
 use Rattle.registry.specs.Terms.{gives_some, terms_overlap}

@@ -6,10 +6,10 @@ use Rattle.registry.specs.declared.asked.Asked.{Asked as AskedRequest}
 use Rattle.desk.specs.declared.desk.Desk.{Desk}
 use Rattle.desk.specs.declared.reply.Reply.{Reply}
 use Rattle.desk.specs.declared.reply.Reply.TheVariants.{Payloads}
-use Rattle.kept.specs.CsvLength.{csv_of}
+use Rattle.daily_vrps.specs.CsvLength.{csv_of}
 use Rattle.payload.specs.VrpSet as set
 use Rattle.requests.specs.HttpRequests.{asked, malformed, NeedsMemory, ReadsHttp, refused}
-use Rattle.web.specs.HttpAnswers.{AnswersHttp, KeepsAll, RepliesUnsentBy}
+use Rattle.web.specs.HttpAnswers.{AnswersHttp, AllStays, RepliesUnsentBy}
 use Rattle.web.specs.HttpResponses.{reply_response, unavailable_response}
 use Rattle.web.specs.ReplyText.{short_text}
 use Rattle.web.specs.ScriptAnswer.{RepliesAt}
@@ -35,7 +35,7 @@ extent_of NotRead = Part
 -- the response says Unavailable, since the reply stays unsent; the request has changed at most which day is kept
 abbrev pub AnswersUnavailable : {S : Type 0} → Ghosts S → Desk S → AskedRequest → List ℕ → Desk S → Type 0
 AnswersUnavailable g old request text new =
-    (text ≡ unavailable_response) × KeepsAll g old new × RepliesUnsentBy (RepliesAt g) old request new
+    (text ≡ unavailable_response) × AllStays g old new × RepliesUnsentBy (RepliesAt g) old request new
 
 -- the response to what was read
 abbrev pub AnswersNext : {S : Type 0} → Ghosts S → Desk S → Next → List ℕ → Desk S → Type 0

@@ -1,6 +1,6 @@
 -- How a text goes on from a line that is unfinished.
 use Rattle.std.specs.Prelude.{ℕ, List, [], ◌∷◌, ◌++◌}
-use Rattle.web.specs.ScriptLines.{all_but_last, last_of, pieces}
+use Rattle.web.specs.ScriptLines.{all_but_last, last_piece, pieces}
 
 -- the pieces, the first of them behind these bytes
 abbrev pub behind : List ℕ → List (List ℕ) → List (List ℕ)
@@ -13,4 +13,4 @@ completed_lines unfinished text = all_but_last (behind unfinished (pieces text))
 
 -- the line that is unfinished after the text
 abbrev pub unfinished_line : List ℕ → List ℕ → List ℕ
-unfinished_line unfinished text = last_of (behind unfinished (pieces text))
+unfinished_line unfinished text = last_piece (behind unfinished (pieces text))

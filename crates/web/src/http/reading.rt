@@ -2,7 +2,7 @@
 ghost use Rattle.std.specs.Prelude.{◌≡◌, ◌≢◌, ◌++◌, ◌<◌, ℕ, List, Ok, None, Some, length, IfSome};
 ghost use Rattle.std.specs.Option.{option_copied};
 ghost use Rattle.http_messages.specs.HeadEnd.{IsWholeHead};
-ghost use Rattle.http_messages.specs.Input.{Gives, IsOver};
+ghost use Rattle.http_messages.specs.Input.{Gives, HasNoMore};
 ghost use Rattle.requests.specs.RequestHeads.{SaysHead, head_view};
 ghost use Rattle.requests.specs.HttpRequests.{IsCutShort, IsMessage};
 ghost use Rattle.web.specs.steps.HttpAnswering.{ReadsNext, extent_of};
@@ -52,7 +52,7 @@ pub(super) fn read_next<S: Source>(
     ensures none { result ≡ None → (bytes : List ℕ)
         × Gives bytes (S.handed_out source.old) (S.handed_out source.new)
         × IsCutShort bytes
-        × IsOver (S.has_ended source.new) (S.has_failed source.new) }
+        × HasNoMore (S.has_ended source.new) (S.has_failed source.new) }
     ensures begun { routes.entry ≢ None → IfSome result (λ _.
         S.handed_out source.new ≢ S.handed_out source.old) }
 {
@@ -74,7 +74,7 @@ fn read_by<S: Source>(alloc: Global, routes: &Routes, source: &mut S, day: Day) 
     ensures none { result ≡ None → (bytes : List ℕ)
         × Gives bytes (S.handed_out source.old) (S.handed_out source.new)
         × IsCutShort bytes
-        × IsOver (S.has_ended source.new) (S.has_failed source.new) }
+        × HasNoMore (S.has_ended source.new) (S.has_failed source.new) }
     ensures begun { IfSome result (λ _. S.handed_out source.new ≢ S.handed_out source.old) }
 {
     let head = match read_head(source) {
@@ -97,7 +97,7 @@ fn read_rest<S: Source>(alloc: Global, source: &mut S, day: Day, request: &Head<
     ensures none { result ≡ None → (rest : List ℕ) × (size : ℕ)
         × Gives rest (S.handed_out source.old) (S.handed_out source.new)
         × (request.now.body_length ≡ Some size) × (length rest < size)
-        × IsOver (S.has_ended source.new) (S.has_failed source.new) }
+        × HasNoMore (S.has_ended source.new) (S.has_failed source.new) }
 {
     let Some(size) = request.body_length else {
         return Some(next_of(alloc, day, request, None));

@@ -6,11 +6,11 @@ ghost use Rattle.web.specs.steps.ReplyItems.{auth_item, item_after, list_closing
 
 use super::list::add_items;
 use crate::pieces::Pieces;
-use addr::{Prefix, Vrp, push_digits};
+use addr::{Prefix, RoaPrefix, Vrp, push_digits};
 use arrayvec::ArrayString;
 use csv_records::day_text;
 use payload::Validity;
-use registry::{Auth, RoaPrefix};
+use registry::Auth;
 use streams::Drain;
 
 /// An item of a list.

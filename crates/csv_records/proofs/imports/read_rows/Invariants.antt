@@ -2,7 +2,7 @@ use Rattle.std.proofs.Common.{◌≡◌, ◌++◌, List, length}
 use Rattle.json_values.specs.Gathering.{so_far}
 use Rattle.json_values.specs.Parts.{each}
 use Rattle.csv_records.specs.CsvRecords.{records_left, IsReading}
-use Rattle.csv_records.specs.Fields.{Fields}
+use Rattle.csv_records.specs.Fields.{RecordFields}
 use Rattle.csv_records.specs.Imports.{import_fault_number}
 use Rattle.csv_records.specs.steps.Importing.{row_in_fields}
 use Rattle.csv_records.proofs.imports.read_rows.Given as goal
@@ -10,7 +10,7 @@ use Rattle.csv_records.proofs.imports.read_rows.Given as goal
 abbrev pub invariant-loop-gathered : goal.invariant-loop-gathered
 invariant-loop-gathered l = record {
   reading : IsReading l.records;
-  done : List Fields;
+  done : List RecordFields;
   left : records_left l.fn.records ≡ done ++ records_left l.records;
   read : so_far l.gathered ≡ each import_fault_number row_in_fields done;
 }

@@ -1,9 +1,9 @@
 use Rattle.std.proofs.Common.{◌≡◌, ◌++◌, drop, map}
 use Rattle.std.specs.List.{flat_map}
-use Rattle.csv_records.specs.Lines.{csv_line, entry_row}
+use Rattle.csv_records.specs.Lines.{csv_line, entry_fields}
 use Rattle.csv_records.proofs.lines.push_lines.Given as goal
 
 abbrev pub invariant-loop-entry : goal.invariant-loop-entry
 invariant-loop-entry l =
-    l.text.items ++ flat_map csv_line (map (entry_row l.auth) (drop l.entry-index l.entries))
-    ≡ l.initial.text.items ++ flat_map csv_line (map (entry_row l.auth) l.entries)
+    l.text.items ++ flat_map csv_line (map (entry_fields l.auth) (drop l.entry-index l.entries))
+    ≡ l.initial.text.items ++ flat_map csv_line (map (entry_fields l.auth) l.entries)

@@ -1,11 +1,11 @@
 use Rattle.std.proofs.Common.{false, subst, sym}
 use Rattle.sqlite.specs.Files.{IsBlankAs}
-use Rattle.desk_files.specs.DeskFiles.{IsOver}
+use Rattle.desk_files.specs.DeskFiles.{IsOpenOver}
 use Rattle.desk_files.proofs.file.connect.Goals as goal
 
 pub returns-in-Ok-connect_files-clause-over : goal.returns-in-Ok-connect_files-clause-over
 returns-in-Ok-connect_files-clause-over g c =
-    subst (IsOver c.in-Ok-connect_files.conn) c.in-Ok.ensures.image c.in-Ok-connect_files.ensures.over
+    subst (IsOpenOver c.in-Ok-connect_files.conn) c.in-Ok.ensures.image c.in-Ok-connect_files.ensures.over
 
 pub returns-in-Ok-connect_files-clause-plain : goal.returns-in-Ok-connect_files-clause-plain
 returns-in-Ok-connect_files-clause-plain g c clean blank =

@@ -1,7 +1,7 @@
 use Rattle.std.proofs.Common.{◌≡◌, List, ap, ◌∙◌}
 use Rattle.std.proofs.lemmas.Result.{IfOk-weaker}
 use Rattle.addr.specs.declared.asn.Asn.{Asn}
-use Rattle.roa.specs.declared.content.Entry.{Entry}
+use Rattle.addr.specs.declared.roa_prefix.RoaPrefix.{RoaPrefix as Entry}
 use Rattle.roa.specs.ContentOctets.{content_octets}
 use Rattle.roa.proofs.Contents.{content_made}
 use Rattle.roa.proofs.Grammar.{encodes_from}

@@ -2,7 +2,7 @@ use Rattle.std.proofs.Common.{subst}
 use Rattle.std.proofs.lemmas.List.Elements.{All-contains}
 use Rattle.registry.specs.Rows.{RowsIfAny}
 use Rattle.registry.specs.Values.{AuthFits}
-use Rattle.loads.proofs.Giving.{gives_each}
+use Rattle.store_read.proofs.Giving.{gives_each}
 use Rattle.store.proofs.laws.auths_of_a_history_give.Goals as goal
 
 pub returns : goal.returns

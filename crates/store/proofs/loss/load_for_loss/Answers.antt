@@ -2,9 +2,9 @@ use Rattle.std.proofs.Common.{arith, refl, subst}
 use Rattle.sqlite.specs.Held.{state}
 use Rattle.sqlite.specs.State.{HasCleanDisk}
 use Rattle.registry.specs.Values.{FitIfAny}
-use Rattle.transactions.proofs.QueryLemmas.{refused_by}
-use Rattle.loads.specs.Loads.{AreHoldings}
-use Rattle.loads.proofs.Loading.{held_before, refused_before}
+use Rattle.store_transactions.proofs.QueryLemmas.{refused_by}
+use Rattle.store_read.specs.Loads.{AreHoldings}
+use Rattle.store_read.proofs.Loading.{held_before, refused_before}
 use Rattle.store.proofs.LossFound.{no_loss, some_loss}
 use Rattle.store.proofs.loss.load_for_loss.Goals as goal
 

@@ -1,5 +1,5 @@
 use Rattle.std.proofs.Common.{ap, ◌∙◌}
-use Rattle.transactions.proofs.QueryLemmas.{refused_by}
+use Rattle.store_transactions.proofs.QueryLemmas.{refused_by}
 use Rattle.store.specs.steps.PartNumbers.{has_number}
 use Rattle.store.proofs.LossFound.{overlaps_out_of}
 use Rattle.store.proofs.PartFound.{has_sorted}

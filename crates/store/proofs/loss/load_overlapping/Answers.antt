@@ -3,9 +3,9 @@ use Rattle.std.proofs.lemmas.Result.{IfOk-weaker}
 use Rattle.sqlite.specs.Held.{state}
 use Rattle.sqlite.specs.State.{HasCleanDisk}
 use Rattle.registry.specs.Values.{FitIfAny}
-use Rattle.transactions.proofs.QueryLemmas.{refused_by}
-use Rattle.loads.specs.Loads.{auths_held}
-use Rattle.loads.proofs.Loading.{held_before, refused_before}
+use Rattle.store_transactions.proofs.QueryLemmas.{refused_by}
+use Rattle.store_read.specs.Loads.{auths_held}
+use Rattle.store_read.proofs.Loading.{held_before, refused_before}
 use Rattle.store.proofs.LossFound.{all_overlapping}
 use Rattle.store.proofs.PartFound.{numbered_once}
 use Rattle.store.proofs.loss.load_overlapping.Goals as goal

@@ -3,10 +3,10 @@ use Rattle.std.proofs.lemmas.List.{drop_all}
 use Rattle.sqlite.specs.Held.{state}
 use Rattle.sqlite.specs.State.{HasCleanDisk}
 use Rattle.registry.specs.Values.{FitIfAny}
-use Rattle.transactions.proofs.Asking.{asked_then}
-use Rattle.transactions.proofs.QueryLemmas.{refused_by}
-use Rattle.loads.specs.Loads.{auths_held}
-use Rattle.loads.proofs.Loading.{held_before, refused_before}
+use Rattle.store_transactions.proofs.Asking.{asked_then}
+use Rattle.store_transactions.proofs.QueryLemmas.{refused_by}
+use Rattle.store_read.specs.Loads.{auths_held}
+use Rattle.store_read.proofs.Loading.{held_before, refused_before}
 use Rattle.store.proofs.PartFound.{none_later, numbers_more, numbers_then, rising_from}
 use Rattle.store.proofs.part.load_each.Goals as goal
 

@@ -3,9 +3,9 @@ use Rattle.std.specs.Prelude.{⊤}
 use Rattle.std.specs.List.Sorted.{IsStrictlySortedBy}
 use Rattle.sqlite.specs.Held.{state}
 use Rattle.registry.specs.declared.authorization.Auth.{Auth}
-use Rattle.transactions.specs.declared.fault.StoreFault.{StoreFault}
-use Rattle.transactions.specs.Queries.{IsAsked, IsClean}
-use Rattle.loads.specs.Loads.{IsOf, auths_held}
+use Rattle.store_transactions.specs.declared.fault.StoreFault.{StoreFault}
+use Rattle.store_transactions.specs.Queries.{IsAsked, IsClean}
+use Rattle.store_read.specs.Loads.{EachRowsOf, auths_held}
 use Rattle.store.specs.steps.PartNumbers.{AreOfNumbers}
 use Rattle.store.proofs.part.load_each.Given as goal
 
@@ -15,5 +15,5 @@ invariant-loop-number g l = record {
   rising : IsStrictlySortedBy nat_cmp (drop l.number-index l.numbers);
   found :
       IsClean g.S.Store l.conn
-      → IsOf (λ rows. (later : List Auth) → AreOfNumbers (drop l.number-index l.numbers) (auths_held rows) later → AreOfNumbers l.numbers (auths_held rows) (l.auths.items ++ later)) l.holder (state g.S.Store l.fn.conn);
+      → EachRowsOf (λ rows. (later : List Auth) → AreOfNumbers (drop l.number-index l.numbers) (auths_held rows) later → AreOfNumbers l.numbers (auths_held rows) (l.auths.items ++ later)) l.holder (state g.S.Store l.fn.conn);
 }

@@ -2,9 +2,9 @@ use Rattle.std.proofs.Common.{arith, refl, subst, ◌∙◌}
 use Rattle.sqlite.specs.Held.{state}
 use Rattle.sqlite.specs.State.{HasCleanDisk}
 use Rattle.registry.specs.Values.{FitIfAny}
-use Rattle.transactions.proofs.QueryLemmas.{refused_by}
-use Rattle.loads.specs.Loads.{AreCounted}
-use Rattle.loads.proofs.Loading.{held_before, refused_before}
+use Rattle.store_transactions.proofs.QueryLemmas.{refused_by}
+use Rattle.store_read.specs.Loads.{AreCounted}
+use Rattle.store_read.proofs.Loading.{held_before, refused_before}
 use Rattle.store.proofs.PartFound.{no_part, some_part}
 use Rattle.store.proofs.part.load_part.Goals as goal
 

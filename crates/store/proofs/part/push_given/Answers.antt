@@ -3,11 +3,11 @@ use Rattle.std.proofs.lemmas.List.{drop_all}
 use Rattle.sqlite.specs.Held.{state}
 use Rattle.sqlite.specs.State.{HasCleanDisk}
 use Rattle.registry.specs.Values.{FitIfAny}
-use Rattle.transactions.proofs.Asking.{asked_then}
-use Rattle.transactions.proofs.QueryLemmas.{refused_by}
-use Rattle.loads.specs.Loads.{auths_held}
-use Rattle.loads.proofs.GivenAuths.{gives_from, gives_none, gives_out_of}
-use Rattle.loads.proofs.Loading.{held_before, refused_before}
+use Rattle.store_transactions.proofs.Asking.{asked_then}
+use Rattle.store_transactions.proofs.QueryLemmas.{refused_by}
+use Rattle.store_read.specs.Loads.{auths_held}
+use Rattle.store_read.proofs.GivenAuths.{gives_from, gives_none, gives_out_of}
+use Rattle.store_read.proofs.Loading.{held_before, refused_before}
 use Rattle.store.specs.steps.PartNumbers.{gives_numbered, has_number}
 use Rattle.store.proofs.PartFound.{all_found, has_pushed, one_found_more}
 use Rattle.store.proofs.part.push_given.Goals as goal

@@ -1,9 +1,9 @@
 use Rattle.std.proofs.Common.{◌≡◌, ◌||◌, ℕ, Ok, drop}
 use Rattle.std.specs.Prelude.{⊤}
 use Rattle.sqlite.specs.Held.{state}
-use Rattle.transactions.specs.declared.fault.StoreFault.{StoreFault}
-use Rattle.transactions.specs.Queries.{IsAsked, IsClean}
-use Rattle.loads.specs.Loads.{IsOf, auths_held}
+use Rattle.store_transactions.specs.declared.fault.StoreFault.{StoreFault}
+use Rattle.store_transactions.specs.Queries.{IsAsked, IsClean}
+use Rattle.store_read.specs.Loads.{EachRowsOf, auths_held}
 use Rattle.store.specs.steps.PartNumbers.{gives_numbered, has_number}
 use Rattle.store.proofs.part.push_given.Given as goal
 
@@ -12,5 +12,5 @@ invariant-loop-entry g l = record {
   asked : IsAsked {X = ⊤} {E = StoreFault} g.S.Store l.fn.conn l.conn (Ok tt);
   found :
       IsClean g.S.Store l.conn
-      → IsOf (λ rows. (n : ℕ) → (has_number l.numbers.items n || gives_numbered l.asn (drop l.entry-index l.entries) (auths_held rows) n) ≡ (has_number l.fn.numbers.items n || gives_numbered l.asn l.entries (auths_held rows) n)) l.holder (state g.S.Store l.fn.conn);
+      → EachRowsOf (λ rows. (n : ℕ) → (has_number l.numbers.items n || gives_numbered l.asn (drop l.entry-index l.entries) (auths_held rows) n) ≡ (has_number l.fn.numbers.items n || gives_numbered l.asn l.entries (auths_held rows) n)) l.holder (state g.S.Store l.fn.conn);
 }

@@ -1,7 +1,7 @@
 use Rattle.std.proofs.Common.{◌≡◌, ◌∙◌, ◌||◌, ℕ, Bool, List, OnOk, ap, subst, sym}
 use Rattle.sqlite.specs.Held.{state}
 use Rattle.registry.specs.declared.authorization.Auth.{Auth}
-use Rattle.loads.specs.Loads.{IsOf, auths_held}
+use Rattle.store_read.specs.Loads.{EachRowsOf, auths_held}
 use Rattle.store.specs.steps.PartNumbers.{asks_for, gives_numbered, has_number}
 use Rattle.store.proofs.part.push_looked_for.Goals as goal
 
@@ -9,6 +9,6 @@ pub returns-in-Create-clause-found : goal.returns-in-Create-clause-found
 returns-in-Create-clause-found g c clean =
     let now = c.push_given.new.numbers.items in
     let Found = λ (asks : List Auth → ℕ → Bool).
-    OnOk c.push_given.result (IsOf (λ rows. (n : ℕ) → has_number now n ≡ (has_number c.args.numbers.now.items n || asks (auths_held rows) n)) c.args.holder.now (state g.S.Store c.args.conn.now)) in
+    OnOk c.push_given.result (EachRowsOf (λ rows. (n : ℕ) → has_number now n ≡ (has_number c.args.numbers.now.items n || asks (auths_held rows) n)) c.args.holder.now (state g.S.Store c.args.conn.now)) in
     let entries = ap (gives_numbered c.in-Create.terms.asn) c.as_slice-entries.ensures.items in
     subst Found (entries ∙ ap asks_for (sym c.in-Create.is)) (c.push_given.ensures.found clean)

@@ -1,6 +1,6 @@
 use Rattle.std.proofs.Common.{◌≡◌, [], ◌∷◌, ◌++◌, refl, ap, ◌∙◌}
 use Rattle.payload.proofs.Visits.{on-err}
-use Rattle.web.specs.ScriptLines.{all_but_last, last_of, pieces}
+use Rattle.web.specs.ScriptLines.{all_but_last, last_piece, pieces}
 use Rattle.web.specs.steps.LineSplitting.{behind, completed_lines, unfinished_line}
 use Rattle.web.proofs.LineSplits.{all_but_last-append, all_but_last-one, last_of-one, behind-cut, behind-rest}
 use Rattle.web.proofs.ScriptLemmas.{AnswersEach-append, AnswersEach-nil, AnswersEach-one, BreaksOff-after, BreaksOff-before, BreaksOff-one}
@@ -52,7 +52,7 @@ returns-clause-rest g c = λ unfinished holds.
     let (lines, kept, all, holds_kept, answered) = c.loop-line.invariant unfinished holds in
     let rest = c.loop-line.rest.now in
     let is : unfinished_line unfinished c.args.bytes.now ≡ kept ++ rest =
-    ap last_of (behind-rest unfinished c.args.bytes.now lines kept rest all c.in_default.ensures.none)
+    ap last_piece (behind-rest unfinished c.args.bytes.now lines kept rest all c.in_default.ensures.none)
     ∙ last_of-one lines (kept ++ rest) in
     rw is (c.append-2.ensures kept holds_kept)
 

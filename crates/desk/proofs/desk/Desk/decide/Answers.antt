@@ -1,5 +1,5 @@
 use Rattle.std.proofs.Common.{◌≡◌, Err, subst, ◌∙◌}
-use Rattle.charters.specs.declared.charter.Charter.{Charter}
+use Rattle.registry.specs.declared.charter.Charter.{Charter}
 use Rattle.registry.specs.Answer.{IsAccepted, IsAnswer}
 use Rattle.desk.proofs.DeskLemmas.{refuses}
 use Rattle.desk.proofs.FollowLemmas.{enough_for}

@@ -1,6 +1,6 @@
 use Rattle.registry.specs.Answer.{AnswersNumber}
 use Rattle.registry.specs.RowsOfAll.{AllRows}
-use Rattle.loads.specs.Loads.{AreNumbered}
+use Rattle.store_read.specs.Loads.{AreNumbered}
 use Rattle.registry.specs.declared.rows.HolderRows.{HolderRows}
 use Rattle.registry.specs.Verdict.{auth_of_number}
 use Rattle.desk.proofs.DeskLemmas.{of_held}

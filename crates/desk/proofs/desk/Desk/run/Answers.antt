@@ -6,7 +6,7 @@ use Rattle.desk.proofs.HolderLemmas.{runs_by_entries}
 use Rattle.desk.specs.Prepared.{day_of}
 use Rattle.desk.proofs.DayLemmas.{day_more}
 use Rattle.desk.proofs.DropLemmas.{drop_next}
-use Rattle.transactions.proofs.StatementLemmas.{taken_more}
+use Rattle.store_transactions.proofs.StatementLemmas.{taken_more}
 use Rattle.desk.proofs.RunLemmas.{kept_more, others_more}
 use Rattle.desk.proofs.desk.Desk.run.Goals as goal
 

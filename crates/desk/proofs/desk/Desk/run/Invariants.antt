@@ -5,9 +5,9 @@ use Rattle.desk.specs.Answer.{is_accepted}
 use Rattle.desk.specs.DayAfter.{DayAfterAll, DropsForGainAll}
 use Rattle.desk.specs.Run.{AreAnswered}
 use Rattle.desk.specs.Prepared.{day_of}
-use Rattle.desk.specs.Desk.{charter_of, store_of, IsOnCleanDisk, KeepsRows, OfHistories}
-use Rattle.desk.specs.HolderAnswers.{may_change_any, may_except_any, KeepsOthers}
-use Rattle.desk.specs.CrashOutcomes.{AreKept}
+use Rattle.desk.specs.Desk.{charter_of, store_of, IsOnCleanDisk, RowsStay, EachHistory}
+use Rattle.desk.specs.HolderAnswers.{may_change_any, may_except_any, OthersStay}
+use Rattle.desk.specs.CrashOutcomes.{AreDurablyAnswered}
 use Rattle.desk.proofs.desk.Desk.run.Given as goal
 
 abbrev pub invariant-loop-one : goal.invariant-loop-one
@@ -17,10 +17,10 @@ invariant-loop-one g l = record {
   clean : IsOnCleanDisk g.S.Store l.self → IsOnCleanDisk g.S.Store l.initial.self;
   room : length l.asked ≤ vec_capacity l.replies;
   count : vec_len l.replies ≡ l.one-index;
-  kept : list_any is_accepted l.replies.items ≡ false → KeepsRows g.S.Store l.initial.self l.self;
-  left : OfHistories g.S.Store l.initial.self l.self (λ history. AreKept g.S.Store (charter_of l.initial.self) history (take l.one-index l.asked) l.replies.items l.initial.self l.self);
-  others : OfHistories g.S.Store l.initial.self l.self (λ history. KeepsOthers g.S.Store (may_change_any (take l.one-index l.asked)) (may_except_any (take l.one-index l.asked)) l.initial.self l.self);
-  dropped : OfHistories g.S.Store l.initial.self l.self (λ history.
+  kept : list_any is_accepted l.replies.items ≡ false → RowsStay g.S.Store l.initial.self l.self;
+  left : EachHistory g.S.Store l.initial.self l.self (λ history. AreDurablyAnswered g.S.Store (charter_of l.initial.self) history (take l.one-index l.asked) l.replies.items l.initial.self l.self);
+  others : EachHistory g.S.Store l.initial.self l.self (λ history. OthersStay g.S.Store (may_change_any (take l.one-index l.asked)) (may_except_any (take l.one-index l.asked)) l.initial.self l.self);
+  dropped : EachHistory g.S.Store l.initial.self l.self (λ history.
       (are : AreAnswered g.S.Store (charter_of l.initial.self) history (take l.one-index l.asked) l.replies.items l.self)
       × DropsForGainAll (charter_of l.initial.self) history (take l.one-index l.asked) l.replies.items are.after (day_of l.initial.self.kept) (day_of l.self.kept));
   kept_day : DayAfterAll (take l.one-index l.asked) l.replies.items (day_of l.initial.self.kept) (day_of l.self.kept);

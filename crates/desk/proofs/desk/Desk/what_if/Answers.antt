@@ -1,6 +1,6 @@
 use Rattle.registry.specs.History.{History}
-use Rattle.kept.specs.States.{states_after, states_now}
-use Rattle.kept.specs.Days.{ExchangesVrps}
+use Rattle.daily_vrps.specs.States.{states_after, states_now}
+use Rattle.daily_vrps.specs.Days.{ExchangesVrps}
 use Rattle.desk.specs.Answer.{AreStatesOn}
 use Rattle.desk.proofs.DeskLemmas.{found_later, read_then}
 use Rattle.desk.proofs.desk.Desk.what_if.Goals as goal

@@ -1,6 +1,6 @@
 use Rattle.std.proofs.Common.{◌≡◌, Some, take}
-use Rattle.charters.specs.declared.charter.Charter.{Charter}
-use Rattle.registry.specs.Answer.{OfRows}
+use Rattle.registry.specs.declared.charter.Charter.{Charter}
+use Rattle.registry.specs.Answer.{AtEachHolder}
 use Rattle.registry.specs.Edits.{AreOfRows}
 use Rattle.registry.specs.Rows.{rows_of}
 use Rattle.policy.specs.steps.Authorized.{AreAuthorized}
@@ -10,7 +10,7 @@ use Rattle.policy.proofs.decision.import.import_rows.Given as goal
 abbrev pub invariant-loop-row : goal.invariant-loop-row
 invariant-loop-row l =
     (l.place ≡ l.row-index)
-    × ((charter : Charter) → OfRows charter (Some (rows_of l.initial.rows))
+    × ((charter : Charter) → AtEachHolder charter (Some (rows_of l.initial.rows))
     (λ history h. SoFar charter history h l.day l.caller (take l.row-index l.listed) l.auths (rows_of l.rows)))
     × AreOfRows l.listed l.auths.items
     × AreAuthorized l.authorized l.rows.auths.items

@@ -2,7 +2,7 @@ use Rattle.std.proofs.Common.{◌≢◌, ◌↔◌, Contains}
 use Rattle.std.specs.Prelude.{AllPairs}
 use Rattle.addr.specs.declared.vrp.Vrp.{Vrp}
 use Rattle.registry.specs.RowsOfAll.{IsGivenOn}
-use Rattle.loads.specs.Loads.{AllGiveOn}
+use Rattle.store_read.specs.Loads.{AllGiveOn}
 use Rattle.store.proofs.StoreLemmas.{found_held, refused_held}
 use Rattle.store.proofs.store.Store.all_auths_on.Goals as goal
 

@@ -4,7 +4,7 @@ use Rattle.sqlite.specs.State.{HasCleanDisk}
 use Rattle.registry.specs.RowsOfAll.{AllRows, changed_rows}
 use Rattle.store.specs.Given.{GivenOnce}
 use Rattle.store.specs.StoreRows.{Holds, MayLeave, LeavesOnly, LeavesPlaced, connection_state}
-use Rattle.edits.specs.Changes.{RowChange}
+use Rattle.store_write.specs.Changes.{RowChange}
 use Rattle.store.proofs.StoreLemmas.{over, holds_ok, may_leave, leaves_only, leaves_placed, once_before, schema_kept}
 use Rattle.store.proofs.store.Store.apply.Goals as goal
 

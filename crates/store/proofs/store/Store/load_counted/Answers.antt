@@ -3,8 +3,8 @@ use Rattle.sqlite.specs.Held.{state}
 use Rattle.sqlite.specs.State.{HasCleanDisk}
 use Rattle.registry.specs.RowsOfAll.{AllRows}
 use Rattle.registry.specs.Values.{FitIfAny}
-use Rattle.transactions.proofs.QueryLemmas.{refused_by}
-use Rattle.loads.specs.Loads.{AreCounted}
+use Rattle.store_transactions.proofs.QueryLemmas.{refused_by}
+use Rattle.store_read.specs.Loads.{AreCounted}
 use Rattle.store.specs.StoreRows.{Holds}
 use Rattle.store.proofs.StoreLemmas.{over, refused_held}
 use Rattle.store.proofs.store.Store.load_counted.Goals as goal

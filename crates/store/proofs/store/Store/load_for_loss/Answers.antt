@@ -1,5 +1,5 @@
 use Rattle.registry.specs.Values.{FitIfAny}
-use Rattle.loads.specs.Loads.{IsForLoss}
+use Rattle.store_read.specs.Loads.{IsForLoss}
 use Rattle.store.proofs.StoreLemmas.{found_held, refused_held}
 use Rattle.store.proofs.store.Store.load_for_loss.Goals as goal
 

@@ -1,4 +1,4 @@
-use Rattle.transactions.proofs.QueryLemmas.{refused_by}
+use Rattle.store_transactions.proofs.QueryLemmas.{refused_by}
 use Rattle.store.proofs.StoreLemmas.{read_then}
 use Rattle.store.proofs.store.Store.load_two.Goals as goal
 

@@ -3,7 +3,7 @@ use Rattle.sqlite.specs.Held.{state}
 use Rattle.sqlite.specs.State.{HasCleanDisk}
 use Rattle.registry.specs.RowsOfAll.{IsTaken, AllRows}
 use Rattle.store.specs.StoreRows.{Holds}
-use Rattle.loads.proofs.Giving.{taken_iff}
+use Rattle.store_read.proofs.Giving.{taken_iff}
 use Rattle.store.proofs.StoreLemmas.{over}
 use Rattle.store.proofs.store.Store.overlapping.Goals as goal
 

@@ -1,5 +1,5 @@
 use Rattle.registry.specs.Values.{FilesFit}
-use Rattle.loads.specs.Loads.{AreFilesOf}
+use Rattle.store_read.specs.Loads.{AreFilesOf}
 use Rattle.store.proofs.StoreLemmas.{found_held, refused_held}
 use Rattle.store.proofs.store.Store.slurm_files.Goals as goal
 

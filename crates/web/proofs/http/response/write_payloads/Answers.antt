@@ -1,6 +1,6 @@
 use Rattle.std.proofs.Common.{◌≡◌, ◌++◌, ◌≤◌, ◌^◌, length, inl, refl}
 use Rattle.desk.specs.declared.reply.Reply.TheVariants.{Payloads, Unavailable}
-use Rattle.kept.specs.CsvLength.{csv_of}
+use Rattle.daily_vrps.specs.CsvLength.{csv_of}
 use Rattle.payload.specs.VrpSet as set
 use Rattle.streams.specs.Streams.{AppendsBeginning}
 use Rattle.web.specs.HttpResponses.{unavailable_response}

@@ -1,2 +1,0 @@
-pub mod PoolLemmas
-pub mod Repeats

@@ -1,5 +1,0 @@
-pub mod Repeats
-pub mod Pool
-pub mod CharterSets
-pub mod Charter
-pub mod CharterFault

@@ -1,0 +1,18 @@
+use Rattle.cli_tasks.specs.Serving.{ServesInTurn}
+use Rattle.cli_tasks.proofs.HistoryLemmas.{each_leaves}
+use Rattle.cli_tasks.proofs.ServingLemmas.{later_served}
+use Rattle.cli_tasks.proofs.serve.serve_on.Goals as goal
+
+pub returns-clause-served : goal.returns-clause-served
+returns-clause-served g c =
+    let (passed, all, few, accepted, in_turn, logged) = c.answer_each.ensures.served in
+    let served : ServesInTurn g.S.Store c.args.day c.args.desk.now passed c.answer_each.new.engine =
+    (c.make_ready.new.self, c.make_ready.ensures, in_turn) in
+    let leaves = each_leaves g.S.Store c.args.day passed c.args.desk.now c.answer_each.new.engine served in
+    (passed, all, few, accepted, served, leaves, logged)
+
+pub returns-clause-later : goal.returns-clause-later
+returns-clause-later g c =
+    let (passed, all, few, accepted, in_turn, logged) = c.answer_each.ensures.served in
+    later_served g.S.Store c.args.day c.args.desk.now c.answer_each.new.engine passed
+    (c.make_ready.new.self, c.make_ready.ensures, in_turn)

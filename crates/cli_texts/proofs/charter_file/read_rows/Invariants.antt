@@ -1,0 +1,17 @@
+use Rattle.std.proofs.Common.{◌≡◌, ◌++◌, List, [], map, length}
+use Rattle.cli_texts.specs.CharterFile.{charter_row, first_charter_fault, HoldsRows}
+use Rattle.csv_records.specs.CsvRecords.{records_left, IsReading}
+use Rattle.cli_texts.specs.declared.charter_file.CharterRow.{CharterRow}
+use Rattle.cli_texts.proofs.charter_file.read_rows.Given as goal
+
+abbrev pub invariant-loop-rows : goal.invariant-loop-rows
+invariant-loop-rows l = record {
+  reading : IsReading l.records;
+  read : (rows : List CharterRow)
+      × (records_left l.fn.records ≡ map charter_row rows ++ records_left l.records)
+      × HoldsRows l.rows rows
+      × (first_charter_fault [] (records_left l.fn.records) ≡ first_charter_fault (map charter_row rows) (records_left l.records));
+}
+
+abbrev pub decreases-loop-rows : goal.decreases-loop-rows
+decreases-loop-rows l = length (records_left l.records)

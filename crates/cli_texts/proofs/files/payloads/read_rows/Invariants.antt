@@ -1,0 +1,16 @@
+use Rattle.std.proofs.Common.{◌≡◌, ◌+◌, ◌++◌, map, length}
+use Rattle.csv_records.specs.CsvRecords.{records_left, IsReading}
+use Rattle.cli_texts.specs.CsvRows.{first_fault, payload_fault}
+use Rattle.csv_records.specs.Lines.{payload_row}
+use Rattle.cli_texts.proofs.files.payloads.read_rows.Given as goal
+
+abbrev pub invariant-loop-vrps : goal.invariant-loop-vrps
+invariant-loop-vrps l = record {
+  reading : IsReading l.records;
+  read : records_left l.fn.records ≡ map payload_row l.vrps.items ++ records_left l.records;
+  faultless : first_fault payload_fault 1 (records_left l.fn.records)
+      ≡ first_fault payload_fault (length l.vrps.items + 1) (records_left l.records);
+}
+
+abbrev pub decreases-loop-vrps : goal.decreases-loop-vrps
+decreases-loop-vrps l = length (records_left l.records)

@@ -1,0 +1,14 @@
+use Rattle.std.proofs.Common.{◌↔◌, take}
+use Rattle.std.specs.Prelude.{Contains}
+use Rattle.addr.specs.declared.vrp.Vrp.{Vrp}
+use Rattle.payload.specs.VrpSet as set
+use Rattle.daily_vrps.specs.Changes.{IsWithSame}
+use Rattle.daily_vrps.specs.steps.Entries.{IsJoinedBy, IsVrpOfSome}
+use Rattle.daily_vrps.proofs.daily.DailyVrps.begin_entries.Given as goal
+
+-- the entries so far have joined
+abbrev pub invariant-loop-entry : goal.invariant-loop-entry
+invariant-loop-entry l = record {
+  same : IsWithSame l.initial.self l.self;
+  joined : (v : Vrp) → Contains (set.items l.self.vrps) v ↔ IsJoinedBy l.initial.self (IsVrpOfSome (take l.entry-index l.entries) l.asn) v;
+}

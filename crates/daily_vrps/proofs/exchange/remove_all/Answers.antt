@@ -1,0 +1,11 @@
+use Rattle.std.proofs.Common.{rules, not}
+use Rattle.std.proofs.lemmas.Fn.{filter_same}
+use Rattle.addr.specs.declared.vrp.Vrp.{Vrp}
+use Rattle.payload.specs.VrpSet as set
+use Rattle.daily_vrps.proofs.Exchanges.{in_rest}
+use Rattle.daily_vrps.proofs.exchange.remove_all.Goals as goal
+
+pub returns : goal.returns
+returns c v =
+    let kept = filter_same _ (λ (w : Vrp). not (set.has_vrp c.args.index.now w)) _ (λ x b f' k. search rules) _ _ c.retain.ensures.filtered in
+    rw kept (in_rest c.args.index.now c.args.vrps.now.items v)

@@ -1,0 +1,7 @@
+use Rattle.std.proofs.Common.{take}
+use Rattle.daily_vrps.specs.Giving.{AreGivingOn}
+use Rattle.daily_vrps.proofs.giving.is_given.Given as goal
+
+-- none of the authorizations so far gives the VRP
+abbrev pub invariant-loop-auth : goal.invariant-loop-auth
+invariant-loop-auth l = ¬ AreGivingOn (take l.auth-index l.auths) l.day l.vrp

@@ -1,0 +1,9 @@
+use Rattle.std.proofs.Common.{◌↔◌, ◌⊎◌, take, Contains}
+use Rattle.addr.specs.declared.vrp.Vrp.{Vrp}
+use Rattle.daily_vrps.specs.steps.Entries.{IsVrpOfSome}
+use Rattle.daily_vrps.proofs.giving.push_entries.Given as goal
+
+-- the VRPs of the entries so far are added
+abbrev pub invariant-loop-entry : goal.invariant-loop-entry
+invariant-loop-entry l =
+    (v : Vrp) → Contains l.vrps.items v ↔ (Contains l.initial.vrps.items v ⊎ IsVrpOfSome (take l.entry-index l.entries) l.asn v)

@@ -1,8 +1,0 @@
-use Rattle.std.proofs.Common.{subst}
-use Rattle.sqlite_catalog.proofs.ReadLemmas.{lists_once}
-use Rattle.sqlite_trees.specs.Objects.{catalog_tree}
-use Rattle.moving.specs.OldTables.{IsOldSchema}
-use Rattle.database.proofs.laws.old_desk_trees_have_schema.Goals as goal
-
-pub returns : goal.returns
-returns c db is desk = subst IsOldSchema (lists_once (db.trees catalog_tree) desk.schema db.schema desk.sound.lists is.lists) desk.old

@@ -1,5 +1,0 @@
-use Rattle.database.proofs.AllTexts.{selects_claim}
-use Rattle.database.proofs.reading.OfHolderClaimInTable.select_all.Goals as goal
-
-pub returns : goal.returns
-returns c = selects_claim

@@ -1,5 +1,0 @@
-use Rattle.database.proofs.AllTexts.{selects_pool}
-use Rattle.database.proofs.reading.PrefixInTable.select_all.Goals as goal
-
-pub returns : goal.returns
-returns c = selects_pool

@@ -1,5 +1,0 @@
-use Rattle.database.proofs.AllTexts.{selects_holder}
-use Rattle.database.proofs.reading.RegisteredInTable.select_all.Goals as goal
-
-pub returns : goal.returns
-returns c = selects_holder

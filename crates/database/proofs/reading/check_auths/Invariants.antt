@@ -1,5 +1,0 @@
-use Rattle.database.proofs.Grouped.{Walks}
-use Rattle.database.proofs.reading.check_auths.Given as goal
-
-abbrev pub invariant-loop-claim : goal.invariant-loop-claim
-invariant-loop-claim l = Walks l.claims l.entries l.claim-index l.rest

@@ -1,8 +1,0 @@
-use Rattle.std.proofs.Common.{sym, rules}
-use Rattle.std.proofs.lemmas.Fn.{always_returns_same}
-use Rattle.database.specs.steps.Numbered.{last_value, is_integer_below}
-use Rattle.sqlite_value.specs.Order.{Row}
-use Rattle.database.proofs.rise.are_below_the_next.Goals as goal
-
-pub returns : goal.returns
-returns c is k d low = sym ((rw is at (c.is_sorted_by.ensures.cases (λ (a b : Row). is_integer_below (last_value a) (last_value b)) (always_returns_same _ _ _ (λ a r f' k. search rules)))) k d low)

@@ -1,5 +1,0 @@
--- The steps of the code, which no public contract cites.
-pub mod Moving
-pub mod Found
-pub mod Numbered
-pub mod Opened

@@ -1,5 +1,0 @@
-pub mod SharedVrps
-pub mod Ended
-pub mod Ranges
-pub mod Growth
-pub mod OneOutcome

@@ -1,2 +1,0 @@
-pub mod Isolation
-pub mod RepeatedRequests

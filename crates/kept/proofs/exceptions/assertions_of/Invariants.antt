@@ -1,9 +1,0 @@
-use Rattle.std.proofs.Common.{◌≡◌, ◌++◌, drop}
-use Rattle.std.specs.List.{flat_map}
-use Rattle.slurm.specs.Exceptions.{Exceptions}
-use Rattle.kept.proofs.exceptions.assertions_of.Given as goal
-
-abbrev pub invariant-loop-file : goal.invariant-loop-file
-invariant-loop-file l =
-    l.assertions.items ++ flat_map (λ (f : Exceptions). f.assertions) (drop l.file-index l.files)
-    ≡ flat_map (λ (f : Exceptions). f.assertions) l.files

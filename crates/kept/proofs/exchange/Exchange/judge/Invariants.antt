@@ -1,8 +1,0 @@
-use Rattle.std.proofs.Common.{take}
-use Rattle.kept.specs.States.{HaveStates}
-use Rattle.kept.specs.steps.Exchanging.{IsAfter}
-use Rattle.kept.proofs.exchange.Exchange.judge.Given as goal
-
--- the routes so far have these states
-abbrev pub invariant-loop-route : goal.invariant-loop-route
-invariant-loop-route l = HaveStates (IsAfter l.kept l.self.ended l.self.begun) (take l.route-index l.routes) l.states.items

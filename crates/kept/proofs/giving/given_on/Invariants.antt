@@ -1,8 +1,0 @@
-use Rattle.std.proofs.Common.{◌↔◌, take, Contains}
-use Rattle.addr.specs.declared.vrp.Vrp.{Vrp}
-use Rattle.kept.specs.Giving.{AreGivingOn}
-use Rattle.kept.proofs.giving.given_on.Given as goal
-
--- the VRPs are those that the authorizations so far give
-abbrev pub invariant-loop-auth : goal.invariant-loop-auth
-invariant-loop-auth l = (v : Vrp) → Contains l.vrps.items v ↔ AreGivingOn (take l.auth-index l.auths) l.day v

@@ -1,9 +1,0 @@
-use Rattle.std.proofs.Common.{◌↔◌, ◌⊎◌, take, Contains}
-use Rattle.addr.specs.declared.vrp.Vrp.{Vrp}
-use Rattle.kept.specs.steps.Entries.{IsVrpOfSome}
-use Rattle.kept.proofs.giving.push_entries.Given as goal
-
--- the VRPs of the entries so far are added
-abbrev pub invariant-loop-entry : goal.invariant-loop-entry
-invariant-loop-entry l =
-    (v : Vrp) → Contains l.vrps.items v ↔ (Contains l.initial.vrps.items v ⊎ IsVrpOfSome (take l.entry-index l.entries) l.asn v)

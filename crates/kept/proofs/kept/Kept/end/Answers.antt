@@ -1,5 +1,0 @@
-use Rattle.kept.proofs.Keeps.{left_alone}
-use Rattle.kept.proofs.kept.Kept.end.Goals as goal
-
-pub returns-clause-left : goal.returns-clause-left
-returns-clause-left c = left_alone c.args.self.now c.end_unless_given.new.self c.args.auth.now c.end_unless_given.ensures.left

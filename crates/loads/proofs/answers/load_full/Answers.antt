@@ -1,6 +1,0 @@
-use Rattle.std.proofs.Common.{ap, nat_le}
-use Rattle.registry.specs.declared.limits.TheConstants.{MOST_AUTHORIZATIONS}
-use Rattle.loads.proofs.answers.load_full.Goals as goal
-
-pub returns-clause-found : goal.returns-clause-found
-returns-clause-found g c clean charter all holds = ap (nat_le MOST_AUTHORIZATIONS) (c.in_ok-count.ensures.found clean charter all holds)

@@ -1,6 +1,0 @@
-use Rattle.std.proofs.Common.{take}
-use Rattle.loads.specs.Loads.{HaveSame}
-use Rattle.loads.proofs.load.holdings_of.Given as goal
-
-abbrev pub invariant-loop-span : goal.invariant-loop-span
-invariant-loop-span l = HaveSame (take l.span-index l.spans) l.holdings

@@ -1,5 +1,0 @@
-use Rattle.loads.proofs.Finding.{selects, counters_query}
-use Rattle.loads.proofs.select.CountersOfHolder.select.Goals as goal
-
-pub returns : goal.returns
-returns c = selects _ _ _ _ counters_query

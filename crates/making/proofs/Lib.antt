@@ -1,4 +1,0 @@
-mod Creates
-mod MakingSteps
-mod MovingSteps
-pub mod CharterSteps

@@ -1,6 +1,0 @@
-use Rattle.making.proofs.CharterSteps.{puts_prefix}
-use Rattle.transactions.proofs.StatementLemmas.{means}
-use Rattle.making.proofs.charter.put_prefix.Goals as goal
-
-pub returns-clause-put : goal.returns-clause-put
-returns-clause-put g c = means g.S.Store c.execute.result _ _ _ _ _ _ c.requires c.execute.ensures.inside c.execute.ensures.ran c.prefix_values.ensures (λ old new. puts_prefix old new c.args.prefix.now)

@@ -1,4 +1,0 @@
-pub mod OldTables
-pub mod EitherSchema
-pub mod Moved
-pub mod Laws

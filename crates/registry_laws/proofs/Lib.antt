@@ -1,0 +1,13 @@
+pub mod SharedVrps
+pub mod Moved
+pub mod Fitting
+pub mod Growth
+pub mod OneOutcome
+pub mod Agree
+pub mod Parts
+pub mod Grown
+pub mod Judged
+pub mod GrownAlike
+pub mod Present
+pub mod Again
+pub mod ByEntries

@@ -1,0 +1,5 @@
+use Rattle.registry_laws.proofs.OneOutcome.{one_hypothetical_outcome}
+use Rattle.registry_laws.proofs.histories.one_hypothetical_outcome.Goals as goal
+
+pub returns : goal.returns
+returns c = one_hypothetical_outcome

@@ -1,0 +1,120 @@
+-- What the queries of all rows of a table mean over the schema of a desk, and that they select them.
+use Rattle.std.proofs.Common.{◌≡◌, ℕ, true, List, [], ◌∷◌, ◌++◌, map, filter, length, codes, refl, ap, subst, ◌∙◌, IsPermutation}
+use Rattle.std.proofs.lemmas.List.{map-append}
+use Rattle.sqlite.specs.Effect.{Database, Reads}
+use Rattle.sqlite_value.specs.declared.value.Value.TheVariants.{Null}
+use Rattle.sqlite_value.specs.Order.{Row}
+use Rattle.sqlite_trees.proofs.ListLemmas.{all_of, filter_all}
+use Rattle.sqlite_sql.specs.Term.{col, eval, eval_all}
+use Rattle.sqlite_schema.specs.declared.command.Command.{Command}
+use Rattle.sqlite_schema.specs.declared.command.Command.TheVariants.{Select}
+use Rattle.sqlite.specs.Given.{IsPlain}
+use Rattle.sqlite.specs.Listing.{understood}
+use Rattle.sqlite_tied.specs.Compute.{everything}
+use Rattle.store_tables.specs.declared.auth.TheConstants.{SELECT_ALL_AUTHS}
+use Rattle.store_tables.specs.declared.claim.TheConstants.{SELECT_ALL_CLAIMS}
+use Rattle.store_tables.specs.declared.entry.TheConstants.{SELECT_ALL_ENTRIES, SELECT_ENTRY_ROWIDS}
+use Rattle.store_tables.specs.declared.exception.TheConstants.{SELECT_ALL_EXCEPTIONS}
+use Rattle.store_tables.specs.declared.granted.TheConstants.{SELECT_ALL_GRANTS}
+use Rattle.store_tables.specs.declared.holder.TheConstants.{SELECT_ALL_HOLDERS}
+use Rattle.store_tables.specs.declared.holding.TheConstants.{SELECT_ALL_SPANS}
+use Rattle.store_tables.specs.declared.meta.TheConstants.{SELECT_SCHEMA}
+use Rattle.store_tables.specs.declared.operator.TheConstants.{SELECT_ALL_OPERATORS}
+use Rattle.store_tables.specs.declared.pool.TheConstants.{SELECT_ALL_PREFIXES}
+use Rattle.store_tables.specs.Tables.{OverDesk}
+use Rattle.store_tables.proofs.ClaimTexts.{all_claims_is, all_entries_is}
+use Rattle.store_tables.proofs.Selecting.{from_table, no_limit, picks, permuted}
+use Rattle.store_tables.proofs.Columns.{shown_at, shown_columns}
+use Rattle.store_tables.proofs.ExceptionTexts.{all_exceptions_is}
+use Rattle.store_tables.proofs.Texts.{Means, upwards}
+use Rattle.store_open.specs.declared.reading.TheConstants.{COUNT_CLAIMS}
+use Rattle.store_open.specs.steps.Numbered.{columns_and_rowid, SelectsAll}
+use Rattle.store_transactions.specs.steps.Statements.{AnswersSelect}
+use Rattle.store_open.specs.steps.Opened.{claim_places, entry_places}
+
+-- SELECT these columns and the rowid FROM the table ORDER BY rowid
+abbrev pub all_of_table : ℕ → List ℕ → List (List ℕ) → Command
+all_of_table tree places titles =
+    Select (record { lets = []; body = from_table tree [] (shown_at places ++ col 1 0 ∷ []) (upwards 0 ∷ []) no_limit }) titles
+
+shown_numbered : (places : List ℕ) (r : Row) → eval_all (shown_at places ++ col 1 0 ∷ []) ([] ∷ r ∷ []) ≡ columns_and_rowid places r
+shown_numbered places r = map-append (λ t. eval t ([] ∷ r ∷ [])) (shown_at places) (col 1 0 ∷ []) ∙ ap (λ l. l ++ eval (col 1 0) ([] ∷ r ∷ []) ∷ []) (shown_columns places [] r)
+
+selects_all : (tree : ℕ) (places : List ℕ) (titles : List (List ℕ)) (sql : List ℕ) → Means sql (all_of_table tree places titles) → SelectsAll (length places) tree places sql
+selects_all tree places titles sql means = record { counted = refl; plain = means.plain; unlisted = means.unlisted; found = found }
+  where
+    found : (db : Database) (rows : List Row) → AnswersSelect sql db rows → IsPermutation (map (columns_and_rowid places) (db.trees tree)) rows
+    found db rows read =
+        let answer = (subst (λ (k : Command). Reads k db [] rows) (means.is db.schema) read).answer Null in
+        let every : filter (picks [] []) (db.trees tree) ≡ db.trees tree = filter_all (picks [] []) (db.trees tree) (all_of (λ r. picks [] [] r ≡ true) (λ r. refl) (db.trees tree)) in
+        subst (λ l. IsPermutation l rows) (λ i. map (λ r. shown_numbered places r i) (every i))
+        (permuted tree [] (shown_at places ++ col 1 0 ∷ []) (upwards 0 ∷ []) db.trees [] rows answer)
+
+all_meta_is : Means SELECT_SCHEMA.now (all_of_table 0 (0 ∷ 1 ∷ []) (codes "name" ∷ codes "value" ∷ codes "rowid" ∷ []))
+unfolding understood everything
+all_meta_is = record { is = λ s. refl; plain = λ s. (refl, refl); unlisted = λ s. refl }
+
+pub selects_meta : SelectsAll 2 0 (0 ∷ 1 ∷ []) SELECT_SCHEMA.now
+selects_meta = selects_all 0 (0 ∷ 1 ∷ []) _ SELECT_SCHEMA.now all_meta_is
+
+all_operator_is : Means SELECT_ALL_OPERATORS.now (all_of_table 2 (0 ∷ []) (codes "name" ∷ codes "rowid" ∷ []))
+unfolding understood everything
+all_operator_is = record { is = λ s. refl; plain = λ s. (refl, refl); unlisted = λ s. refl }
+
+pub selects_operator : SelectsAll 1 2 (0 ∷ []) SELECT_ALL_OPERATORS.now
+selects_operator = selects_all 2 (0 ∷ []) _ SELECT_ALL_OPERATORS.now all_operator_is
+
+all_pool_is : Means SELECT_ALL_PREFIXES.now (all_of_table 4 (0 ∷ 1 ∷ 2 ∷ []) (codes "family" ∷ codes "lo" ∷ codes "len" ∷ codes "rowid" ∷ []))
+unfolding understood everything
+all_pool_is = record { is = λ s. refl; plain = λ s. (refl, refl); unlisted = λ s. refl }
+
+pub selects_pool : SelectsAll 3 4 (0 ∷ 1 ∷ 2 ∷ []) SELECT_ALL_PREFIXES.now
+selects_pool = selects_all 4 (0 ∷ 1 ∷ 2 ∷ []) _ SELECT_ALL_PREFIXES.now all_pool_is
+
+all_holder_is : Means SELECT_ALL_HOLDERS.now (all_of_table 6 (0 ∷ 1 ∷ 2 ∷ []) (codes "name" ∷ codes "grants" ∷ codes "auths" ∷ codes "rowid" ∷ []))
+unfolding understood everything
+all_holder_is = record { is = λ s. refl; plain = λ s. (refl, refl); unlisted = λ s. refl }
+
+pub selects_holder : SelectsAll 3 6 (0 ∷ 1 ∷ 2 ∷ []) SELECT_ALL_HOLDERS.now
+selects_holder = selects_all 6 (0 ∷ 1 ∷ 2 ∷ []) _ SELECT_ALL_HOLDERS.now all_holder_is
+
+all_holding_is : Means SELECT_ALL_SPANS.now (all_of_table 8 (0 ∷ 1 ∷ 2 ∷ []) (codes "family" ∷ codes "lo" ∷ codes "hi" ∷ codes "rowid" ∷ []))
+unfolding understood everything
+all_holding_is = record { is = λ s. refl; plain = λ s. (refl, refl); unlisted = λ s. refl }
+
+pub selects_holding : SelectsAll 3 8 (0 ∷ 1 ∷ 2 ∷ []) SELECT_ALL_SPANS.now
+selects_holding = selects_all 8 (0 ∷ 1 ∷ 2 ∷ []) _ SELECT_ALL_SPANS.now all_holding_is
+
+all_granted_is : Means SELECT_ALL_GRANTS.now (all_of_table 10 (1 ∷ 2 ∷ 3 ∷ 4 ∷ 5 ∷ 6 ∷ 7 ∷ []) (codes "number" ∷ codes "caller" ∷ codes "role" ∷ codes "family" ∷ codes "lo" ∷ codes "len" ∷ codes "until" ∷ codes "rowid" ∷ []))
+unfolding understood everything
+all_granted_is = record { is = λ s. refl; plain = λ s. (refl, refl); unlisted = λ s. refl }
+
+pub selects_granted : SelectsAll 7 10 (1 ∷ 2 ∷ 3 ∷ 4 ∷ 5 ∷ 6 ∷ 7 ∷ []) SELECT_ALL_GRANTS.now
+selects_granted = selects_all 10 (1 ∷ 2 ∷ 3 ∷ 4 ∷ 5 ∷ 6 ∷ 7 ∷ []) _ SELECT_ALL_GRANTS.now all_granted_is
+
+all_auth_is : Means SELECT_ALL_AUTHS.now (all_of_table 12 (1 ∷ 2 ∷ 3 ∷ 4 ∷ 5 ∷ 6 ∷ 7 ∷ 8 ∷ []) (codes "number" ∷ codes "asn" ∷ codes "family" ∷ codes "lo" ∷ codes "len" ∷ codes "max" ∷ codes "opens" ∷ codes "ends" ∷ codes "rowid" ∷ []))
+unfolding understood everything
+all_auth_is = record { is = λ s. refl; plain = λ s. (refl, refl); unlisted = λ s. refl }
+
+pub selects_auth : SelectsAll 8 12 (1 ∷ 2 ∷ 3 ∷ 4 ∷ 5 ∷ 6 ∷ 7 ∷ 8 ∷ []) SELECT_ALL_AUTHS.now
+selects_auth = selects_all 12 (1 ∷ 2 ∷ 3 ∷ 4 ∷ 5 ∷ 6 ∷ 7 ∷ 8 ∷ []) _ SELECT_ALL_AUTHS.now all_auth_is
+
+pub selects_slurm : SelectsAll 8 15 (0 ∷ 1 ∷ 2 ∷ 3 ∷ 4 ∷ 5 ∷ 6 ∷ 7 ∷ []) SELECT_ALL_EXCEPTIONS.now
+selects_slurm = selects_all 15 (0 ∷ 1 ∷ 2 ∷ 3 ∷ 4 ∷ 5 ∷ 6 ∷ 7 ∷ []) _ SELECT_ALL_EXCEPTIONS.now all_exceptions_is
+
+pub selects_claim : SelectsAll 5 17 claim_places SELECT_ALL_CLAIMS.now
+selects_claim = selects_all 17 claim_places _ SELECT_ALL_CLAIMS.now all_claims_is
+
+pub selects_entry : SelectsAll 7 19 entry_places SELECT_ALL_ENTRIES.now
+selects_entry = selects_all 19 entry_places _ SELECT_ALL_ENTRIES.now all_entries_is
+
+pub counts_claims : OverDesk (λ s. IsPlain (understood s COUNT_CLAIMS.now))
+unfolding understood everything
+counts_claims = λ s. (refl, refl)
+
+entry_rowids_is : Means SELECT_ENTRY_ROWIDS.now (all_of_table 19 [] (codes "rowid" ∷ []))
+unfolding understood everything
+entry_rowids_is = record { is = λ s. refl; plain = λ s. (refl, refl); unlisted = λ s. refl }
+
+pub selects_entry_rowids : SelectsAll 0 19 [] SELECT_ENTRY_ROWIDS.now
+selects_entry_rowids = selects_all 19 [] _ SELECT_ENTRY_ROWIDS.now entry_rowids_is

@@ -1,0 +1,14 @@
+pub mod SameCharter
+mod Rowids
+mod Collecting
+mod AllTexts
+mod Grouped
+pub mod SomeAuths
+mod Joining
+mod EntriesByKey
+mod SomeRows
+mod Unread
+mod Opened
+mod OldRead
+mod MovingDesk
+mod OpenedDesk

@@ -1,0 +1,76 @@
+-- Where the tables of schema 1 read, their rows can be moved, and the tables that they are moved to read.
+use Rattle.std.proofs.Common.{◌≡◌, inl, List, [], ◌∷◌, map, flat_map, refl, subst, ◌∙◌, arith, IsPermutation}
+use Rattle.std.specs.Bool.{⊤}
+use Rattle.std.specs.List.{AllByRecursion}
+use Rattle.std.proofs.lemmas.List.Sorted.{Contains-permutation, IsPermutation-map, IsPermutation-trans}
+use Rattle.sqlite_trees.specs.Tree.{Trees}
+use Rattle.sqlite_trees.proofs.ListLemmas.{all_of, all-flat_map, all-map, all-permutation, flat_map_same_on, map-flat_map}
+use Rattle.sqlite_rules.proofs.ListLemmas.{contains_had}
+use Rattle.registry.specs.Values.{GrantFits}
+use Rattle.registry.specs.declared.authorization.Auth.{Auth}
+use Rattle.store_tables.specs.declared.groups.OfHolder.{OfHolder}
+use Rattle.store_tables.specs.Authorizations.{claim_of}
+use Rattle.store_tables.specs.Cells.{operator_row, prefix_cells, holding_row, granted_row, schema_row}
+use Rattle.store_tables.specs.Decode.{exception_columns}
+use Rattle.store_tables.specs.Tables.{meta, auth, contents}
+use Rattle.store_schema.specs.OldTables.{HasOneEntry, auth_row}
+use Rattle.store_schema.specs.Moved.{claim_columns, entry_columns, AreAuthRows, AreMovable, IsMoved}
+use Rattle.store_schema.proofs.Moved.{claim_turned, entry_turned, joined_ones, stays}
+use Rattle.store_open.specs.OldTablesRead.{rows_of_auth, HasSomeOldAuths, OldTablesRead}
+use Rattle.store_open.specs.TablesRead.{rows_of_entries, row_of_claim, HasSomeAuths, HasSomeCharter, ShowsHolder, ShowsOfHolder, ShowsException, TablesRead}
+use Rattle.store_transactions.specs.Files.{AreFewOfEach}
+
+rows_are_auth_rows : (auths : List (OfHolder Auth)) → AreAuthRows (flat_map rows_of_auth auths)
+rows_are_auth_rows auths =
+    all-flat_map _ rows_of_auth auths
+    (all_of _ (λ x. all-map _ (auth_row x.holder (claim_of x.row)) x.row.entries (all_of _ (λ e. (x.holder, claim_of x.row, e, refl)) x.row.entries)) auths)
+
+pub read_movable : (old : Trees) → OldTablesRead old → AreMovable old
+read_movable old reads = record {
+  number = reads.schema;
+  auths = all-permutation _ (flat_map rows_of_auth reads.authorizations.auths) (contents (old auth.tree)) reads.authorizations.shown (rows_are_auth_rows reads.authorizations.auths);
+  whole = reads.whole;
+}
+
+-- each authorization has its claim and its one entry
+claims_turned : (auths : List (OfHolder Auth)) → AllByRecursion (λ (x : OfHolder Auth). HasOneEntry x.row) auths → map claim_columns (flat_map rows_of_auth auths) ≡ map row_of_claim auths
+claims_turned = joined_ones claim_columns rows_of_auth row_of_claim (λ x. HasOneEntry x.row) (λ x. claim_turned x.holder x.row)
+
+entries_turned : (auths : List (OfHolder Auth)) → map entry_columns (flat_map rows_of_auth auths) ≡ flat_map rows_of_entries auths
+entries_turned auths = map-flat_map entry_columns rows_of_auth auths ∙ flat_map_same_on _ _ (λ x. entry_turned x.holder x.row) auths
+
+module _ (old new : Trees) (moved : IsMoved old new) where
+  charter_stays : HasSomeCharter old → HasSomeCharter new
+  charter_stays c = record {
+    operators = c.operators;
+    prefixes = c.prefixes;
+    named = c.named;
+    number = c.number;
+    operators_once = c.operators_once;
+    prefixes_once = c.prefixes_once;
+    operators_shown = stays old new moved (IsPermutation (map operator_row c.operators)) 2 refl (omega arith) (omega arith) c.operators_shown;
+    prefixes_shown = stays old new moved (IsPermutation (map prefix_cells c.prefixes)) 4 refl (omega arith) (omega arith) c.prefixes_shown;
+  }
+
+  auths_moved : HasSomeOldAuths old → HasSomeAuths new
+  auths_moved a = record {
+    auths = a.auths;
+    fit = a.fit;
+    claims_shown = IsPermutation-trans _ _ _
+        (subst (λ l. IsPermutation l (map claim_columns (contents (old auth.tree)))) (claims_turned a.auths a.one_each) (IsPermutation-map claim_columns _ _ a.shown)) moved.claims;
+    entries_shown = IsPermutation-trans _ _ _
+        (subst (λ l. IsPermutation l (map entry_columns (contents (old auth.tree)))) (entries_turned a.auths) (IsPermutation-map entry_columns _ _ a.shown)) moved.entries;
+    unused = moved.emptied;
+  }
+
+  pub moved_read : OldTablesRead old → TablesRead new
+  moved_read reads = record {
+    schema = Contains-permutation (schema_row ∷ []) (contents (new meta.tree)) schema_row moved.number (contains_had (schema_row ∷ []) schema_row (inl refl));
+    charter = charter_stays reads.charter;
+    holders = stays old new moved (AllByRecursion ShowsHolder) 6 refl (omega arith) (omega arith) reads.holders;
+    holdings = stays old new moved (AllByRecursion (ShowsOfHolder holding_row (λ _. ⊤))) 8 refl (omega arith) (omega arith) reads.holdings;
+    grants = stays old new moved (AllByRecursion (ShowsOfHolder granted_row GrantFits)) 10 refl (omega arith) (omega arith) reads.grants;
+    authorizations = auths_moved reads.authorizations;
+    exceptions = stays old new moved (λ rows. AllByRecursion ShowsException (map exception_columns rows)) 15 refl (omega arith) (omega arith) reads.exceptions;
+    exceptions_number = stays old new moved AreFewOfEach 15 refl (omega arith) (omega arith) reads.exceptions_number;
+  }

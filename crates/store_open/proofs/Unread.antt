@@ -1,0 +1,175 @@
+-- Tables that read show values of the types that each query asks for.
+use Rattle.std.proofs.Common.{◌≡◌, inl, inr, ℕ, Bool, true, false, ◌||◌, List, [], ◌∷◌, map, drop, length, Result, Ok, Err, IfOk, OnErr, nat_eq, refl, sym, ap, subst, ◌∙◌, arith, IsPermutation, IsTrue}
+use Rattle.std.specs.Prelude.{⊤, Any}
+use Rattle.std.specs.Cmp.Lexicographic.{pointwise}
+use Rattle.std.specs.List.{AllByRecursion}
+use Rattle.std.proofs.lemmas.Bool.{both_ways}
+use Rattle.std.proofs.lemmas.Cmp.{nat_list_eq_equiv}
+use Rattle.std.proofs.lemmas.List.{length-map}
+use Rattle.std.proofs.lemmas.List.Elements.{recursion_from_All}
+use Rattle.std.proofs.lemmas.List.Sorted.{IsPermutation-sym, IsPermutation-trans, IsPermutation-map, length_permutation}
+use Rattle.sqlite.specs.Effect.{Database}
+use Rattle.sqlite_value.specs.declared.value.Value.TheVariants.{Text}
+use Rattle.sqlite_value.specs.Order.{Row}
+use Rattle.sqlite_trees.proofs.ListLemmas.{map-map, all_of, all_weaker, all-map, all-permutation}
+use Rattle.sqlite_rules.specs.Lists.{Has}
+use Rattle.sqlite_rules.proofs.ListLemmas.{has_contained, contains_had, any_has}
+use Rattle.sqlite_rules.proofs.ProbeLemmas.{mapped_has, has_mapped}
+use Rattle.addr.specs.Address.{prefix_eq}
+use Rattle.addr.specs.Name.{is_name}
+use Rattle.addr.specs.declared.prefix.Prefix.{Prefix}
+use Rattle.registry.specs.CharterSets.{AreAllowedCounts, CharterSets}
+use Rattle.registry.specs.Repeats.{has_repeat}
+use Rattle.registry.specs.Values.{IsCount, GrantFits}
+use Rattle.registry.proofs.Repeats.{has_repeat-moved, prefix_eq-flips}
+use Rattle.store_tables.specs.declared.holder.Registered.{Registered}
+use Rattle.store_tables.specs.Cells.{schema_row, operator_row, prefix_cells, span_cells, grant_cells, holder_row, holding_row, granted_row, exception_row}
+use Rattle.store_tables.specs.Decode.{ExceptionRowFits}
+use Rattle.store_tables.specs.Tables.{meta, operator, pool, holder, holding, granted, slurm, contents, columns}
+use Rattle.store_tables.proofs.CellsOnce.{one_prefix, values_shown}
+use Rattle.store_transactions.specs.declared.fault.StoreFault.{StoreFault}
+use Rattle.store_transactions.specs.declared.fault.StoreFault.TheVariants.{Schema}
+use Rattle.store_open.specs.TablesRead.{ShowsSome, ShowsHolder, ShowsOfHolder, TablesRead}
+use Rattle.store_open.specs.steps.Numbered.{columns_and_rowid, shown_in, AreRead}
+use Rattle.store_schema.specs.OldTables.{old_schema_row}
+use Rattle.store_open.specs.steps.Opened.{HasNumber, number_row, ShowsRows, ShowsCharter}
+use Rattle.store_tables.proofs.Columns.{grant_shown, exception_places}
+
+-- ---- what was read
+
+-- each row shows one of the values that were read
+pub each_read : {X : Type 0} (cells : X → Row) (fits : X → Type 0) (shown : List Row) (values : List X) → AreRead cells fits shown values → AllByRecursion (ShowsSome cells fits) shown
+each_read cells fits shown values read =
+    all-permutation (ShowsSome cells fits) (map cells values) shown (IsPermutation-sym _ _ read.same)
+    (all-map (ShowsSome cells fits) cells values (all_weaker fits _ (λ x fit. (x, fit, refl)) values (recursion_from_All fits values read.fit)))
+
+-- a row that some row of the list is, is in it
+pub has_some : {X Y : Type 0} (f : X → Y) (xs : List X) (y : Y) → Any (λ x. f x ≡ y) xs → Has (map f xs) y
+has_some f xs y some = let it = any_has (λ x. f x ≡ y) xs some in subst (Has (map f xs)) it.2 (mapped_has f xs it.0 it.1)
+
+pub some_from_has : {X Y : Type 0} (f : X → Y) (xs : List X) (y : Y) → Has (map f xs) y → Any (λ x. f x ≡ y) xs
+some_from_has f xs y has =
+    let it = has_mapped f xs y has in
+    let at = contains_had xs it.0 it.1 in
+    (at.0, it.0, at.1, at.2, sym it.2)
+
+pub only_one : {X : Type 0} (xs : List X) (x : X) → Has xs x → length xs ≡ 1 → xs ≡ x ∷ []
+only_one [] x has one = absurd has
+only_one (y ∷ []) x (inl is) one = λ i. sym is i ∷ []
+only_one (y ∷ []) x (inr none) one = absurd none
+only_one (y ∷ z ∷ xs) x has one = absurd (omega arith)
+
+-- ---- the number of rows
+
+-- a tree of which nothing is shown has no row
+pub no_rows_in : (places : List ℕ) (tree rows : List Row) → IsPermutation (map (columns_and_rowid places) tree) rows → rows ≡ [] → tree ≡ []
+no_rows_in places [] rows same none = refl
+no_rows_in places (r ∷ tree) rows same none =
+    let many = length_permutation _ _ same in
+    let few = ap length none in
+    absurd (omega (arith, many, few))
+
+-- and of one that has no row nothing is shown
+pub rows_of_none : (places : List ℕ) (tree rows : List Row) → IsPermutation (map (columns_and_rowid places) tree) rows → contents tree ≡ [] → rows ≡ []
+rows_of_none places tree [] same none = refl
+rows_of_none places tree (r ∷ rows) same none =
+    let many = length_permutation _ _ same in
+    let shown = length-map tree (columns_and_rowid places) in
+    let whole : length (contents tree) ≡ length tree = length-map tree (drop 1) in
+    let few = ap length none in
+    absurd (omega (arith, many, shown, whole, few))
+
+-- ---- tables that read
+
+shows_in : (tree : ℕ) (places : List ℕ) (P Q : Row → Type 0) → ((c : Row) → P c → Q (columns places c)) → (db : Database) → AllByRecursion P (contents (db.trees tree)) → AllByRecursion Q (shown_in tree places db)
+shows_in tree places P Q shows db all = all-map Q (columns places) (contents (db.trees tree)) (all_weaker P (λ c. Q (columns places c)) shows (contents (db.trees tree)) all)
+
+abbrev holder_cells : Registered → Row
+holder_cells x = holder_row x.name x.counters.granted x.counters.created
+
+abbrev HolderFits : Registered → Type 0
+HolderFits x = IsTrue (is_name x.name) × IsCount x.counters.granted × IsCount x.counters.created
+
+shows_registered : (c : Row) → ShowsHolder c → ShowsSome holder_cells HolderFits c
+shows_registered c it = (record { name = it.0; counters = record { granted = it.1; created = it.2 } }, (it.3, it.4, it.5), it.6)
+
+pub shows_holder : (c : Row) → ShowsSome holder_cells HolderFits c → ShowsHolder c
+shows_holder c it = (it.0.name, it.0.counters.granted, it.0.counters.created, it.1.0, it.1.1, it.1.2, it.2)
+
+pub number_in : (is_old : Bool) (db : Database) → HasNumber is_old db.trees → Has (shown_in meta.tree (0 ∷ 1 ∷ []) db) (number_row is_old)
+number_in true db has = mapped_has (columns (0 ∷ 1 ∷ [])) (contents (db.trees meta.tree)) old_schema_row (has_contained _ _ has)
+number_in false db has = mapped_has (columns (0 ∷ 1 ∷ [])) (contents (db.trees meta.tree)) schema_row (has_contained _ _ has)
+
+module _ (db : Database) (read : TablesRead db.trees) where
+  pub operators_read : IsPermutation (map operator_row read.charter.operators) (shown_in operator.tree (0 ∷ []) db)
+  operators_read =
+      subst (λ l. IsPermutation l (shown_in operator.tree (0 ∷ []) db)) (map-map (columns (0 ∷ [])) operator_row read.charter.operators)
+      (IsPermutation-map (columns (0 ∷ [])) _ _ read.charter.operators_shown)
+
+  pub pool_read : IsPermutation (map prefix_cells read.charter.prefixes) (shown_in pool.tree (0 ∷ 1 ∷ 2 ∷ []) db)
+  pool_read =
+      subst (λ l. IsPermutation l (shown_in pool.tree (0 ∷ 1 ∷ 2 ∷ []) db)) (map-map (columns (0 ∷ 1 ∷ 2 ∷ [])) prefix_cells read.charter.prefixes)
+      (IsPermutation-map (columns (0 ∷ 1 ∷ 2 ∷ [])) _ _ read.charter.prefixes_shown)
+
+  pub operators_in : AllByRecursion (ShowsSome (λ text. Text text ∷ []) (λ text. IsTrue (is_name text))) (shown_in operator.tree (0 ∷ []) db)
+  operators_in =
+      all-permutation _ (map operator_row read.charter.operators) _ operators_read
+      (all-map _ operator_row read.charter.operators (all_weaker _ _ (λ name is. (name, is, refl)) read.charter.operators read.charter.named))
+
+  pub pool_in : AllByRecursion (ShowsSome prefix_cells (λ _. ⊤)) (shown_in pool.tree (0 ∷ 1 ∷ 2 ∷ []) db)
+  pool_in =
+      all-permutation _ (map prefix_cells read.charter.prefixes) _ pool_read
+      (all-map _ prefix_cells read.charter.prefixes (all_of _ (λ p. (p, tt, refl)) read.charter.prefixes))
+
+  pub holders_in : AllByRecursion (ShowsSome holder_cells HolderFits) (shown_in holder.tree (0 ∷ 1 ∷ 2 ∷ []) db)
+  holders_in =
+      shows_in holder.tree (0 ∷ 1 ∷ 2 ∷ []) ShowsHolder _
+      (λ c it. shows_registered (columns (0 ∷ 1 ∷ 2 ∷ []) c) (it.0, it.1, it.2, it.3, it.4, it.5, ap (columns (0 ∷ 1 ∷ 2 ∷ [])) it.6)) db read.holders
+
+  pub holdings_in : AllByRecursion (ShowsSome span_cells (λ _. ⊤)) (shown_in holding.tree (0 ∷ 1 ∷ 2 ∷ []) db)
+  holdings_in = shows_in holding.tree (0 ∷ 1 ∷ 2 ∷ []) (ShowsOfHolder holding_row (λ _. ⊤)) _ (λ c it. (it.1, tt, ap (columns (0 ∷ 1 ∷ 2 ∷ [])) it.3)) db read.holdings
+
+  abbrev grant_places : List ℕ
+  grant_places = 1 ∷ 2 ∷ 3 ∷ 4 ∷ 5 ∷ 6 ∷ 7 ∷ []
+
+  pub grants_in : AllByRecursion (ShowsSome grant_cells GrantFits) (shown_in granted.tree grant_places db)
+  grants_in = shows_in granted.tree grant_places (ShowsOfHolder granted_row GrantFits) _ (λ c it. (it.1, it.2, ap (columns grant_places) it.3 ∙ grant_shown it.0 it.1)) db read.grants
+
+  pub exceptions_in : AllByRecursion (ShowsSome exception_row ExceptionRowFits) (shown_in slurm.tree exception_places db)
+  exceptions_in = read.exceptions
+
+-- ---- charters
+
+pub charter_shown :
+    (r : Result CharterSets StoreFault) (names : List (List ℕ)) (prefixes : List Prefix) (db : Database)
+    → AllByRecursion (λ name. IsTrue (is_name name)) names → ShowsRows operator.tree (0 ∷ []) (map operator_row names) db → ShowsRows pool.tree (0 ∷ 1 ∷ 2 ∷ []) (map prefix_cells prefixes) db
+    → IfOk r (λ charter. IsPermutation names charter.operators) → IfOk r (λ charter. IsPermutation prefixes charter.pool) → IfOk r (λ charter. ShowsCharter charter db)
+charter_shown (Ok charter) names prefixes db named one other operators prefixed = record {
+  named = all-permutation _ names charter.operators operators named;
+  operators = record { whole = one.whole; shown = IsPermutation-trans _ _ _ (IsPermutation-map operator_row _ _ (IsPermutation-sym _ _ operators)) one.shown };
+  pool = record { whole = other.whole; shown = IsPermutation-trans _ _ _ (IsPermutation-map prefix_cells _ _ (IsPermutation-sym _ _ prefixed)) other.shown };
+}
+charter_shown (Err e) names prefixes db named one other operators prefixed = tt
+
+one_operator : (m n : List ℕ) → operator_row m ≡ operator_row n → m ≡ n
+one_operator m n is = cc
+
+-- what is no charter is not read from tables that read
+pub some_charter :
+    (db : Database) → TablesRead db.trees → (names : List (List ℕ)) (prefixes : List Prefix)
+    → IsPermutation (map operator_row names) (shown_in operator.tree (0 ∷ []) db) → IsPermutation (map prefix_cells prefixes) (shown_in pool.tree (0 ∷ 1 ∷ 2 ∷ []) db)
+    → ¬ (AreAllowedCounts names prefixes → (has_repeat (pointwise nat_eq) names || has_repeat prefix_eq prefixes) ≡ true)
+some_charter db read names prefixes named pooled refused =
+    let kept = read.charter in
+    let operators = values_shown operator_row one_operator kept.operators names (map operator_row names) (IsPermutation-trans _ _ _ (operators_read db read) (IsPermutation-sym _ _ named)) refl in
+    let pool = values_shown prefix_cells one_prefix kept.prefixes prefixes (map prefix_cells prefixes) (IsPermutation-trans _ _ _ (pool_read db read) (IsPermutation-sym _ _ pooled)) refl in
+    let many = length_permutation _ _ operators in
+    let wide = length_permutation _ _ pool in
+    let number : AreAllowedCounts names prefixes =
+    rw (many, wide) kept.number in
+    let once = has_repeat-moved (pointwise nat_eq) nat_list_eq_equiv.symm kept.operators names operators kept.operators_once in
+    let apart = has_repeat-moved prefix_eq prefix_eq-flips kept.prefixes prefixes pool kept.prefixes_once in
+    both_ways _ (λ i. once i || apart i) (refused number)
+
+pub err_fact : {Y : Type 0} (P : Type 0) (r : Result Y StoreFault) → r ≡ Err Schema → OnErr r P → P
+err_fact P r is holds = subst (λ s. OnErr s P) is holds

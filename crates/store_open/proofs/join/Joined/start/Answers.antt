@@ -1,0 +1,7 @@
+use Rattle.std.proofs.Common.{[], sym, subst, true}
+use Rattle.store_open.specs.steps.Joining.{JoinsRows}
+use Rattle.store_open.proofs.Joining.{joins_none}
+use Rattle.store_open.proofs.join.Joined.start.Goals as goal
+
+pub returns-clause-joins : goal.returns-clause-joins
+returns-clause-joins c = subst (λ l. JoinsRows c.args.claims.items [] 0 l true) (sym c.new.ensures.items) (joins_none c.args.claims.items)

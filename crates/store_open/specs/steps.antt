@@ -1,0 +1,6 @@
+-- The steps of the code, which no public contract cites.
+pub mod Moving
+pub mod Found
+pub mod Numbered
+pub mod Opened
+pub mod Joining

@@ -1,0 +1,164 @@
+//! Joins claims with the rows of their entries, which come in the order of their key, one at a
+//! time.
+ghost use Rattle.std.specs.Prelude.{◌≡◌, ◌≢◌, true, false, List, [], ◌∷◌, ◌++◌, drop, Err, IfOk, MatchBool};
+ghost use Rattle.sqlite_value.specs.Order.{Row as Cells};
+ghost use Rattle.store_tables.specs.declared.entry.EntryRow.{EntryRow};
+ghost use Rattle.store_tables.specs.declared.groups.OfHolder.{OfHolder};
+ghost use Rattle.store_open.specs.steps.Joining.{JoinsRows, MakeNoneOfRows, MakeOfRows, WalkStands, WalkGoesOn, first_claim_entry};
+
+use addr::RoaPrefix;
+use registry::RoaPrefixes;
+use sqlite::Row;
+use std::alloc::Global;
+use store_tables::{Claim, EntryRow, FromRow, HasEntries, OfHolder};
+use store_transactions::{StoreFault, TakeRow};
+
+/// A walk along claims in order: how many it has passed, and the entries found of the next one.
+#[derive(Drop)]
+pub(crate) struct Joined {
+    alloc: Global,
+    claims: Vec<OfHolder<Claim>>,
+    passed: usize,
+    found: Vec<RoaPrefix>,
+    fits: bool,
+}
+
+/// The entry of the claim at this place that the row is, if there is such a claim and it is one.
+fn entry_at(claims: &[OfHolder<Claim>], place: usize, row: &OfHolder<EntryRow>) -> Option<RoaPrefix>
+    ensures { result ≡ first_claim_entry (drop place claims.now) row.now }
+{
+    let claim = claims.get(place)?;
+    claim.entry_if(row)
+}
+
+/// The entries with one more.
+fn with_entry(mut entries: Vec<RoaPrefix>, entry: RoaPrefix) -> Result<Vec<RoaPrefix>, StoreFault>
+    ensures more { IfOk result (λ now. now.items ≡ entries.items ++ entry ∷ []) }
+    ensures no_schema { result ≢ Err StoreFault.Schema }
+{
+    let Ok(()) = entries.push(entry) else {
+        return Err(StoreFault::Database);
+    };
+    Ok(entries)
+}
+
+impl Joined {
+    /// The walk before any row.
+    pub(crate) fn start(alloc: Global, claims: Vec<OfHolder<Claim>>) -> Joined
+        ensures claims { result.claims ≡ claims }
+        ensures joins { JoinsRows claims.items [] result.passed result.found.items result.fits }
+    {
+        Joined {
+            alloc,
+            claims,
+            passed: 0,
+            found: Vec::new(alloc),
+            fits: true,
+        }
+    }
+
+    /// The walk after the row of one more entry.
+    fn pass(self, row: &OfHolder<EntryRow>) -> Result<Joined, StoreFault>
+        ensures claims { IfOk result (λ now. now.claims ≡ self.claims) }
+        ensures walks { IfOk result (λ now. (entries : List (OfHolder EntryRow))
+            → WalkStands self.claims.items entries (drop self.passed self.claims.items)
+            self.found.items
+            → WalkGoesOn self.claims.items (entries ++ row.now ∷ []) now.passed now.found.items
+            now.fits) }
+        ensures no_schema { result ≢ Err StoreFault.Schema }
+    {
+        let Joined {
+            alloc,
+            claims,
+            passed,
+            found,
+            fits: _,
+        } = self;
+        if passed >= claims.len() {
+            return Ok(Joined {
+                alloc,
+                claims,
+                passed,
+                found,
+                fits: false,
+            });
+        }
+        if let Some(entry) = entry_at(&claims, passed, row) {
+            return Ok(Joined {
+                alloc,
+                claims,
+                passed,
+                found: with_entry(found, entry)?,
+                fits: true,
+            });
+        }
+        let none = Vec::new(alloc);
+        let Some(_) = RoaPrefixes::in_order(found) else {
+            return Ok(Joined {
+                alloc,
+                claims,
+                passed,
+                found: none,
+                fits: false,
+            });
+        };
+        let Some(entry) = entry_at(&claims, passed + 1, row) else {
+            return Ok(Joined {
+                alloc,
+                claims,
+                passed,
+                found: none,
+                fits: false,
+            });
+        };
+        Ok(Joined {
+            alloc,
+            claims,
+            passed: passed + 1,
+            found: with_entry(none, entry)?,
+            fits: true,
+        })
+    }
+
+    /// Whether the claims made authorizations with the rows.
+    pub(crate) fn is_whole(self) -> bool
+        ensures { (rows : List Cells)
+            → JoinsRows self.claims.items rows self.passed self.found.items self.fits
+            → MatchBool result (MakeOfRows self.claims.items rows)
+            (MakeNoneOfRows self.claims.items rows) }
+    {
+        let Joined {
+            alloc: _,
+            claims,
+            passed,
+            found,
+            fits,
+        } = self;
+        if !fits {
+            return false;
+        }
+        if passed >= claims.len() {
+            return true;
+        }
+        let Some(_) = RoaPrefixes::in_order(found) else {
+            return false;
+        };
+        passed + 1 >= claims.len()
+    }
+}
+
+impl TakeRow for Joined {
+    ghost took = { λ start rows now. (now.claims ≡ start.claims)
+        × JoinsRows start.claims.items rows now.passed now.found.items now.fits };
+
+    fn take(mut self, row: &Row) -> Result<Joined, StoreFault> {
+        if !self.fits {
+            return Ok(self);
+        }
+        let Some(entry) = OfHolder::<EntryRow>::in_row(row) else {
+            self.fits = false;
+            return Ok(self);
+        };
+        self.pass(&entry)
+    }
+}

@@ -1,0 +1,606 @@
+//! Reading all rows of a database that has the tables of a desk.
+ghost use Rattle.std.specs.Prelude.{◌≡◌, ◌≢◌, ◌↔◌, true, false, ◌||◌, nat_eq, ℕ, List, [], ◌∷◌, length, Any, Err, OnOk, OnErr, IfOk, IsPermutation, IsSorted, IsTrue};
+ghost use Rattle.std.specs.declared.cmp.Ordering.{Ordering};
+ghost use Rattle.std.specs.Cmp.{IsTotalOrder};
+ghost use Rattle.std.specs.Cmp.Lexicographic.{pointwise};
+ghost use Rattle.std.specs.List.{AllByRecursion};
+ghost use Rattle.sqlite.specs.Given.{IsPlain};
+ghost use Rattle.sqlite.specs.Held.{state};
+ghost use Rattle.sqlite.specs.Listing.{understood, reads_listing};
+ghost use Rattle.sqlite.specs.State.{HasCleanDisk};
+ghost use Rattle.addr.specs.Address.{prefix_eq};
+ghost use Rattle.registry.specs.Charter.{operators_of, pool_of};
+ghost use Rattle.registry.specs.CharterSets.{AreAllowedCounts};
+ghost use Rattle.registry.specs.Repeats.{has_repeat};
+ghost use Rattle.store_tables.specs.Decode.{first_columns};
+ghost use Rattle.store_tables.specs.Groups.{AllApart, claim_entry, holder_entry};
+ghost use Rattle.store_tables.specs.Tables.{operator, pool, holder, holding, granted, auth, slurm, claim, entry, IsTree, OverDesk};
+ghost use Rattle.store_tables.proofs.GroupOrder.{claim_cmp, claim_orders, entry_row_cmp, of_holder_cmp, of_holder_total};
+ghost use Rattle.store_transactions.specs.Statements.{state_in, IsReady, OnCleanDisk};
+ghost use Rattle.store_open.specs.TablesRead.{HoldSomeRows, ShowsSome, TablesRead};
+ghost use Rattle.store_open.specs.steps.Numbered.{AreRead, AscendByNumber, SelectsAll, shown_in};
+ghost use Rattle.store_transactions.specs.steps.Statements.{AnswersSelect};
+ghost use Rattle.store_open.specs.steps.Joining.{MakeOfTable, MakeNoneOfTable};
+ghost use Rattle.store_open.specs.steps.Opened.{HasNumber, ShowsNumber, number_row, MakeAuths, ShowAuths, ShowExceptions, ShowHolders, ShowsCharter, ShowsOthers, claim_places, entry_places};
+ghost use Rattle.store_transactions.specs.Queries.{IsAsked, IsAskedOnce, IsClean, IsReadyToAsk, IsAskedInside, ObeysSchema};
+
+use crate::collect::{Collected, Rowids};
+use crate::join::Joined;
+use crate::rise::{last_value, rise};
+use addr::{Name, Prefix, Span};
+use registry::{Charter, Granted, RoaPrefixes};
+use sqlite::types::ValueRef;
+use sqlite::{Alter, Connection, Row, Transaction};
+use std::alloc::Global;
+use std::cmp::Ordering;
+use store_schema::shows_old_schema;
+use store_tables::{
+    Claim, EntryRow, ExceptionRow, FromRow, OfHolder, Registered, SELECT_ALL_AUTHS,
+    SELECT_ALL_CLAIMS, SELECT_ALL_ENTRIES, SELECT_ALL_EXCEPTIONS, SELECT_ALL_GRANTS,
+    SELECT_ALL_HOLDERS, SELECT_ALL_OPERATORS, SELECT_ALL_PREFIXES, SELECT_ALL_SPANS,
+    SELECT_ENTRIES_BY_KEY, SELECT_ENTRY_ROWIDS, SELECT_SCHEMA, first_entries, shows_schema,
+};
+use store_transactions::{StoreFault, ask, ask_inside, group_files, read_all, take_each};
+
+/// A value that each row of one table shows.
+trait InTable: FromRow {
+    // The tree of the table, and the columns that show the value.
+    ghost tree: { ℕ };
+
+    ghost places: { List ℕ };
+
+    /// The query of those columns of all rows, and of their rowids after them.
+    fn select_all() -> &'static str
+        ensures { SelectsAll Self.width tree places result.now };
+}
+
+/// A value that each row of one table shows, with an order of such values.
+trait InOrder: InTable {
+    ghost order: { Self → Self → Ordering };
+
+    ghost total: { IsTotalOrder order };
+
+    fn order(&self, other: &Self) -> Ordering
+        ensures { result ≡ order self.now other.now };
+}
+
+/// Counts the rows of the table `claim`.
+const COUNT_CLAIMS: &str = "SELECT COUNT(*) FROM claim";
+
+/// All rows that a query of numbered rows answers.
+fn ask_all<S: Alter>(tx: &mut Transaction<'_, S>, sql: &str) -> Result<Vec<Row>, StoreFault>
+    requires ready { OnCleanDisk S.Store IsReady tx.old }
+    requires plain { OverDesk (λ s. IsPlain (understood s sql.now)) }
+    requires unlisted { OverDesk (λ s. reads_listing s sql.now ≡ false) }
+    ensures asked { IsAskedInside S.Store tx.old tx.new result }
+    ensures answered { HasCleanDisk (state_in S.Store tx.new) → IfOk result (λ rows.
+        AnswersSelect sql.now (state_in S.Store tx.old).now rows.items) }
+    ensures rise { IfOk result (λ rows. AscendByNumber rows.items) }
+    ensures no_schema { result ≢ Err StoreFault.Schema }
+{
+    let rows = ask_inside(tx, sql, &[])?;
+    if !rise(&rows) {
+        return Err(StoreFault::Database);
+    }
+    Ok(rows)
+}
+
+/// The values of all rows of a table.
+fn read_table<T: InTable, S: Alter>(
+    tx: &mut Transaction<'_, S>,
+    alloc: Global,
+) -> Result<Vec<T>, StoreFault>
+    requires { OnCleanDisk S.Store IsReady tx.old }
+    ensures asked { IsAskedInside S.Store tx.old tx.new result }
+    ensures tree { HasCleanDisk (state_in S.Store tx.new)
+        → OnOk result (IsTree ((state_in S.Store tx.old).now.trees T.tree)) }
+    ensures read { HasCleanDisk (state_in S.Store tx.new) → IfOk result (λ values.
+        AreRead T.cells T.fits (shown_in T.tree T.places (state_in S.Store tx.old).now)
+        values.items) }
+    ensures schema { HasCleanDisk (state_in S.Store tx.new) → result ≡ Err StoreFault.Schema
+        → ¬ AllByRecursion (ShowsSome T.cells T.fits)
+        (shown_in T.tree T.places (state_in S.Store tx.old).now) }
+{
+    let rows = ask_all(tx, T::select_all())?;
+    read_all(alloc, &rows)
+}
+
+/// The values of all rows of a table, in their order.
+fn read_in_order<T: InOrder, S: Alter>(
+    tx: &mut Transaction<'_, S>,
+    alloc: Global,
+) -> Result<Vec<T>, StoreFault>
+    requires { OnCleanDisk S.Store IsReady tx.old }
+    ensures asked { IsAskedInside S.Store tx.old tx.new result }
+    ensures tree { HasCleanDisk (state_in S.Store tx.new)
+        → OnOk result (IsTree ((state_in S.Store tx.old).now.trees T.tree)) }
+    ensures read { HasCleanDisk (state_in S.Store tx.new) → IfOk result (λ values.
+        AreRead T.cells T.fits (shown_in T.tree T.places (state_in S.Store tx.old).now)
+        values.items) }
+    ensures sorted { HasCleanDisk (state_in S.Store tx.new)
+        → IfOk result (λ values. IsSorted T.order values.items) }
+    ensures schema { HasCleanDisk (state_in S.Store tx.new) → result ≡ Err StoreFault.Schema
+        → ¬ AllByRecursion (ShowsSome T.cells T.fits)
+        (shown_in T.tree T.places (state_in S.Store tx.old).now) }
+{
+    let mut values: Vec<T> = read_table(tx, alloc)?;
+    values.sort_unstable_by(|one, other| one.order(other));
+    Ok(values)
+}
+
+/// The number that a query of one number answers, or 0. It decides only for how many values room is
+/// made at once, so no clause says which number it is.
+fn ask_number<S: Alter>(conn: &mut Connection<S>, sql: &str) -> Result<usize, StoreFault>
+    requires ready { IsReadyToAsk S.Store conn.old }
+    requires plain { OverDesk (λ s. IsPlain (understood s sql.now)) }
+    ensures asked { IsAsked S.Store conn.old conn.new result }
+    ensures no_schema { result ≢ Err StoreFault.Schema }
+{
+    let rows = ask(conn, sql, &[])?;
+    let Some(ValueRef::Int(number)) = rows.first().map(last_value) else {
+        return Ok(0);
+    };
+    Ok(usize::try_from(number).unwrap_or(0))
+}
+
+/// The values of all rows of a table, outside a transaction. The text answers how many there are, so
+/// that the vector is made at once: one that grows is held twice while it is moved. One row is held
+/// at a time.
+fn collect_table<T: InTable, S: Alter>(
+    conn: &mut Connection<S>,
+    alloc: Global,
+    count_all: &str,
+) -> Result<Vec<T>, StoreFault>
+    requires ready { IsReadyToAsk S.Store conn.old }
+    requires plain { OverDesk (λ s. IsPlain (understood s count_all.now)) }
+    ensures asked { IsAsked S.Store conn.old conn.new result }
+    ensures tree { IsClean S.Store conn.new
+        → OnOk result (IsTree ((state S.Store conn.old).now.trees T.tree)) }
+    ensures read { IsClean S.Store conn.new → IfOk result (λ values.
+        AreRead T.cells T.fits (shown_in T.tree T.places (state S.Store conn.old).now)
+        values.items) }
+    ensures schema { IsClean S.Store conn.new → result ≡ Err StoreFault.Schema
+        → ¬ AllByRecursion (ShowsSome T.cells T.fits)
+        (shown_in T.tree T.places (state S.Store conn.old).now) }
+{
+    let count = ask_number(conn, count_all)?;
+    let none: Collected<T> = Collected::none(alloc, count);
+    let collected = take_each(conn, T::select_all(), &[], none)?;
+    let Some(values) = collected.into_values() else {
+        return Err(StoreFault::Schema);
+    };
+    Ok(values)
+}
+
+/// The same in their order.
+fn collect_in_order<T: InOrder, S: Alter>(
+    conn: &mut Connection<S>,
+    alloc: Global,
+    count_all: &str,
+) -> Result<Vec<T>, StoreFault>
+    requires ready { IsReadyToAsk S.Store conn.old }
+    requires plain { OverDesk (λ s. IsPlain (understood s count_all.now)) }
+    ensures asked { IsAsked S.Store conn.old conn.new result }
+    ensures tree { IsClean S.Store conn.new
+        → OnOk result (IsTree ((state S.Store conn.old).now.trees T.tree)) }
+    ensures read { IsClean S.Store conn.new → IfOk result (λ values.
+        AreRead T.cells T.fits (shown_in T.tree T.places (state S.Store conn.old).now)
+        values.items) }
+    ensures sorted { IsClean S.Store conn.new
+        → IfOk result (λ values. IsSorted T.order values.items) }
+    ensures schema { IsClean S.Store conn.new → result ≡ Err StoreFault.Schema
+        → ¬ AllByRecursion (ShowsSome T.cells T.fits)
+        (shown_in T.tree T.places (state S.Store conn.old).now) }
+{
+    let mut values: Vec<T> = collect_table(conn, alloc, count_all)?;
+    values.sort_unstable_by(|one, other| one.order(other));
+    Ok(values)
+}
+
+impl InTable for Name {
+    ghost tree = { operator.tree };
+
+    ghost places = { 0 ∷ [] };
+
+    fn select_all() -> &'static str {
+        SELECT_ALL_OPERATORS
+    }
+}
+
+impl InTable for Prefix {
+    ghost tree = { pool.tree };
+
+    ghost places = { 0 ∷ 1 ∷ 2 ∷ [] };
+
+    fn select_all() -> &'static str {
+        SELECT_ALL_PREFIXES
+    }
+}
+
+impl InTable for Registered {
+    ghost tree = { holder.tree };
+
+    ghost places = { 0 ∷ 1 ∷ 2 ∷ [] };
+
+    fn select_all() -> &'static str {
+        SELECT_ALL_HOLDERS
+    }
+}
+
+impl InTable for Span {
+    ghost tree = { holding.tree };
+
+    ghost places = { 0 ∷ 1 ∷ 2 ∷ [] };
+
+    fn select_all() -> &'static str {
+        SELECT_ALL_SPANS
+    }
+}
+
+impl InTable for Granted {
+    ghost tree = { granted.tree };
+
+    ghost places = { 1 ∷ 2 ∷ 3 ∷ 4 ∷ 5 ∷ 6 ∷ 7 ∷ [] };
+
+    fn select_all() -> &'static str {
+        SELECT_ALL_GRANTS
+    }
+}
+
+impl InTable for ExceptionRow {
+    ghost tree = { slurm.tree };
+
+    ghost places = { 0 ∷ 1 ∷ 2 ∷ 3 ∷ 4 ∷ 5 ∷ 6 ∷ 7 ∷ [] };
+
+    fn select_all() -> &'static str {
+        SELECT_ALL_EXCEPTIONS
+    }
+}
+
+impl InTable for OfHolder<Claim> {
+    ghost tree = { claim.tree };
+
+    ghost places = { claim_places };
+
+    fn select_all() -> &'static str {
+        SELECT_ALL_CLAIMS
+    }
+}
+
+impl InTable for OfHolder<EntryRow> {
+    ghost tree = { entry.tree };
+
+    ghost places = { entry_places };
+
+    fn select_all() -> &'static str {
+        SELECT_ALL_ENTRIES
+    }
+}
+
+impl InOrder for OfHolder<Claim> {
+    ghost order = { of_holder_cmp claim_cmp };
+
+    ghost total = { of_holder_total claim_cmp claim_orders.claims_total };
+
+    fn order(&self, other: &OfHolder<Claim>) -> Ordering {
+        let holders = self.holder.cmp(&other.holder);
+        holders.then(self.row.number.cmp(&other.row.number))
+    }
+}
+
+impl InOrder for OfHolder<EntryRow> {
+    ghost order = { of_holder_cmp entry_row_cmp };
+
+    ghost total = { of_holder_total entry_row_cmp claim_orders.rows_total };
+
+    fn order(&self, other: &OfHolder<EntryRow>) -> Ordering {
+        let holders = self.holder.cmp(&other.holder);
+        let numbers = self.row.number.cmp(&other.row.number);
+        let prefixes = self.row.entry.prefix.cmp(&other.row.entry.prefix);
+        holders.then(numbers.then(prefixes))
+    }
+}
+
+/// Whether some row has the number of this schema, or that of schema 1.
+fn some_shows(rows: &[Row], is_old: bool) -> bool
+    ensures { IsTrue result
+        ↔ Any (λ row. first_columns 2 row ≡ number_row is_old) rows.now }
+{
+    if is_old {
+        rows.iter().any(|row| shows_old_schema(row))
+    } else {
+        rows.iter().any(|row| shows_schema(row))
+    }
+}
+
+/// Checks that the one row has the number of this schema, or that of schema 1. Fault `Schema`: no
+/// row has it. Fault `Database`: another row is beside the one that has it.
+fn check_number(rows: &[Row], is_old: bool) -> Result<(), StoreFault>
+    ensures found { OnOk result (Any (λ row. first_columns 2 row ≡ number_row is_old) rows.now
+        × (length rows.now ≡ 1)) }
+    ensures schema { result ≡ Err StoreFault.Schema
+        → ¬ Any (λ row. first_columns 2 row ≡ number_row is_old) rows.now }
+    ensures others { result ≡ Err StoreFault.Database
+        → Any (λ row. first_columns 2 row ≡ number_row is_old) rows.now
+        × (length rows.now ≢ 1) }
+{
+    if !some_shows(rows, is_old) {
+        return Err(StoreFault::Schema);
+    }
+    if rows.len() != 1 {
+        return Err(StoreFault::Database);
+    }
+    Ok(())
+}
+
+/// Checks that the one row of the table `meta` has the number of this schema, or that of schema 1.
+pub(crate) fn read_number<S: Alter>(
+    tx: &mut Transaction<'_, S>,
+    is_old: bool,
+) -> Result<(), StoreFault>
+    requires { OnCleanDisk S.Store IsReady tx.old }
+    ensures asked { IsAskedInside S.Store tx.old tx.new result }
+    ensures found { HasCleanDisk (state_in S.Store tx.new)
+        → OnOk result (ShowsNumber is_old (state_in S.Store tx.old).now) }
+    ensures schema { HasCleanDisk (state_in S.Store tx.new) → result ≡ Err StoreFault.Schema
+        → ¬ HasNumber is_old (state_in S.Store tx.old).now.trees }
+{
+    let rows = ask_all(tx, SELECT_SCHEMA)?;
+    check_number(&rows, is_old)
+}
+
+/// The charter of these operators and this pool. If they make none, the fault is `Schema`.
+fn make_charter(operators: Vec<Name>, pool: Vec<Prefix>) -> Result<Charter, StoreFault>
+    ensures operators { IfOk result
+        (λ charter. IsPermutation operators.items (operators_of charter)) }
+    ensures pool { IfOk result (λ charter. IsPermutation pool.items (pool_of charter)) }
+    ensures schema { OnErr result (AreAllowedCounts operators.items pool.items
+        → (has_repeat (pointwise nat_eq) operators.items || has_repeat prefix_eq pool.items)
+        ≡ true) }
+{
+    Charter::make(operators, pool).map_err(|_| StoreFault::Schema)
+}
+
+/// The charter that the tables have.
+fn read_charter<S: Alter>(tx: &mut Transaction<'_, S>, alloc: Global) -> Result<Charter, StoreFault>
+    requires { OnCleanDisk S.Store IsReady tx.old }
+    ensures asked { IsAskedInside S.Store tx.old tx.new result }
+    ensures found { HasCleanDisk (state_in S.Store tx.new) → IfOk result (λ charter.
+        ShowsCharter charter (state_in S.Store tx.old).now) }
+    ensures schema { HasCleanDisk (state_in S.Store tx.new) → result ≡ Err StoreFault.Schema
+        → ¬ TablesRead (state_in S.Store tx.old).now.trees }
+{
+    let operators = read_table(tx, alloc)?;
+    let pool = read_table(tx, alloc)?;
+    make_charter(operators, pool)
+}
+
+/// Checks that each row of the tables of holders, of what they hold and of grants reads.
+fn read_holders<S: Alter>(tx: &mut Transaction<'_, S>, alloc: Global) -> Result<(), StoreFault>
+    requires { OnCleanDisk S.Store IsReady tx.old }
+    ensures asked { IsAskedInside S.Store tx.old tx.new result }
+    ensures found { HasCleanDisk (state_in S.Store tx.new)
+        → OnOk result (ShowHolders (state_in S.Store tx.old).now) }
+    ensures schema { HasCleanDisk (state_in S.Store tx.new) → result ≡ Err StoreFault.Schema
+        → ¬ TablesRead (state_in S.Store tx.old).now.trees }
+{
+    let _holders: Vec<Registered> = read_table(tx, alloc)?;
+    let _holdings: Vec<Span> = read_table(tx, alloc)?;
+    let _grants: Vec<Granted> = read_table(tx, alloc)?;
+    Ok(())
+}
+
+/// Checks that the table of authorizations of schema 1 has no row.
+fn read_unused<S: Alter>(tx: &mut Transaction<'_, S>) -> Result<(), StoreFault>
+    requires { OnCleanDisk S.Store IsReady tx.old }
+    ensures asked { IsAskedInside S.Store tx.old tx.new result }
+    ensures found { HasCleanDisk (state_in S.Store tx.new)
+        → OnOk result ((state_in S.Store tx.old).now.trees auth.tree ≡ []) }
+    ensures schema { HasCleanDisk (state_in S.Store tx.new) → result ≡ Err StoreFault.Schema
+        → ¬ TablesRead (state_in S.Store tx.old).now.trees }
+{
+    let rows = ask_all(tx, SELECT_ALL_AUTHS)?;
+    if !rows.is_empty() {
+        return Err(StoreFault::Schema);
+    }
+    Ok(())
+}
+
+/// Checks that claims and entries, both in order, make authorizations. It keeps the entries of one
+/// claim at a time, since this takes most of the memory of an opening.
+fn check_auths(
+    alloc: Global,
+    claims: &[OfHolder<Claim>],
+    entries: &[OfHolder<EntryRow>],
+) -> Result<(), StoreFault>
+    ensures found { OnOk result (MakeAuths claims.now entries.now) }
+    ensures schema { result ≡ Err StoreFault.Schema
+        → AllApart (holder_entry claim_entry) claims.now → ¬ MakeAuths claims.now entries.now }
+{
+    let mut rest = entries;
+    for claim in claims {
+        let found = first_entries(alloc, claim, rest)?;
+        (_, rest) = rest.split_at(found.len());
+        let Some(_) = RoaPrefixes::in_order(found) else {
+            return Err(StoreFault::Schema);
+        };
+    }
+    if rest.is_empty() {
+        Ok(())
+    } else {
+        Err(StoreFault::Schema)
+    }
+}
+
+/// Checks that the rows of claims and of entries read, and that they make authorizations.
+fn read_auths<S: Alter>(tx: &mut Transaction<'_, S>, alloc: Global) -> Result<(), StoreFault>
+    requires ready { OnCleanDisk S.Store IsReady tx.old }
+    requires sound { OnCleanDisk S.Store ObeysSchema tx.old }
+    ensures asked { IsAskedInside S.Store tx.old tx.new result }
+    ensures found { HasCleanDisk (state_in S.Store tx.new)
+        → OnOk result (ShowAuths (state_in S.Store tx.old).now) }
+    ensures schema { HasCleanDisk (state_in S.Store tx.new) → result ≡ Err StoreFault.Schema
+        → ¬ TablesRead (state_in S.Store tx.old).now.trees }
+{
+    read_unused(tx)?;
+    let claims: Vec<OfHolder<Claim>> = read_in_order(tx, alloc)?;
+    let entries: Vec<OfHolder<EntryRow>> = read_in_order(tx, alloc)?;
+    check_auths(alloc, &claims, &entries)
+}
+
+/// Checks that each row of the table `slurm` reads. If a SLURM file has more exceptions than it may
+/// have, the fault is `Schema`.
+fn read_exceptions<S: Alter>(tx: &mut Transaction<'_, S>, alloc: Global) -> Result<(), StoreFault>
+    requires { OnCleanDisk S.Store IsReady tx.old }
+    ensures asked { IsAskedInside S.Store tx.old tx.new result }
+    ensures found { HasCleanDisk (state_in S.Store tx.new)
+        → OnOk result (ShowExceptions (state_in S.Store tx.old).now) }
+    ensures schema { HasCleanDisk (state_in S.Store tx.new) → result ≡ Err StoreFault.Schema
+        → ¬ TablesRead (state_in S.Store tx.old).now.trees }
+{
+    let exceptions = read_table(tx, alloc)?;
+    let _files = group_files(alloc, exceptions)?;
+    Ok(())
+}
+
+/// Reads all rows of a database that has the tables of a desk, and returns the charter that they
+/// have.
+pub(crate) fn read_inside<S: Alter>(
+    tx: &mut Transaction<'_, S>,
+    alloc: Global,
+) -> Result<Charter, StoreFault>
+    requires ready { OnCleanDisk S.Store IsReady tx.old }
+    requires sound { OnCleanDisk S.Store ObeysSchema tx.old }
+    ensures asked { IsAskedInside S.Store tx.old tx.new result }
+    ensures held { HasCleanDisk (state_in S.Store tx.new) → IfOk result (λ charter.
+        HoldSomeRows charter (state_in S.Store tx.old).now.trees) }
+    ensures reads { HasCleanDisk (state_in S.Store tx.new)
+        → OnOk result (TablesRead (state_in S.Store tx.old).now.trees) }
+    ensures schema { HasCleanDisk (state_in S.Store tx.new) → result ≡ Err StoreFault.Schema
+        → ¬ TablesRead (state_in S.Store tx.old).now.trees }
+{
+    read_number(tx, false)?;
+    let charter = read_charter(tx, alloc)?;
+    // For the proof: its contract says that the operators and the pool make a charter.
+    let _operators = charter.operators();
+    read_holders(tx, alloc)?;
+    read_auths(tx, alloc)?;
+    read_exceptions(tx, alloc)?;
+    Ok(charter)
+}
+
+/// Reads all rows but those of claims and of entries, and returns the charter that they have.
+fn read_others<S: Alter>(tx: &mut Transaction<'_, S>, alloc: Global) -> Result<Charter, StoreFault>
+    requires { OnCleanDisk S.Store IsReady tx.old }
+    ensures asked { IsAskedInside S.Store tx.old tx.new result }
+    ensures shown { HasCleanDisk (state_in S.Store tx.new) → IfOk result (λ charter.
+        ShowsOthers charter (state_in S.Store tx.old).now) }
+    ensures schema { HasCleanDisk (state_in S.Store tx.new) → result ≡ Err StoreFault.Schema
+        → ¬ TablesRead (state_in S.Store tx.old).now.trees }
+{
+    read_number(tx, false)?;
+    let charter = read_charter(tx, alloc)?;
+    // For the proof: its contract says that the operators and the pool make a charter.
+    let _operators = charter.operators();
+    read_holders(tx, alloc)?;
+    read_unused(tx)?;
+    read_exceptions(tx, alloc)?;
+    Ok(charter)
+}
+
+/// The same in a transaction of its own, which is rolled back.
+fn read_others_once<S: Alter>(
+    conn: &mut Connection<S>,
+    alloc: Global,
+) -> Result<Charter, StoreFault>
+    requires { IsReadyToAsk S.Store conn.old }
+    ensures asked { IsAskedOnce S.Store conn.old conn.new result }
+    ensures shown { IsClean S.Store conn.new → IfOk result (λ charter.
+        ShowsOthers charter (state S.Store conn.old).now) }
+    ensures schema { IsClean S.Store conn.new → result ≡ Err StoreFault.Schema
+        → ¬ TablesRead (state S.Store conn.old).now.trees }
+{
+    // For the proof: its contract says that outside a transaction all that is shown is committed.
+    let _idle = conn.is_autocommit();
+    let mut tx = conn.transaction();
+    let charter = read_others(&mut tx, alloc)?;
+    tx.rollback();
+    // Only a connection that compiled a text is known to be open.
+    conn.prepare(SELECT_SCHEMA)?;
+    Ok(charter)
+}
+
+/// Checks that the rowids of the table of entries rise.
+fn check_rowids<S: Alter>(conn: &mut Connection<S>) -> Result<(), StoreFault>
+    requires { IsReadyToAsk S.Store conn.old }
+    ensures asked { IsAsked S.Store conn.old conn.new result }
+    ensures tree { IsClean S.Store conn.new
+        → OnOk result (IsTree ((state S.Store conn.old).now.trees entry.tree)) }
+    ensures no_schema { result ≢ Err StoreFault.Schema }
+{
+    take_each(conn, SELECT_ENTRY_ROWIDS, &[], Rowids::none())?;
+    Ok(())
+}
+
+/// Checks that the rows of entries read, and that they make authorizations with these claims, which
+/// are in order. It holds the entries of one claim at a time.
+fn join_entries<S: Alter>(
+    conn: &mut Connection<S>,
+    alloc: Global,
+    claims: Vec<OfHolder<Claim>>,
+) -> Result<(), StoreFault>
+    requires { IsReadyToAsk S.Store conn.old }
+    ensures asked { IsAsked S.Store conn.old conn.new result }
+    ensures found { IsClean S.Store conn.new
+        → OnOk result (MakeOfTable claims.items (state S.Store conn.old).now) }
+    ensures schema { IsClean S.Store conn.new → result ≡ Err StoreFault.Schema
+        → MakeNoneOfTable claims.items (state S.Store conn.old).now }
+{
+    let start = Joined::start(alloc, claims);
+    let joined = take_each(conn, SELECT_ENTRIES_BY_KEY, &[], start)?;
+    if !joined.is_whole() {
+        return Err(StoreFault::Schema);
+    }
+    Ok(())
+}
+
+/// Checks that the rows of claims and of entries read, and that they make authorizations. It holds
+/// the claims, since they are the smaller part, and one row of an entry at a time.
+fn collect_auths<S: Alter>(conn: &mut Connection<S>, alloc: Global) -> Result<(), StoreFault>
+    requires ready { IsReadyToAsk S.Store conn.old }
+    requires unused { IsClean S.Store conn.old
+        → (state S.Store conn.old).now.trees auth.tree ≡ [] }
+    ensures asked { IsAsked S.Store conn.old conn.new result }
+    ensures found { IsClean S.Store conn.new
+        → OnOk result (ShowAuths (state S.Store conn.old).now) }
+    ensures schema { IsClean S.Store conn.new → result ≡ Err StoreFault.Schema
+        → ¬ TablesRead (state S.Store conn.old).now.trees }
+{
+    // For the proof: its contract says that what is shown obeys the schema.
+    let _schema = conn.schema();
+    let claims: Vec<OfHolder<Claim>> = collect_in_order(conn, alloc, COUNT_CLAIMS)?;
+    check_rowids(conn)?;
+    join_entries(conn, alloc, claims)
+}
+
+/// Reads all rows of a database that has the tables of a desk, outside a transaction, and returns
+/// the charter that they have.
+pub(crate) fn read_tables<S: Alter>(
+    conn: &mut Connection<S>,
+    alloc: Global,
+) -> Result<Charter, StoreFault>
+    requires { IsReadyToAsk S.Store conn.old }
+    ensures asked { IsAskedOnce S.Store conn.old conn.new result }
+    ensures held { IsClean S.Store conn.new → IfOk result (λ charter.
+        HoldSomeRows charter (state S.Store conn.old).now.trees) }
+    ensures reads { IsClean S.Store conn.new
+        → OnOk result (TablesRead (state S.Store conn.old).now.trees) }
+    ensures schema { IsClean S.Store conn.new → result ≡ Err StoreFault.Schema
+        → ¬ TablesRead (state S.Store conn.old).now.trees }
+{
+    // For the proof: its contract says that what is shown obeys the schema.
+    let _schema = conn.schema();
+    let charter = read_others_once(conn, alloc)?;
+    collect_auths(conn, alloc)?;
+    Ok(charter)
+}

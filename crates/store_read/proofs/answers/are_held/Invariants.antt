@@ -1,0 +1,16 @@
+use Rattle.std.proofs.Common.{◌↔◌, Ok, drop}
+use Rattle.std.specs.Prelude.{⊤}
+use Rattle.sqlite.specs.declared.error.Error.{Error}
+use Rattle.sqlite.specs.Held.{state}
+use Rattle.store_tables.specs.TablesHold.{items_if_any}
+use Rattle.store_transactions.specs.Queries.{IsAsked, IsClean}
+use Rattle.store_read.specs.Loads.{AreHeld, EachRowsOf}
+use Rattle.store_read.proofs.answers.are_held.Given as goal
+
+abbrev pub invariant-loop-entry : goal.invariant-loop-entry
+invariant-loop-entry g l = record {
+  asked : IsAsked {X = ⊤} {E = Error} g.S.Store l.fn.conn l.conn (Ok tt);
+  found :
+      IsClean g.S.Store l.conn
+      → EachRowsOf (λ rows. let spans = items_if_any (λ r. r.holdings) rows in AreHeld spans l.entries ↔ AreHeld spans (drop l.entry-index l.entries)) l.holder (state g.S.Store l.fn.conn);
+}

@@ -1,0 +1,17 @@
+use Rattle.std.proofs.Common.{◌∙◌}
+use Rattle.std.specs.Prelude.{⊤}
+use Rattle.sqlite.specs.Held.{state}
+use Rattle.store_tables.specs.TablesHold.{items_if_any}
+use Rattle.store_transactions.proofs.QueryLemmas.{refused_by}
+use Rattle.store_read.proofs.Loading.{all_spans_fit, never_fit_first, same-permuted}
+use Rattle.store_read.proofs.load.load_runs.Goals as goal
+
+pub returns-in_err-spans-clause-schema : goal.returns-in_err-spans-clause-schema
+returns-in_err-spans-clause-schema g c clean is =
+    never_fit_first (λ _. ⊤) (λ r. r.holdings) (λ o _. all_spans_fit (items_if_any (λ r. r.holdings) o)) c.args.holder.now (state g.S.Store c.args.conn.now)
+    (c.load_values.ensures.schema clean (refused_by c.load_values.result c.from_residual.result c.in_err-spans.field-0.0 c.in_err-spans.was c.from_residual.ensures.1 is))
+
+pub returns-clause-found : goal.returns-clause-found
+returns-clause-found g c clean charter all holds a =
+    let spans = c.in_ok-spans.ensures.found clean charter all holds in
+    rw c.deref.ensures.value at (c.in_ok-holdings_of.ensures.same a) ∙ same-permuted _ c.in_ok-spans.spans.items spans a

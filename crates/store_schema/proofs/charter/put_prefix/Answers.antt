@@ -1,0 +1,6 @@
+use Rattle.store_schema.proofs.CharterSteps.{puts_prefix}
+use Rattle.store_transactions.proofs.StatementLemmas.{means}
+use Rattle.store_schema.proofs.charter.put_prefix.Goals as goal
+
+pub returns-clause-put : goal.returns-clause-put
+returns-clause-put g c = means g.S.Store c.execute.result _ _ _ _ _ _ c.requires c.execute.ensures.inside c.execute.ensures.ran c.prefix_values.ensures (λ old new. puts_prefix old new c.args.prefix.now)

@@ -1,0 +1,32 @@
+use Rattle.std.proofs.Common.{arith, refl}
+use Rattle.std.proofs.lemmas.Result.{on_ok_weaker}
+use Rattle.store_tables.specs.Tables.{holding, granted, auth, slurm}
+use Rattle.store_tables.specs.declared.auth.TheConstants.{CREATE_AUTH}
+use Rattle.store_tables.specs.declared.exception.TheConstants.{CREATE_SLURM}
+use Rattle.store_tables.specs.declared.granted.TheConstants.{CREATE_GRANTED}
+use Rattle.store_tables.specs.declared.holding.TheConstants.{CREATE_HOLDING}
+use Rattle.store_schema.proofs.MakingSteps.{makes}
+use Rattle.store_schema.proofs.Creates.{holding_defined, granted_defined, auth_defined, slurm_defined}
+use Rattle.store_transactions.proofs.StatementLemmas.{stays_then}
+use Rattle.store_schema.proofs.make.make_other_tables.Goals as goal
+
+pub returns-in_err-execute-2-clause-inside : goal.returns-in_err-execute-2-clause-inside
+returns-in_err-execute-2-clause-inside g c = stays_then g.S.Store _ _ _ c.execute.ensures.inside c.execute-2.ensures.inside
+
+pub returns-in_err-execute-3-clause-inside : goal.returns-in_err-execute-3-clause-inside
+returns-in_err-execute-3-clause-inside g c = stays_then g.S.Store _ _ _ (stays_then g.S.Store _ _ _ c.execute.ensures.inside c.execute-2.ensures.inside) c.execute-3.ensures.inside
+
+pub returns-clause-made : goal.returns-clause-made
+returns-clause-made g c clean =
+    let before_4 = c.execute-4.ensures.inside.survives.clean in
+    let before_3 = c.execute-3.ensures.inside.survives.clean in
+    let before_2 = c.execute-2.ensures.inside.survives.clean in
+    let start = c.requires (omega (arith, c.execute.ensures.inside.survives.clean, before_2, before_3, before_4)) in
+    let made_1 = makes 4 CREATE_HOLDING.now holding holding_defined refl _ _ start (c.in_ok-execute.ensures.ran (omega (arith, before_2, before_3, before_4))) in
+    let made_2 = makes 5 CREATE_GRANTED.now granted granted_defined refl _ _ made_1 (c.in_ok-execute-2.ensures.ran (omega (arith, before_3, before_4))) in
+    let made_3 = makes 6 CREATE_AUTH.now auth auth_defined refl _ _ made_2 (c.in_ok-execute-3.ensures.ran (omega (arith, before_4))) in
+    on_ok_weaker c.execute-4.result (makes 7 CREATE_SLURM.now slurm slurm_defined refl _ _ made_3) (c.execute-4.ensures.ran clean)
+
+pub returns-clause-inside : goal.returns-clause-inside
+returns-clause-inside g c =
+    stays_then g.S.Store _ _ _ (stays_then g.S.Store _ _ _ (stays_then g.S.Store _ _ _ c.execute.ensures.inside c.execute-2.ensures.inside) c.execute-3.ensures.inside) c.execute-4.ensures.inside

@@ -1,0 +1,33 @@
+-- Queries outside a transaction, one after the other.
+use Rattle.std.proofs.Common.{◌≡◌, Result, Ok, inl, refl, ◌∙◌, arith, IsErr, IsTrue, false}
+use Rattle.std.proofs.lemmas.Result.{on_ok_weaker}
+use Rattle.sqlite.specs.Held.{Held, state}
+use Rattle.sqlite.specs.Store.{Ghosts}
+use Rattle.sqlite.proofs.Callers.{unchanged_then}
+use Rattle.sqlite.proofs.StateLemmas.{survives_then}
+use Rattle.store_transactions.specs.Queries.{IsAsked, IsClean}
+use Rattle.store_transactions.proofs.QueryLemmas.{no_answer}
+
+module _ {S : Type 0} (g : Ghosts S) where
+  -- no query
+  pub asked_none : {X E : Type 0} (x : X) (h : Held S) → h.in_transaction ≡ false → (IsClean g h → IsTrue (state g h).is_open) → IsAsked {X = X} {E = E} g h h (Ok x)
+  asked_none x h idle opened = record {
+    idle = idle;
+    same = λ clean. (record { was_open = opened clean; is_open = opened clean; now_is = refl; committed_is = refl; mode = refl }, record { changes = refl; last_rowid = refl }, refl);
+    kept = λ clean still. (still, refl, refl);
+    survives = record { clean = omega arith; shield = λ shielded. shielded; counts = omega arith; limit = refl; closes = λ clean still. inl still; crash = λ clean db left. inl left };
+  }
+
+  pub asked_then : {X Y E F : Type 0} (x : X) (r : Result Y F) (a b c : Held S) → IsAsked {X = X} {E = E} g a b (Ok x) → IsAsked g b c r → IsAsked g a c r
+  asked_then x r a b c first second =
+      let before : IsClean g c → IsClean g b = λ clean. omega (arith, clean, second.survives.clean) in
+      record {
+        idle = second.idle;
+        same = λ clean. on_ok_weaker r (unchanged_then (state g a) (state g b) (state g c) (first.same (before clean))) (second.same clean);
+        kept = λ clean still. let later = second.kept clean still in let earlier = first.kept (before clean) later.0 in (earlier.0, later.1 ∙ earlier.1, later.2 ∙ earlier.2);
+        survives = survives_then (state g a) (state g b) (state g c) (λ _. ⊥) (λ _. ⊥) (λ _. ⊥) (λ _ db none. none) (λ _ db none. none) first.survives second.survives;
+      }
+
+  -- whatever a fault is passed on as
+  pub asked_in_vain : {X Y E F : Type 0} (s : Result X E) (r : Result Y F) (a b : Held S) → IsErr r → IsAsked g a b s → IsAsked g a b r
+  asked_in_vain s r a b failed asked = record { idle = asked.idle; same = λ clean. no_answer _ r failed; kept = asked.kept; survives = asked.survives }

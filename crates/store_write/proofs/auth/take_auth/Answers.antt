@@ -1,0 +1,16 @@
+use Rattle.std.proofs.Common.{arith}
+use Rattle.std.proofs.lemmas.Result.{on_ok_weaker}
+use Rattle.store_transactions.proofs.StatementLemmas.{stays_then}
+use Rattle.store_write.proofs.AuthSteps.{takes_auth}
+use Rattle.store_write.proofs.auth.take_auth.Goals as goal
+
+pub returns-clause-done : goal.returns-clause-done
+returns-clause-done g c clean =
+    let last = c.execute-2.ensures.inside.survives.clean in
+    let ready = c.requires (omega (arith, last, c.execute.ensures.inside.survives.clean)) in
+    let first = rw c.number_values.ensures at (c.in_ok-execute.ensures.ran (omega (arith, last))) in
+    let second = rw c.number_values-2.ensures at (c.execute-2.ensures.ran clean) in
+    on_ok_weaker c.execute-2.result (takes_auth c.args.holder.now c.args.number _ _ _ ready first) second
+
+pub returns-clause-inside : goal.returns-clause-inside
+returns-clause-inside g c = stays_then g.S.Store _ _ _ c.execute.ensures.inside c.execute-2.ensures.inside

@@ -1,0 +1,14 @@
+use Rattle.std.proofs.Common.{refl}
+use Rattle.store_write.specs.steps.RowEdits.{with_auths, with_created, with_new_auths}
+use Rattle.store_write.proofs.RowSteps.{done_after}
+use Rattle.store_transactions.proofs.StatementLemmas.{stays_then}
+use Rattle.store_write.proofs.change.put_new_auths.Goals as goal
+
+pub returns-clause-done : goal.returns-clause-done
+returns-clause-done g c =
+    let xs = c.args.auths.now in
+    let made = c.args.created in
+    done_after g.S.Store c.set_created.result c.args.holder.now (with_auths xs) (with_created made) (with_new_auths xs made) c.args.tx.now _ _ (λ r. refl) c.set_created.ensures.inside c.in_ok-put_rows.ensures.done c.set_created.ensures.done
+
+pub returns-clause-inside : goal.returns-clause-inside
+returns-clause-inside g c = stays_then g.S.Store _ _ _ c.put_rows.ensures.inside c.set_created.ensures.inside

@@ -1,0 +1,258 @@
+//! Clients on the loopback, and the desk that they ask.
+use addr::Day;
+use cli_tasks::serve::{Connections, Incoming, Network, Printed, serve_on};
+use cli_texts::charter_from;
+use desk::Desk;
+use sqlite::{Alter, MemStore};
+use std::alloc::{AllocError, Global};
+use std::io::{self, ErrorKind, Read, Write};
+use std::net::{Shutdown, SocketAddr, TcpListener, TcpStream};
+use std::process::Abort;
+use std::rt::HostRuntime;
+use std::test::Fail;
+use std::time::Clock;
+use web::Failed;
+
+pub(crate) const CHARTER: &str = "kind,value\noperator,reg\npool,192.0.2.0/24\n";
+
+/// Requests that leave one authorization at `alpha`, as caller, method, path and body.
+pub(crate) const SETUP: [(&str, &str, &str, &str); 4] = [
+    ("reg", "PUT", "/holders/alpha", ""),
+    (
+        "reg",
+        "POST",
+        "/holders/alpha/delegations",
+        "{\"prefix\":\"192.0.2.0/24\"}",
+    ),
+    (
+        "reg",
+        "POST",
+        "/holders/alpha/grants",
+        "{\"name\":\"ann\",\"role\":\"manager\",\"scope\":\"all\",\"until\":\"2026-12-31\"}",
+    ),
+    ("ann", "POST", "/holders/alpha/auths", CREATE),
+];
+
+pub(crate) const CREATE: &str = "{\"asn\":64496,\"prefix\":\"192.0.2.0/24\",\"max\":24,\
+    \"from\":\"2026-01-01\",\"until\":\"2026-12-31\"}";
+
+/// The day of a test whose rows name none.
+pub(crate) fn first_of_march(test: &impl Abort) -> Day {
+    Day::read(b"2026-03-01").expect(test, "a day")
+}
+
+pub(crate) fn desk_in_memory<R: Abort + AllocGlobal>(rt: &R) -> Desk<MemStore> {
+    let charter = charter_from(rt.alloc(), CHARTER.as_bytes()).expect(rt, "a charter");
+    Desk::open_memory(rt.alloc(), &charter).expect(rt, "memory")
+}
+
+/// What the clients were answered, and the lines on their connections.
+#[derive(Drop)]
+pub(crate) struct Served {
+    pub(crate) answers: Vec<String>,
+    pub(crate) errors: Vec<u8>,
+}
+
+fn request(
+    alloc: Global,
+    (caller, method, path, body): (&str, &str, &str, &str),
+) -> Result<String, AllocError> {
+    format!(in alloc;
+        "{method} {path} HTTP/1.1\r\nDesk-Caller: {caller}\r\n\
+        Content-Length: {}\r\n\r\n{body}",
+        body.len()
+    )
+}
+
+/// Adds the requests as texts.
+pub(crate) fn add_requests(
+    alloc: Global,
+    parts: &[(&str, &str, &str, &str)],
+    texts: &mut Vec<String>,
+) -> Result<(), AllocError> {
+    for one in parts {
+        texts.push(request(alloc, *one)?)?;
+    }
+    Ok(())
+}
+
+/// The requests as texts.
+pub(crate) fn requests(
+    alloc: Global,
+    parts: &[(&str, &str, &str, &str)],
+) -> Result<Vec<String>, AllocError> {
+    let mut texts = Vec::new(alloc);
+    add_requests(alloc, parts, &mut texts)?;
+    Ok(texts)
+}
+
+/// What a client does once its text is sent.
+#[derive(Clone, Copy)]
+pub(crate) enum AfterText {
+    ShutsWriting,
+    StaysOpen,
+}
+
+/// Once the address is bound, a client for each text connects, and sends it and no more.
+#[derive(Drop)]
+pub(crate) struct Callers<'a> {
+    rt: &'a HostRuntime,
+    texts: &'a [String],
+    after: AfterText,
+    pub(crate) clients: Vec<TcpStream>,
+}
+
+impl<'a> Callers<'a> {
+    pub(crate) fn new(rt: &'a HostRuntime, texts: &'a [String], after: AfterText) -> Callers<'a> {
+        Callers {
+            rt,
+            texts,
+            after,
+            clients: Vec::new(rt.alloc()),
+        }
+    }
+
+    /// How many connections there will be.
+    pub(crate) fn count(&self) -> u32 {
+        u32::try_from(self.texts.len()).unwrap_or(u32::MAX)
+    }
+
+    fn connect_each(&mut self, address: SocketAddr) -> io::Result<()> {
+        for text in self.texts {
+            let client = connect_with(self.rt, address, text.as_str(), self.after)?;
+            self.clients.push(client)?;
+        }
+        Ok(())
+    }
+}
+
+/// A client that has connected and sent the text.
+fn connect_with(
+    rt: &HostRuntime,
+    address: SocketAddr,
+    text: &str,
+    after: AfterText,
+) -> io::Result<TcpStream> {
+    let mut client = TcpStream::connect(rt, address)?;
+    send(&mut client, text, after)?;
+    Ok(client)
+}
+
+fn send(client: &mut TcpStream, text: &str, after: AfterText) -> io::Result<()> {
+    client.write_all(text.as_bytes())?;
+    match after {
+        AfterText::ShutsWriting => client.shutdown(Shutdown::Write),
+        AfterText::StaysOpen => Ok(()),
+    }
+}
+
+impl Network for Callers<'_> {
+    fn bind(&mut self, address: &str) -> io::Result<TcpListener> {
+        let listener = TcpListener::bind(self.rt, address)?;
+        self.connect_each(listener.local_addr()?)?;
+        Ok(listener)
+    }
+}
+
+/// A network that has this one socket, which is bound already.
+#[derive(Drop)]
+pub(crate) struct Bound(pub(crate) Option<TcpListener>);
+
+impl Network for Bound {
+    fn bind(&mut self, _address: &str) -> io::Result<TcpListener> {
+        match self.0.take() {
+            Some(listener) => Ok(listener),
+            None => Err(ErrorKind::AddrInUse.into()),
+        }
+    }
+}
+
+/// A client that waits for its connection to be accepted, and the socket that has to accept it.
+pub(crate) fn waiting_client(rt: &HostRuntime) -> io::Result<(TcpStream, TcpListener)> {
+    let listener = TcpListener::bind(rt, "127.0.0.1:0")?;
+    let client = TcpStream::connect(rt, listener.local_addr()?)?;
+    Ok((client, listener))
+}
+
+/// What the client is answered.
+pub(crate) fn answer_to(alloc: Global, client: &mut TcpStream) -> Result<String, Fail> {
+    let mut answer = String::new(alloc);
+    client.read_to_string(&mut answer)?;
+    Ok(answer)
+}
+
+fn add_answers(
+    alloc: Global,
+    clients: &mut Vec<TcpStream>,
+    answers: &mut Vec<String>,
+) -> Result<(), Fail> {
+    for client in clients {
+        answers.push(answer_to(alloc, client)?)?;
+    }
+    Ok(())
+}
+
+/// What each client is answered.
+pub(crate) fn answers_to(alloc: Global, clients: &mut Vec<TcpStream>) -> Result<Vec<String>, Fail> {
+    let mut answers = Vec::new(alloc);
+    add_answers(alloc, clients, &mut answers)?;
+    Ok(answers)
+}
+
+/// The desk answers this many connections, and adds the lines on them.
+fn answer_all<C: Connections, S: Alter>(
+    alloc: Global,
+    connections: &mut C,
+    count: u32,
+    desk: &mut Desk<S>,
+    day: Day,
+    errors: &mut Vec<u8>,
+) -> Result<(), Fail> {
+    connections.listen()?;
+    let mut log = Printed::new(errors);
+    match serve_on(alloc, connections, count, desk, day, &mut log) {
+        Ok(()) => Ok(()),
+        Err(Failed) => Err(io::Error::from(ErrorKind::Other).into()),
+    }
+}
+
+/// The desk serves this many connections over the network. The lines on them.
+pub(crate) fn serve_over<R: Clock, N: Network, S: Alter>(
+    rt: &HostRuntime,
+    clock: &R,
+    network: &mut N,
+    count: u32,
+    desk: &mut Desk<S>,
+    day: Day,
+) -> Result<Vec<u8>, Fail> {
+    let mut errors = Vec::new(rt.alloc());
+    let mut connections = Incoming::new(clock, network, "127.0.0.1:0");
+    answer_all(rt.alloc(), &mut connections, count, desk, day, &mut errors)?;
+    Ok(errors)
+}
+
+fn serve_callers<R: Clock, S: Alter>(
+    rt: &HostRuntime,
+    clock: &R,
+    desk: &mut Desk<S>,
+    day: Day,
+    callers: &mut Callers<'_>,
+) -> Result<Served, Fail> {
+    let count = callers.count();
+    let errors = serve_over(rt, clock, callers, count, desk, day)?;
+    let answers = answers_to(rt.alloc(), &mut callers.clients)?;
+    Ok(Served { answers, errors })
+}
+
+/// Each client connects and sends its text, the desk serves them all, and each client reads.
+pub(crate) fn serve<R: Clock, S: Alter>(
+    rt: &HostRuntime,
+    clock: &R,
+    desk: &mut Desk<S>,
+    day: Day,
+    texts: &[String],
+    after: AfterText,
+) -> Result<Served, Fail> {
+    let mut callers = Callers::new(rt, texts, after);
+    serve_callers(rt, clock, desk, day, &mut callers)
+}

@@ -1,0 +1,228 @@
+//! The day that `serve` prepares before its first connection, and again after one that lost it.
+ghost use Rattle.std.specs.Prelude.{⊤};
+
+use crate::clients::{
+    AfterText, Bound, CHARTER, SETUP, Served, add_requests, desk_in_memory, first_of_march,
+    requests, serve,
+};
+use crate::lines_on_faults::Clients;
+use addr::Day;
+use cli_tasks::serve::{AnswerConnections, Incoming, Printed, answer_each, serve_on};
+use cli_texts::charter_from;
+use desk::Desk;
+use requests::Routes;
+use sqlite::MemStore;
+use std::alloc::Global;
+use std::process::Abort;
+use std::rt::HostRuntime;
+use std::test::Fail;
+use web::{Device, Drain, Extent, Failed, Source, WebFault, run_script};
+
+/// The desk serves no connection.
+fn serve_none(rt: &HostRuntime, desk: &mut Desk<MemStore>, day: Day) -> Result<(), Failed> {
+    let mut network = Bound(None);
+    let mut connections = Incoming::new(rt, &mut network, "");
+    let mut errors = Vec::new(rt.alloc());
+    let mut log = Printed::new(&mut errors);
+    serve_on(rt.alloc(), &mut connections, 0, desk, day, &mut log)
+}
+
+#[test]
+fn the_day_is_kept_before_the_first_connection(rt: HostRuntime) {
+    let mut desk = desk_in_memory(&rt);
+    let day = first_of_march(&rt);
+    assert!(rt; desk.kept().is_none());
+    assert_eq!(rt; serve_none(&rt, &mut desk, day), Ok(()));
+    assert!(rt; desk.kept() == Some(day));
+}
+
+const NO_FILES: &str = "{\"files\":[]}";
+
+/// A request after those of `SETUP`, as caller, method, path and body, and how its response begins.
+const AFTER_SETUP: [((&str, &str, &str, &str), &str); 4] = [
+    (
+        ("ann", "GET", "/holders/alpha/auths/1", ""),
+        "HTTP/1.1 200 ",
+    ),
+    (("reg", "PUT", "/slurms", NO_FILES), "HTTP/1.1 200 "),
+    (("ann", "PUT", "/slurms", NO_FILES), "HTTP/1.1 403 "),
+    (("reg", "PUT", "/slurms", "{"), "HTTP/1.1 400 "),
+];
+
+/// The desk answers the requests of `SETUP`, and then this one.
+fn serve_after_setup(
+    rt: &HostRuntime,
+    desk: &mut Desk<MemStore>,
+    day: Day,
+    last: (&str, &str, &str, &str),
+) -> Result<Served, Fail> {
+    let mut texts = requests(rt.alloc(), &SETUP)?;
+    add_requests(rt.alloc(), &[last], &mut texts)?;
+    serve(rt, rt, desk, day, &texts, AfterText::ShutsWriting)
+}
+
+/// A row of `AFTER_SETUP` is answered so, and the day is kept then.
+fn assert_kept_after(
+    test: &impl Abort,
+    rt: &HostRuntime,
+    desk: &mut Desk<MemStore>,
+    (last, begins): ((&str, &str, &str, &str), &str),
+) -> Result<(), Fail> {
+    let day = first_of_march(test);
+    let served = serve_after_setup(rt, desk, day, last)?;
+    let answer = served.answers.last().ok_or("an answer")?;
+    assert!(test; answer.as_str().starts_with(begins), "{}", answer.as_str());
+    assert!(test; desk.kept() == Some(day), "{begins}");
+    Ok(())
+}
+
+#[test]
+fn the_day_is_kept_after_each_connection(rt: HostRuntime) -> Result<(), Fail> {
+    for row in &AFTER_SETUP {
+        let mut desk = desk_in_memory(&rt);
+        assert_kept_after(&rt, &rt, &mut desk, *row)?;
+    }
+    Ok(())
+}
+
+/// Loses at some connections what was ready, and finds memory for it at some tries.
+#[derive(Drop)]
+struct Forgetful<'a> {
+    loses: &'a [bool],
+    finds_memory: &'a [bool],
+    answered: usize,
+    tries: usize,
+    is_ready: bool,
+}
+
+impl AnswerConnections for Forgetful<'_> {
+    ghost answers = { λ _ _ _ _. ⊤ };
+
+    ghost tells_ready = { λ _ _ _. ⊤ };
+
+    ghost readied = { λ _ _ _. ⊤ };
+
+    fn is_ready(&self, _day: Day) -> bool {
+        self.is_ready
+    }
+
+    fn make_ready(&mut self, _day: Day) {
+        if self.is_ready {
+            return;
+        }
+        self.is_ready = self.finds_memory.get(self.tries) == Some(&true);
+        self.tries = self.tries.saturating_add(1);
+    }
+
+    fn answer<S: Source, D: Drain>(
+        &mut self,
+        _alloc: Global,
+        _routes: Option<&Routes>,
+        _source: &mut S,
+        _drain: &mut D,
+        _day: Day,
+    ) -> Result<Extent, WebFault> {
+        if self.loses.get(self.answered) == Some(&true) {
+            self.is_ready = false;
+        }
+        self.answered = self.answered.saturating_add(1);
+        Ok(Extent::Whole)
+    }
+}
+
+/// At which of three connections what was ready is lost, at which tries there is memory for it, how
+/// many tries there are, and whether all is ready at the end. After a try without memory there is
+/// none any more.
+const LOSSES: [([bool; 3], &[bool], usize, bool); 4] = [
+    ([false, false, false], &[], 0, true),
+    ([true, true, true], &[true, true, true], 3, true),
+    ([true, false, false], &[false, true, true], 1, false),
+    ([true, true, false], &[true, false, true], 2, false),
+];
+
+const THREE_CLIENTS: [(Option<&str>, usize); 3] = [(None, 0), (None, 0), (None, 0)];
+
+/// A row of `LOSSES` is so.
+fn assert_tries(
+    test: &impl Abort,
+    alloc: Global,
+    (loses, finds_memory, tries, is_ready): ([bool; 3], &[bool], usize, bool),
+) {
+    let mut engine = Forgetful {
+        loses: &loses,
+        finds_memory,
+        answered: 0,
+        tries: 0,
+        is_ready: true,
+    };
+    let mut connections = Clients::new(&THREE_CLIENTS);
+    let mut errors = Vec::new(alloc);
+    let mut log = Printed::new(&mut errors);
+    let day = first_of_march(test);
+    let ended = answer_each(alloc, None, &mut connections, 3, &mut engine, day, &mut log);
+    assert_eq!(test; ended, Ok(()));
+    assert_eq!(test; engine.tries, tries);
+    assert_eq!(test; engine.is_ready, is_ready);
+}
+
+#[test]
+fn a_day_that_found_no_memory_is_not_tried_again(rt: HostRuntime) {
+    for row in &LOSSES {
+        assert_tries(&rt, rt.alloc(), *row);
+    }
+}
+
+/// Requests that leave one authorization, as lines, and the replies.
+const LINES: &str = r#"{"day":"2026-03-01","caller":"reg","do":"register","holder":"alpha"}
+{"day":"2026-03-01","caller":"reg","do":"delegate","holder":"alpha","prefix":"192.0.2.0/24"}
+{"day":"2026-03-01","caller":"reg","do":"grant","holder":"alpha","name":"ann","role":"manager","scope":"all","until":"2026-12-31"}
+{"day":"2026-03-01","caller":"ann","do":"create","holder":"alpha","asn":64496,"prefix":"192.0.2.0/24","max":24,"from":"2026-01-01","until":"2026-12-31"}
+"#;
+
+const REPLIES: &[u8] = b"{\"done\":null}\n{\"done\":null}\n{\"done\":1}\n{\"done\":1}\n";
+
+/// Has the desk answer the lines, and returns whether each was accepted.
+fn accepts_lines(alloc: Global, desk: &mut Desk<MemStore>) -> bool {
+    let mut page = [0; 64];
+    let ended = {
+        let mut source = Device::new(LINES.as_bytes());
+        let mut drain = Device::new(&mut page[..]);
+        run_script(alloc, &mut source, &mut drain, desk)
+    };
+    ended.is_ok() && page.starts_with(REPLIES)
+}
+
+fn try_desk(alloc: Global) -> Option<Desk<MemStore>> {
+    let charter = charter_from(alloc, CHARTER.as_bytes()).ok()?;
+    let mut desk = Desk::open_memory(alloc, &charter).ok()?;
+    if accepts_lines(alloc, &mut desk) {
+        Some(desk)
+    } else {
+        None
+    }
+}
+
+/// A desk with one authorization, if one allocation is refused at most.
+fn desk_with_one(alloc: Global) -> Result<Desk<MemStore>, Fail> {
+    if let Some(desk) = try_desk(alloc) {
+        return Ok(desk);
+    }
+    Ok(try_desk(alloc).ok_or("no desk")?)
+}
+
+/// The VRPs of the day are answered. If they were not kept, an allocation was refused for them.
+fn assert_answers(test: &impl Abort, desk: &mut Desk<MemStore>, day: Day) {
+    let is_lent = desk.payloads(day).is_some();
+    assert!(test; is_lent);
+    assert!(test; desk.kept() == Some(day));
+}
+
+/// Holds whichever one allocation is refused.
+#[test]
+fn a_desk_without_memory_for_its_day_answers(rt: HostRuntime) -> Result<(), Fail> {
+    let day = Day::read(b"2026-03-01").ok_or("a day")?;
+    let mut desk = desk_with_one(rt.alloc())?;
+    assert_eq!(rt; serve_none(&rt, &mut desk, day), Ok(()));
+    assert_answers(&rt, &mut desk, day);
+    Ok(())
+}

@@ -1,5 +1,0 @@
-use Rattle.transactions.proofs.KeyedRows.{claims_differ}
-use Rattle.transactions.proofs.laws.claims_differ.Goals as goal
-
-pub returns : goal.returns
-returns c = claims_differ

@@ -1,5 +1,0 @@
-use Rattle.transactions.proofs.KeyedRows.{entries_differ}
-use Rattle.transactions.proofs.laws.entries_differ.Goals as goal
-
-pub returns : goal.returns
-returns c = entries_differ
