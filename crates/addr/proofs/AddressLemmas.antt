@@ -39,10 +39,6 @@ within_by_ends f g low high from to one other = grind (arith, nat_tests, family_
 pub overlap_by_shared : (f g h : Family) (low high from to n : ℕ) → is_between f low high (record { family = h; number = n }) ≡ true → is_between g from to (record { family = h; number = n }) ≡ true → family_eq f g && (nat_le low to && nat_le from high) ≡ true
 overlap_by_shared f g h low high from to n one other = grind (arith, nat_tests, family_tells)
 
--- the greater of two starts lies in both of two intervals that overlap
-pub shared_by_overlap : (f g : Family) (low high from to n : ℕ) → low ≤ n → from ≤ n → n ≤ high → n ≤ to → family_eq f g && (nat_le low to && nat_le from high) ≡ true → (is_between f low high (record { family = f; number = n }) ≡ true) × (is_between g from to (record { family = f; number = n }) ≡ true)
-shared_by_overlap f g low high from to n a b c d meet = (grind (arith, nat_tests, family_tells), grind (arith, nat_tests, family_tells))
-
 -- what the test of an overlap says of the ends
 pub overlap_ends : (f g : Family) (low high from to : ℕ) → family_eq f g && (nat_le low to && nat_le from high) ≡ true → (low ≤ to) × (from ≤ high)
 overlap_ends f g low high from to meet = (grind (arith, nat_tests), grind (arith, nat_tests))
@@ -71,9 +67,7 @@ shared f g low high from to some other meet =
     ends = overlap_ends f g low high from to meet
 
     at : (n : ℕ) → low ≤ n → from ≤ n → n ≤ high → n ≤ to → (a : Address) × (is_between f low high a ≡ true) × (is_between g from to a ≡ true)
-    at n a b c d =
-        let both = shared_by_overlap f g low high from to n a b c d meet in
-        (record { family = f; number = n }, both.0, both.1)
+    at n a b c d = (record { family = f; number = n }, grind (arith, nat_tests, family_tells), grind (arith, nat_tests, family_tells))
 
 pub overlaps_some : (p q : Prefix) → IsTrue (overlaps p q) ↔ Overlaps p q
 overlaps_some p q = (

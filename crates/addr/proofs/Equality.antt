@@ -9,7 +9,7 @@ use Rattle.addr.specs.Spans.{span_eq, same_span}
 use Rattle.addr.specs.declared.prefix.Prefix.{Prefix}
 use Rattle.addr.specs.declared.span.Span.{Span}
 
--- what the test tells, for `grind`
+-- what the test means, for `grind`
 pub family_tells : (f g : Family) → ((family_eq f g ≡ true) × (f ≡ g)) ⊎ ((family_eq f g ≡ false) × (f ≢ g))
 family_tells V4 V4 = inl (refl, refl)
 family_tells V4 V6 = inr (refl, λ e. cc)

@@ -7,10 +7,8 @@ pub mod SpanSteps
 pub mod RunLemmas
 mod RunSearch
 mod DayLemmas
-mod DayTextLemmas
 pub mod DigitsLemmas
 mod NameLemmas
 pub mod PrefixTextLemmas
 pub mod PrefixGroupsLemmas
 pub mod PrefixSpellingLemmas
-pub mod SpelledPrefixLemmas

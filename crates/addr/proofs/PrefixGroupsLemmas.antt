@@ -117,7 +117,7 @@ colon_groups_are ipv4 (c ∷ rest) segments e =
     let some : 0 < length parts = omega (arith, length-slice_split (λ b. b == 58) (c ∷ rest)) in
     subst (λ text. IsGroups ipv4 text segments) (join_with_byte-slice_split 58 (c ∷ rest)) (parts_are ipv4 parts segments some e)
 
--- what stands before the first of some groups
+-- what is before the first of some groups
 abbrev lead : Bool → List ℕ
 lead true = 58 ∷ []
 lead false = []
@@ -170,12 +170,9 @@ past_none true (c ∷ here) rest some none e =
     let (first, others) = or_parts (c == 58) (list_any (λ b. b == 58) here) none in
     rw (colon_then (c ∷ (here ++ rest)) first, gap_over_none (c ∷ here) rest none e)
 
-gap_at : (after : List ℕ) → cut_at_gap (58 ∷ 58 ∷ after) ≡ Some ([], after)
-unfolding cut_at_gap
-gap_at after = refl
-
 gap_after : (led : Bool) (text segments after : List ℕ) → IsGroupsAfter false (lead led) text segments → cut_at_gap (text ++ 58 ∷ 58 ∷ after) ≡ Some (text, after)
-gap_after led text [] after h = subst (λ t. cut_at_gap (t ++ 58 ∷ 58 ∷ after) ≡ Some (t, after)) (sym h) (gap_at after)
+unfolding cut_at_gap
+gap_after led text [] after h = subst (λ t. cut_at_gap (t ++ 58 ∷ 58 ∷ after) ≡ Some (t, after)) (sym h) refl
 gap_after led text (s ∷ segments) after (inl h) =
     let (here, more, split, is_group, is_more) = h in
     let later = gap_after true more segments after is_more in
@@ -183,12 +180,9 @@ gap_after led text (s ∷ segments) after (inl h) =
     rw (split, append_assoc (lead led ++ here) more (58 ∷ 58 ∷ after)) step
 gap_after led text (s ∷ segments) after (inr h) = absurd (false≢true h.2)
 
-no_gap_in_nothing : cut_at_gap [] ≡ None
-unfolding cut_at_gap
-no_gap_in_nothing = refl
-
 no_gap_in : (ipv4 led : Bool) (text segments : List ℕ) → IsGroupsAfter ipv4 (lead led) text segments → Lacks 46 text → cut_at_gap text ≡ None
-no_gap_in ipv4 led text [] h none = rw h no_gap_in_nothing
+unfolding cut_at_gap
+no_gap_in ipv4 led text [] h none = rw h refl
 no_gap_in ipv4 led text (s ∷ segments) (inl h) none =
     let (here, more, split, is_group, is_more) = h in
     let lacks = (Lacks_parts 46 (lead led ++ here) more (subst (Lacks 46) split none)).1 in

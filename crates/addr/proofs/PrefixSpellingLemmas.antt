@@ -6,7 +6,7 @@ use Rattle.std.proofs.lemmas.Slice.Eq.{bytes_eq-Decides}
 use Rattle.std.proofs.lemmas.Fmt.{decimal_is_IsNumeral, length-decimal-le}
 use Rattle.std.proofs.lemmas.List.Elements.{All-head, All-tail}
 use Rattle.std.proofs.NetLemmas.Arrays.{four_items}
-use Rattle.std.specs.Result.{MatchResult}
+use Rattle.std.specs.Result.{MatchResult, result_ok}
 use Rattle.std.proofs.NetLemmas.Texts.{IsZeroRun-longest_zero_run, longest_zero_run_first, AllSegments, IsColonHex-hex_groups_text}
 use Rattle.std.proofs.NetLemmas.Alphabet.{IsHexOrColon, All-hex_groups_text}
 use Rattle.std.specs.Char.{digit_value}
@@ -22,10 +22,12 @@ use Rattle.addr.specs.declared.text.PrefixParts.{PrefixParts}
 use Rattle.addr.specs.declared.text.PrefixFault.{PrefixFault}
 use Rattle.addr.specs.declared.text.PrefixFault.TheVariants.{Shape, Spelling, Length, HostBits}
 use Rattle.addr.specs.declared.prefix.Prefix.{Prefix}
-use Rattle.addr.specs.PrefixText.{octets_of, groups_of, address_text, spelling, short_number, octet, dotted_address, loose_address, loose_groups, loose, fault_of, is_aligned, prefix_text_fault, Spells, IsFirstLongestRun, PrefixTextLaw}
+use Rattle.addr.specs.PrefixText.{octets_of, groups_of, address_text, spelling, short_number, octet, dotted_address, loose_address, loose_groups, loose, fault_of, is_aligned, prefix_text_fault, Spells, IsFirstLongestRun, PrefixTextLaw, prefix_if, spelled_prefix}
 use Rattle.addr.proofs.PrefixTextLemmas.{short_number_from, Lacks, Lacks-append, Lacks-digits, cut_at_here, cut_at_none, dotted_parts, length_digits_in, below-digits_in, number-digits_in, at_below, option_cases}
 use Rattle.addr.proofs.AddressLemmas.{width_small, first_below, multiple-fits}
 use Rattle.addr.proofs.PrefixGroupsLemmas.{loose_groups_from}
+use Rattle.std.proofs.Math.Bridge.{le_prop}
+use Rattle.std.proofs.Math.Nat.{ℕ_set}
 
 -- ---- numbers
 
@@ -101,7 +103,7 @@ address_lacks_slash : (family : Family) (address : ℕ) → Lacks 47 (address_te
 address_lacks_slash V4 address = dotted_lacks_slash _ _ _ _ (octet_below address 0) (octet_below address 1) (octet_below address 2) (octet_below address 3)
 address_lacks_slash V6 address = hex_text_lacks 47 address (λ h. omega arith)
 
--- the address that the text of a number stands for, which is the number where it is one of the family
+-- the address that the text of a number reads as, which is the number if it is one of the family
 abbrev address_read : Family → ℕ → ℕ
 address_read V4 address = number_from_digits 0x100 (octets_of address)
 address_read V6 address = number_from_digits 0x10000 (groups_of address)
@@ -235,3 +237,46 @@ read_gives text (Err fault) h prefix = (
   λ same. cc,
   λ spelled. absurd (none-some fault (sym (faultless-Spells prefix text spelled) ∙ h)),
 )
+
+-- ---- the prefix that a text spells, where it spells one
+
+-- the numbers of a prefix give it, whatever proves that they are a prefix's
+prefix_if-numbers : (p : Prefix) (fits : Dec (p.length ≤ width p.family)) (aligned : Dec (p.first % 2 ^ (width p.family - p.length) ≡ 0)) (inside : Dec (p.first + 2 ^ (width p.family - p.length) ≤ 2 ^ width p.family)) → prefix_if p.family p.first p.length fits aligned inside ≡ Some p
+prefix_if-numbers p (yes fits) (yes aligned) (yes inside) =
+    λ i. Some (record {
+      family = p.family;
+      first = p.first;
+      length = p.length;
+      length_fits = le_prop fits p.length_fits i;
+      aligned = ℕ_set _ _ aligned p.aligned i;
+      in_family = le_prop inside p.in_family i;
+    })
+prefix_if-numbers p (yes fits) (yes aligned) (no outside) = absurd (outside p.in_family)
+prefix_if-numbers p (yes fits) (no unaligned) inside = absurd (unaligned p.aligned)
+prefix_if-numbers p (no long) aligned inside = absurd (long p.length_fits)
+
+pub spelled_prefix-Spells : (p : Prefix) (text : List ℕ) → Spells p text → spelled_prefix text ≡ Some p
+unfolding spelled_prefix
+spelled_prefix-Spells p text spelled =
+    rw ((prefix_text_law.faultless text).1 (p, spelled), loose-Spells p text spelled) (prefix_if-numbers p _ _ _)
+
+pub spelled_prefix-fault : (text : List ℕ) (fault : PrefixFault) → prefix_text_fault text ≡ Some fault → spelled_prefix text ≡ None
+unfolding spelled_prefix
+spelled_prefix-fault text fault reported = rw reported refl
+
+-- what `Prefix::read` answers, by its one clause that has both outcomes
+pub spelled_prefix-gives : (text : List ℕ) (read : Result Prefix PrefixFault)
+    → MatchResult read (λ prefix. (prefix_text_fault text ≡ None) × Spells prefix text) (λ fault. prefix_text_fault text ≡ Some fault)
+    → result_ok read ≡ spelled_prefix text
+spelled_prefix-gives text (Ok p) is = sym (spelled_prefix-Spells p text is.1)
+spelled_prefix-gives text (Err fault) is = sym (spelled_prefix-fault text fault is)
+
+fault-unless_spelled : (text : List ℕ) (fault : Option PrefixFault) → prefix_text_fault text ≡ fault → (p : Prefix) → spelled_prefix text ≡ Some p → Spells p text
+fault-unless_spelled text None none p reported =
+    let some = (prefix_text_law.faultless text).0 none in
+    let same : some.0 ≡ p = same_Some _ _ (sym (spelled_prefix-Spells some.0 text some.1) ∙ reported) in
+    subst (λ (q : Prefix). Spells q text) same some.1
+fault-unless_spelled text (Some fault) is p reported = absurd (none-some p (sym (spelled_prefix-fault text fault is) ∙ reported))
+
+pub Spells-spelled_prefix : (p : Prefix) (text : List ℕ) → spelled_prefix text ≡ Some p → Spells p text
+Spells-spelled_prefix p text reported = fault-unless_spelled text (prefix_text_fault text) refl p reported

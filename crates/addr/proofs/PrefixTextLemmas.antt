@@ -24,10 +24,6 @@ length_digits_in base (suc count) number =
     let front = length_digits_in base count (number / base) in
     omega (arith, length_push (digits_in base count (number / base)) (number % base))
 
-pub digits_in-step : (base count number : ℕ) → digits_in base (suc count) number ≡ digits_in base count (number / base) ++ number % base ∷ []
-unfolding digits_in
-digits_in-step base count number = refl
-
 pub digits_in-zero : (base number : ℕ) → digits_in base 0 number ≡ []
 unfolding digits_in
 digits_in-zero base number = refl
@@ -61,8 +57,9 @@ at_below base (d ∷ ds) (suc k) some all = at_below base ds k some all.1
 
 -- one turn of the loop that writes the digits from the last to the first
 pub digits_in_turn : (base i j number : ℕ) (digits whole : List ℕ) → i ≡ suc j → j < length digits → whole ≡ digits_in base i number ++ drop i digits → whole ≡ digits_in base j (number / base) ++ drop j (set digits j (number % base))
+unfolding digits_in
 digits_in_turn base i j number digits whole next within h =
-    let split = rw (next, digits_in-step, append_assoc (digits_in base j (number / base)) (number % base ∷ []) (drop (suc j) digits)) at h in
+    let split = rw (next, append_assoc (digits_in base j (number / base)) (number % base ∷ []) (drop (suc j) digits)) at h in
     rw (drop-set digits j (number % base) within, add-one) split
 
 -- an octet has at most three decimal digits

@@ -115,7 +115,7 @@ before-partitioned p (s ∷ rest) maximal (suc i) (suc j) d le within last = bef
 abbrev pub IsPlace : Prefix → List Span → ℕ → Type 0
 IsPlace p runs n = IsPartitionPoint (λ s. is_before s p ≡ true) (λ s. is_before s p ≡ false) runs n
 
--- where no run before the prefix passes, and none past one that is not before it and fails, the run at the place tells whether any does
+-- where no run before the prefix passes, and none past one that is not before it and fails, the run at the place passes if any does
 module _ (p : Prefix) (test : ℕ → ℕ → Bool) (before : (lo hi : ℕ) → hi < p.first → test lo hi ≡ false) (past : (lo hi start end : ℕ) → lo ≤ hi → p.first ≤ hi → hi < start → test lo hi ≡ false → test start end ≡ false) where
   abbrev passes : Span → Bool
   passes s = family_eq s.family p.family && test s.lo s.hi

@@ -20,7 +20,7 @@ use Rattle.addr.specs.declared.span.Span.{Span}
 abbrev pub is_gap : Family → ℕ → Family → ℕ → Bool
 is_gap f high g low = family_lt f g || (family_eq f g && nat_lt (high + 1) low)
 
--- what the test of the order tells, for `grind`
+-- what the test of the order means, for `grind`
 pub family_lt_tells : (f g : Family) → ((family_lt f g ≡ true) × (f ≡ V4) × (g ≡ V6)) ⊎ ((family_lt f g ≡ false) × ((f ≡ g) ⊎ ((f ≡ V6) × (g ≡ V4))))
 family_lt_tells V4 V4 = inr (refl, inl refl)
 family_lt_tells V4 V6 = inl (refl, refl, refl)

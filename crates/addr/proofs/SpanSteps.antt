@@ -146,9 +146,6 @@ joined whole other a x y first second = rw (first, second) (apart (span_has whol
 gap_same : (f : Family) (high low : ℕ) → high + 1 < low → is_gap f high f low ≡ true
 gap_same f high low lt = grind (arith, nat_tests, family_tells)
 
-apart_ends : (end low high start : ℕ) → end < low → low ≤ high → high < start → end + 1 < start
-apart_ends end low high start a b c = omega arith
-
 -- the parts before and after are what is left of a run
 pub parts_of : (whole other : Span) (before after : Option Span) →
     IfSome before (λ part. IsWithin part whole × (family_eq whole.family other.family ≡ true → part.hi < other.lo)) →
@@ -177,7 +174,7 @@ parts_of whole other (Some x) None in_before has_before in_after has_after = rec
 parts_of whole other (Some x) (Some y) in_before has_before in_after has_after = record {
   above = λ s gap. and_from _ _ (apart_to_part s whole x in_before.0 gap) (and_from _ _ (apart_to_part s whole y in_after.0 gap) refl);
   below = λ s gap. and_from _ _ (apart_from_part s whole x in_before.0 gap) (and_from _ _ (apart_from_part s whole y in_after.0 gap) refl);
-  maximal = (and_from _ _ (rw (in_before.0.family, in_after.0.family) (gap_same whole.family x.hi y.lo (apart_ends x.hi other.lo other.hi y.lo (in_before.1 in_after.1) other.ordered in_after.2))) refl, (refl, tt));
+  maximal = (and_from _ _ (rw (in_before.0.family, in_after.0.family) (gap_same whole.family x.hi y.lo (omega (arith, in_before.1 in_after.1, other.ordered, in_after.2)))) refl, (refl, tt));
   same = λ a. ap (λ b. span_has x a || b) (or-false (span_has y a)) ∙ joined whole other a (span_has x a) (span_has y a) (has_before a) (has_after a);
 }
 

@@ -118,6 +118,7 @@ impl Day {
 }
 
 /// 1970-01-01.
+#[tactic(auto, using(crate::proofs::DayLemmas::epoch_is_zero))]
 fn epoch() -> Date
     ensures { epoch_day result ≡ pos 0 }
 {

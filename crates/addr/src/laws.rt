@@ -9,6 +9,7 @@ use crate::{Prefix, Vrp};
 
 /// Prefixes are ordered by family, first address and length: of two that differ one is before the
 /// other, and `==` holds of equal ones.
+#[tactic(auto, using(crate::proofs::OrderLemmas::prefix_order, crate::proofs::OrderLemmas::prefix_equality))]
 pub fn prefix_order()
     ensures order { IsOrder prefix_cmp }
     ensures equality { TestsEquality prefix_eq }
@@ -18,6 +19,7 @@ pub fn prefix_order()
 
 /// VRPs are ordered by prefix, maxLength and AS: of two that differ one is before the other, and
 /// `==` holds of equal ones.
+#[tactic(auto, using(crate::proofs::OrderLemmas::vrp_order, crate::proofs::OrderLemmas::vrp_equality))]
 pub fn vrp_order()
     ensures order { IsOrder vrp_cmp }
     ensures derived_order { ⟦<Vrp as Ord>⟧.cmp ≡ vrp_cmp }
@@ -26,6 +28,7 @@ pub fn vrp_order()
 
 /// A spelling is read back as what it was made of, the texts without a fault are the spellings of
 /// the prefixes, and each spells one prefix.
+#[tactic(auto, using(crate::proofs::PrefixSpellingLemmas::prefix_text_law))]
 pub fn prefix_texts()
     ensures { PrefixTextLaw }
 {}

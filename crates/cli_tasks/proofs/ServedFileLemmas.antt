@@ -96,7 +96,7 @@ leaves_store day passed old new fault leaves kept clean charter before is left =
       left = kept.left charter after.history after.pending left_after;
     }
 
--- and the error tells why
+-- and the error says why
 pub not_closed : {D : Type 0} {g : Ghosts D} (day : ℕ) (passed : List Transcript) (old new : Desk (FileStore D g))
     (fault : CloseFault D g)
     → ServesInTurn over_files day old passed new ⊎ ((passed ≡ []) × (new ≡ old)) → LeavesInTurn over_files day old passed new
@@ -118,7 +118,7 @@ leaves_unclosed image day passed desk store resumes leaves charter before pendin
     let (history, more, is, none) = resumes charter before pending chartered legal found in
     (history, more, leaves charter (record { history = history; pending = [] }) is none)
 
--- and the error tells why
+-- and the error says why
 pub not_closed_over : {D : Type 0} {g : Ghosts D} (image : Image) (day : ℕ) (passed : List Transcript)
     (desk : Desk (FileStore D g)) (fault : CloseFault D g) → OpensFiles image desk → ResumesFiles image desk
     → FailsToCloseAfter day desk passed fault × LeavesStore day desk passed fault.store

@@ -91,7 +91,7 @@ LeavesUnclosed image day passed store =
     × LeavesServed charter day passed (record { history = history; pending = [] }) (StoreLeavesAtMost over_files charter store)
 
 -- The desk as it was after these connections on the day, or where there was none as it was opened, was not closed, for the
--- cause that the error tells.
+-- cause that the error states.
 pub record FailsToCloseAfter {D : Type 0} {g : Ghosts D} (day : ℕ) (desk : Desk (FileStore D g)) (passed : List Transcript)
     (fault : CloseFault D g) : Type 0 where
   pub last : Desk (FileStore D g)

@@ -135,7 +135,7 @@ end_of_serve (Err (Accept closed)) = end_of_close closed
 end_of_serve (Err (Close fault)) = Err (ended.Close fault)
 
 -- Why a life is the last one. Either its opening was refused, and it had no connection. Or its files were not closed,
--- for the cause that the error tells, and a crash of the store leaves at most that to which its connections lead.
+-- for the cause that the error states, and a crash of the store leaves at most that to which its connections lead.
 abbrev pub EndsLife : {D : Type 0} (g : Ghosts D) → ℕ → Files D → List Transcript → LifeFault D g → Type 0
 EndsLife g day found passed (ended.Open fault) =
     (passed ≡ []) × RefusesFiles (image_of g found) fault × RefusesNoLegal found fault × RefusedLeaves found fault

@@ -1,4 +1,4 @@
--- Lines of a check: one more row that stands in the file, and texts that are written in pieces.
+-- Lines of a check: one more row that is in the file, and texts that are written in pieces.
 use Rattle.std.proofs.Common.{◌≡◌, ◌≤◌, ◌<◌, ◌+◌, ℕ, List, [], ◌∷◌, ◌++◌, length, take, drop, true, get_or, refl, sym, ap, ◌∙◌, append_assoc, add-one, drop-cons}
 use Rattle.std.specs.Prelude.{slice_range, Option, Some, None, IfSome, MatchOption}
 use Rattle.std.specs.Borrow.{Bor}

@@ -1,4 +1,4 @@
--- Which fault of the program tells why the files at a path were not opened.
+-- Which fault of the program says why the files at a path were not opened.
 use Rattle.std.specs.Prelude.{◌≡◌, ◌≢◌, ◌⊎◌, ℕ, List, ◌++◌, codes, ⊤}
 use Rattle.std.specs.IoError.{error_kind}
 use Rattle.std.specs.declared.io.ErrorKind.TheVariants as kind
@@ -21,7 +21,7 @@ IsOfMemory (path_error.Io error) = error_kind error ≡ kind.OutOfMemory
 IsOfMemory path_error.Busy = ⊥
 IsOfMemory path_error.HotJournal = ⊥
 
--- The fault tells of this error: `Memory` where an allocation failed, and else `Database`.
+-- The fault is that of this error: `Memory` if an allocation failed, and else `Database`.
 pub record IsFaultOf (error : Error) (fault : ProgramFault) : Type 0 where
   pub memory : error ≡ SqliteFailure code.OutOfMemory → fault ≡ Memory
   pub other : error ≢ SqliteFailure code.OutOfMemory → fault ≡ Database

@@ -75,7 +75,7 @@ RefusesNoLegal files (File fault rest) = ⊤
 RefusesNoLegal {D} {g} files (Store fault now) =
     AreClean g now.log now.db → fault ≡ Schema → ¬ LeaveLegal g files
 
--- The fault tells why the files could not be opened, where the disk returned what was written: an allocation failed, they
+-- The fault says why the files could not be opened, if the disk returned what was written: an allocation failed, they
 -- hold no database, the disk failed, or a limit was met.
 abbrev pub FailsToOpen : {D : Type 0} {g : Ghosts D} → Files D → ProgramFault → Leftover D g → Type 0
 FailsToOpen files fault rest =
@@ -101,7 +101,7 @@ RefusedLeavesOver {D} {g} image (Store fault now) =
 
 -- ---- not closed
 
--- The desk was not closed, and the store is what is left of it. The error tells why, where the disk returned what was
+-- The desk was not closed, and the store is what is left of it. The error says why, if the disk returned what was
 -- written: an allocation failed, the disk failed during the close, or a failure had shut the connection before it. A
 -- crash of the store leaves no more than one of the desk did.
 pub record UnclosedLeaves {D : Type 0} {g : Ghosts D} (desk : Desk (FileStore D g)) (fault : CloseFault D g) : Type 0 where
@@ -124,7 +124,7 @@ RefusesReopen {D} {g} desk fault =
 
 -- ---- not made
 
--- a desk that was made of the charter was not closed, for the cause that the error tells
+-- a desk that was made of the charter was not closed, for the cause that the error states
 pub record FailsToCloseNew {D : Type 0} {g : Ghosts D} (charter : Charter) (fault : CloseFault D g) : Type 0 where
   pub desk : Desk (FileStore D g)
   pub made : IsNew charter (connection_state over_files (store_of desk))
@@ -132,7 +132,7 @@ pub record FailsToCloseNew {D : Type 0} {g : Ghosts D} (charter : Charter) (faul
 
 -- What is left where no desk was made and the disk returned what was written. If the database was refused, whatever a
 -- crash leaves of the files holds trees that it left before, or, of an unused database, those of a desk of the charter
--- with no history. If the desk was made and not closed, the error tells why, and a crash of the store leaves that desk.
+-- with no history. If the desk was made and not closed, the error says why, and a crash of the store leaves that desk.
 abbrev pub LeavesUnmade : {D : Type 0} {g : Ghosts D} → Charter → Held (FileStore D g) → MakeFault D g → Type 0
 LeavesUnmade {D} {g} charter conn (unmade.Database files) =
     AreClean g files.log files.db

@@ -1,4 +1,4 @@
--- A part of the rows of a holder that is enough for changes: what it tells, and that a create and a withdrawal keep it.
+-- A part of the rows of a holder that is enough for changes: what it says, and that a create and a withdrawal keep it.
 use Rattle.std.proofs.Common.{◌≡◌, ℕ, ◌+◌, ◌<◌, Bool, true, false, not, ◌==◌, ◌||◌, cond, List, [], ◌∷◌, ◌++◌, length, get_or, ◌↔◌, inl, inr, Option, Some, None, refl, sym, ap, ◌∙◌, subst, arith, filter, find, Contains, append-nil, length-append}
 use Rattle.std.specs.List.{list_any}
 use Rattle.std.specs.Prelude.{nat_le}

@@ -4,7 +4,7 @@ use Rattle.std.proofs.Math.Decide.{dec_le}
 use Rattle.std.specs.Prelude.{IfOk}
 use Rattle.std.specs.List.{AllZip}
 use Rattle.std.specs.Option.{ok_or}
-use Rattle.addr.proofs.SpelledPrefixLemmas.{Spells-spelled_prefix}
+use Rattle.addr.proofs.PrefixSpellingLemmas.{Spells-spelled_prefix}
 use Rattle.addr.specs.Family.{width}
 use Rattle.addr.specs.PrefixText.{spelled_prefix}
 use Rattle.addr.specs.declared.asn.Asn.{Asn}

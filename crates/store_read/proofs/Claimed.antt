@@ -50,7 +50,7 @@ searched claims row (Err at) rise range place =
       | inr after ↦ ap is_eq (parted.1 k d after within)
     ]))
 
--- what is told of claims that rise
+-- what is said of claims that rise
 pub told : (claims own : List ClaimKey) (row : Row) (result b : Bool) → claims ≡ own → ClaimsRise own → (ClaimsRise claims → result ≡ is_claimed (map key_cells claims) row) → result ≡ b → is_claimed (map key_cells own) row ≡ b
 told claims own row result b same rise is said =
     subst (λ l. is_claimed (map key_cells l) row ≡ b) same (sym (is (subst ClaimsRise (sym same) rise)) ∙ said)

@@ -45,7 +45,7 @@ NeverMake claims entries =
     (rest : List (OfHolder EntryRow)) → AllApart (holder_entry claim_entry) claims
     → ¬ MakeAuths claims (entries ++ rest)
 
--- the walk stands so after these entries, or no authorizations come of it
+-- this is the walk after these entries, or no authorizations come of it
 pub record WalkGoesOn (claims : List (OfHolder Claim)) (entries : List (OfHolder EntryRow)) (passed : ℕ) (found : List RoaPrefix) (fits : Bool) : Type 0
   where
     pub so_far : fits ≡ true → WalkStands claims entries (drop passed claims) found
@@ -56,7 +56,7 @@ pub record ShowEntries (rows : List Row) (entries : List (OfHolder EntryRow)) : 
   pub fit : AllByRecursion (NamedFits EntryRowFits) entries
   pub shown : map (first_columns 7) rows ≡ map (named_cells entry_cells) entries
 
--- the walk stands so after these rows, or no authorizations come of it, or some row shows no entry
+-- this is the walk after these rows, or no authorizations come of it, or some row shows no entry
 pub record JoinsRows (claims : List (OfHolder Claim)) (rows : List Row) (passed : ℕ) (found : List RoaPrefix) (fits : Bool) : Type 0
   where
     pub so_far :

@@ -78,6 +78,6 @@ pub record Collects {X : Type 0} (cells : X → Row) (fits : X → Type 0) (widt
     pub read : is_read ≡ true → AreTaken cells fits width rows values last
     pub unread : is_read ≡ false → (c : Row) × Has rows c × ShowsNone cells fits (first_columns width c)
 
--- the cells show a value, which stands after the others
+-- the cells show a value, which comes after the others
 abbrev pub Shows : {X : Type 0} → (X → Row) → (X → Type 0) → Row → List X → List X → Type 0
 Shows {X} cells fits shown before after = (x : X) × fits x × (shown ≡ cells x) × (after ≡ before ++ x ∷ [])

@@ -4,7 +4,7 @@ use Rattle.std.proofs.lemmas.Int.{to_z-of_z}
 use Rattle.jiff_core.proofs.SignedLemmas.{signed_arith}
 use Rattle.jiff_core.proofs.CalendarLemmas.{days_in_month_bounds}
 use Rattle.addr.specs.Day.{day_in, day_text}
-use Rattle.addr.proofs.DayTextLemmas.{date_writes, from_1970_on, year_cast}
+use Rattle.addr.proofs.DayLemmas.{date_writes, from_1970_on, year_cast}
 use Rattle.addr.proofs.day.Day.write_to.Goals as goal
 
 pub overflow_cast-year : goal.overflow_cast-year

@@ -1,5 +1,4 @@
-use Rattle.addr.proofs.PrefixSpellingLemmas.{read_gives}
-use Rattle.addr.proofs.SpelledPrefixLemmas.{spelled_prefix-gives}
+use Rattle.addr.proofs.PrefixSpellingLemmas.{read_gives, spelled_prefix-gives}
 use Rattle.addr.proofs.prefix.Prefix.read.Goals as goal
 
 pub returns-clause-each : goal.returns-clause-each
