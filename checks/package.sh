@@ -297,6 +297,9 @@ front() {
             -w '%{http_code}\n' -u reg:other https://localhost:8443/payloads
         $through -L https://localhost:8443/ | grep -c '<title>'")" '401
 1'
+    expect 'front: a name that has line ends is not in a response' "$(shell "curl -s --cacert /etc/roadesk/cert.pem \
+            -o /dev/null -D - -u $'reg\n\n<p>:other' https://localhost:8443/payloads" |
+        grep -c '^HTTP.* 401\|^Desk-Caller')" 1
     expect 'front: nginx as a service' "$(shell 'systemctl restart nginx; echo $?; systemctl is-active nginx
         stat -c "%a %U %G" /var/log/roadesk/*.log
         logrotate -f /etc/logrotate.d/roadesk && echo rotated; sleep 1
