@@ -1,6 +1,6 @@
 #!/usr/bin/env bash
 # Whether what operators use beside the program does as the guide says: routes.sh on tables that BIRD wrote,
-# normalize.py on SLURM files of others, and krill-delta.py on exports.
+# normalize.py on SLURM files of others, krill-delta.py on exports, and alarms.jq on a name that is no user's.
 #
 #     operators.sh [ROUTES]      (1,000,000 if left out)
 #
@@ -218,10 +218,19 @@ deltas() {
 1'
 }
 
+# Whoever has no password may send any name.
+alarms() {
+    expect 'alarms: a name with a line end' "$(jq -r -f "$examples/alarms.jq" <<'END'
+{"time":"T","caller":"x\nT the desk is away","method":"GET","path":"/","status":"401","seconds":0.001,"desk":""}
+END
+    )" 'T a wrong password: 401 x\nT the desk is away GET /'
+}
+
 tables_of_bird
 many_routes
 other_spellings
 example_of_the_standard
 refused_files
 deltas
+alarms
 end

@@ -11,4 +11,5 @@ def reason:
     elif .status == "403" and .desk == "" then "a page of another site"
     elif (.desk | tonumber? // 0) > 5 then "the desk was held"
     else empty end;
-"\(.time) \(reason): \(.status) \(.caller) \(.method) \(.path)"
+# The caller of a 401 may have line ends, which stay as in the log.
+"\(.time) \(reason): \(.status) \(.caller | tojson[1:-1]) \(.method) \(.path)"
