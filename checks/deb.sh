@@ -31,6 +31,9 @@ expect 'the same as by hand' "$(diff -rq by-hand held | sort)" "Files by-hand/us
 Only in held/usr/share/doc/roadesk: changelog.gz
 Only in held/usr/share/doc/roadesk: copyright
 Only in held: DEBIAN"
+find by-hand/etc -type f -exec sed -i '$a # kept' {} +
+"$top/packaging/install.sh" "$program" by-hand || exit 1
+expect 'by hand again: each setting is kept' "$(grep -rL '^# kept$' by-hand/etc)" ''
 # runnable FOLDER: the files there that can be run.
 runnable() {
     (cd "$1" && find . -type f -perm /111 | sort)

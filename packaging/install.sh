@@ -19,9 +19,9 @@ put() {
     install -D -m "$1" "$here/$2" "$root/$3"
 }
 
-# put_setting FILE: as below /etc/roadesk, unless there is one.
+# put_setting FILE TARGET: as it is, unless there is one.
 put_setting() {
-    [ -e "$root/etc/roadesk/$1" ] || put 644 "etc/$1" "etc/roadesk/$1"
+    [ -e "$root/etc/$2" ] || put 644 "etc/$1" "etc/$2"
 }
 
 # as_template UNIT: the unit with the names of an instance in place of those of the one desk.
@@ -48,9 +48,9 @@ done
 put 644 systemd/nftables.service.d/roadesk.conf lib/systemd/system/nftables.service.d/roadesk.conf
 put 644 sysusers.d/roadesk.conf usr/lib/sysusers.d/roadesk.conf
 put 644 tmpfiles.d/roadesk.conf usr/lib/tmpfiles.d/roadesk.conf
-put_setting desk.conf
-put_setting roadesk.nft
-put 644 etc/logrotate etc/logrotate.d/roadesk
+put_setting desk.conf roadesk/desk.conf
+put_setting roadesk.nft roadesk/roadesk.nft
+put_setting logrotate logrotate.d/roadesk
 for file in "$top"/console/*.html "$top"/console/*.css "$top"/console/*.js; do
     install -D -m 644 "$file" "$root/usr/share/roadesk/console/${file##*/}"
 done
