@@ -42,7 +42,7 @@ for unit in "$here"/systemd/*.service "$here"/systemd/*.timer; do
     put 644 "systemd/${unit##*/}" "lib/systemd/system/${unit##*/}"
 done
 for unit in roadesk.service roadesk-day.service roadesk-day.timer roadesk-probe.service roadesk-probe.timer; do
-    as_template "$unit" >"$units/${unit%.*}@.${unit##*.}"
+    as_template "$unit" >"$units/${unit%.*}@.${unit##*.}" || exit 1
     chmod 644 "$units/${unit%.*}@.${unit##*.}"
 done
 put 644 systemd/nftables.service.d/roadesk.conf lib/systemd/system/nftables.service.d/roadesk.conf

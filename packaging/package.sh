@@ -53,5 +53,5 @@ sed "s/@VERSION@/$version/; s/@ARCH@/$arch/; s/@SIZE@/$(du -sk --apparent-size "
     "$here/debian/control" >"$tree/DEBIAN/control"
 find "$tree" -exec touch -h -d "@$SOURCE_DATE_EPOCH" {} +
 mkdir -p "$2"
-dpkg-deb --root-owner-group -Zxz --build "$tree" "$2/roadesk_${version}_$arch.deb" >/dev/null
+dpkg-deb --root-owner-group -Zxz --build "$tree" "$2/roadesk_${version}_$arch.deb" >/dev/null || exit 1
 echo "$2/roadesk_${version}_$arch.deb"
