@@ -218,6 +218,16 @@ deltas() {
 1'
 }
 
+other_words() {
+    local words
+    for words in '' bird 'bird AS64496' 'mrt 64496x' 'bird 64496 64497'; do
+        # shellcheck disable=SC2086 # several words
+        "$examples/routes.sh" $words </dev/null >other.csv 2>usage
+        echo "$?, $(cat other.csv)"
+    done >others
+    expect 'routes.sh: other words' "$(sort -u others)" '2, '
+}
+
 # Whoever has no password may send any name.
 alarms() {
     expect 'alarms: a name with a line end' "$(jq -r -f "$examples/alarms.jq" <<'END'
@@ -227,6 +237,7 @@ END
 }
 
 tables_of_bird
+other_words
 many_routes
 other_spellings
 example_of_the_standard

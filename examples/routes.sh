@@ -11,6 +11,9 @@
 # Ends with 2 if the words are others.
 set -eu
 case "$*" in
+    *" "*[!0-9]*) set -- ;;  # AS is digits alone, and the last word
+esac
+case "$*" in
     "bird "[0-9]* | "mrt "[0-9]*) ;;
     *) sed -n '2,/^set/s/^# \{0,1\}//p' "$0" >&2; exit 2 ;;
 esac
