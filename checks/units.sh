@@ -188,6 +188,16 @@ for key in ExecStartPost ExecReload; do
 status 0'
 done
 
+# With the last line of the guide, the rules are loaded along with those that remove them.
+include=$(tr '\n' ' ' <"$top/docs/GUIDE.md" | grep -o 'include "/etc/roadesk/[^"]*"')
+printf '%s\n' 'flush ruleset' 'table inet filter {' '}' "${include/\/etc\/roadesk/$work}" >nftables.conf
+expect 'nftables: the rules by an include, twice' "$(with_desk '' "
+    for _ in 1 2; do nft -f nftables.conf && nft list tables; done")" 'table inet filter
+table inet roadesk
+table inet filter
+table inet roadesk
+status 0'
+
 expect 'firewall: its port is that of the desk' "$(grep -o '127\.0\.0\.1 \. [0-9]* }' roadesk.nft)" \
     "${LISTEN%:*} . ${LISTEN#*:} }"
 expect 'firewall: its port is that which the front asks' "$(grep -o 'proxy_pass http://[0-9.:]*' \
