@@ -1,6 +1,7 @@
 #!/usr/bin/env bash
 # Whether what operators use beside the program does as the guide says: routes.sh on tables that BIRD wrote,
-# normalize.py on SLURM files of others, krill-delta.py on exports, and alarms.jq on a name that is no user's.
+# normalize.py on SLURM files of others, krill-delta.py on exports, fetch.py on a listing, and alarms.jq on a name that
+# is no user's.
 #
 #     operators.sh [ROUTES]      (1,000,000 if left out)
 #
@@ -228,6 +229,16 @@ other_words() {
     expect 'routes.sh: other words' "$(sort -u others)" '2, '
 }
 
+# As registry.sql lists them: a holder may have the name of a column.
+listed_space() {
+    printf '%s\n' holder,grants_made,grants,authorizations_made,authorizations holder,1,1,1,1 zeta,1,1,1,1 \
+        holder,first,last holder,192.0.2.0,192.0.2.191 zeta,2001:db8::,2001:db8::f \
+        holder,number,caller,role,scope,until zeta,1,ann,manager,all,2026-12-31 >registry.csv
+    expect 'fetch.py: the space of a holder that is named holder' "$(PYTHONPATH=$examples/signer python3 -B -c '
+import fetch
+print(fetch.spaces(open("registry.csv")))')" "{'holder': ['192.0.2.0/25', '192.0.2.128/26'], 'zeta': ['2001:db8::/124']}"
+}
+
 # Whoever has no password may send any name.
 alarms() {
     expect 'alarms: a name with a line end' "$(jq -r -f "$examples/alarms.jq" <<'END'
@@ -243,5 +254,6 @@ other_spellings
 example_of_the_standard
 refused_files
 deltas
+listed_space
 alarms
 end

@@ -21,12 +21,10 @@ import urllib.request
 
 
 def spaces(registry):
-    """The prefixes of each holder: the rows of `holder,first,last`."""
-    found, header = {}, None
+    """The prefixes of each holder: the rows below `holder,first,last`, which alone have three fields."""
+    found = {}
     for row in csv.reader(registry):
-        if row[0] == "holder":
-            header = row
-        elif header == ["holder", "first", "last"]:
+        if len(row) == 3 and row != ["holder", "first", "last"]:
             run = ipaddress.summarize_address_range(*map(ipaddress.ip_address, row[1:]))
             found.setdefault(row[0], []).extend(map(str, run))
     return found
