@@ -1,7 +1,7 @@
 #!/usr/bin/env bash
 # Whether what operators use beside the program does as the guide says: routes.sh on tables that BIRD wrote,
-# normalize.py on SLURM files of others, krill-delta.py on exports, fetch.py on a listing, and alarms.jq on a name that
-# is no user's.
+# normalize.py on SLURM files of others, krill-delta.py on exports, fetch.py on a listing and behind a limit, and
+# alarms.jq on a name that is no user's.
 #
 #     operators.sh [ROUTES]      (1,000,000 if left out)
 #
@@ -239,6 +239,26 @@ import fetch
 print(fetch.spaces(open("registry.csv")))')" "{'holder': ['192.0.2.0/25', '192.0.2.128/26'], 'zeta': ['2001:db8::/124']}"
 }
 
+# A front whose limit refuses a request now and then.
+after_refusals() {
+    cat >front.py <<'PYTHON'
+import http.server, threading, fetch
+statuses = [429, 429, 200]
+class Front(http.server.BaseHTTPRequestHandler):
+    def do_GET(self):
+        self.send_response(statuses.pop(0))
+        self.end_headers()
+        self.wfile.write(b"answered")
+    def log_message(self, *_):
+        pass
+with http.server.HTTPServer(("127.0.0.1", 0), Front) as front:
+    threading.Thread(target=front.serve_forever, daemon=True).start()
+    print(fetch.ask(f"http://127.0.0.1:{front.server_port}", "ann", "/"), statuses)
+    front.shutdown()
+PYTHON
+    expect 'fetch.py: after two 429' "$(PYTHONPATH=$examples/signer python3 -B front.py 2>&1)" 'answered []'
+}
+
 # Whoever has no password may send any name.
 alarms() {
     expect 'alarms: a name with a line end' "$(jq -r -f "$examples/alarms.jq" <<'END'
@@ -255,5 +275,6 @@ example_of_the_standard
 refused_files
 deltas
 listed_space
+after_refusals
 alarms
 end

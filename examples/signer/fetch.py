@@ -16,6 +16,7 @@ import ipaddress
 import json
 import os
 import sys
+import time
 import urllib.error
 import urllib.request
 
@@ -30,8 +31,8 @@ def spaces(registry):
     return found
 
 
-def ask(desk, caller, path):
-    """The body of the response."""
+def ask(desk, caller, path, tries=5):
+    """The body of the response. After a 429 of the front it asks again, a second later, at most so many times."""
     fields = {"Desk-Caller": caller}
     if "PASSWORD" in os.environ:
         pair = f"{caller}:{os.environ['PASSWORD']}".encode()
@@ -40,6 +41,9 @@ def ask(desk, caller, path):
         with urllib.request.urlopen(urllib.request.Request(desk + path, headers=fields), timeout=60) as response:
             return response.read().decode()
     except urllib.error.HTTPError as error:
+        if error.code == 429 and tries:
+            time.sleep(1)
+            return ask(desk, caller, path, tries - 1)
         sys.exit(f"fetch.py: {path}: {error.code} {error.read().decode().strip()}")
     except OSError as error:
         sys.exit(f"fetch.py: {path}: {error}")
