@@ -1,7 +1,7 @@
 #!/usr/bin/env bash
 # Whether what operators use beside the program does as the guide says: routes.sh on tables that BIRD wrote,
-# normalize.py on SLURM files of others, krill-delta.py on exports, fetch.py on a listing and behind a limit, and
-# alarms.jq on a name that is no user's.
+# normalize.py on SLURM files of others, krill-delta.py on exports, fetch.py on a listing and behind a limit,
+# sign.py in a folder with others, and alarms.jq on a name that is no user's.
 #
 #     operators.sh [ROUTES]      (1,000,000 if left out)
 #
@@ -259,6 +259,16 @@ PYTHON
     expect 'fetch.py: after two 429' "$(PYTHONPATH=$examples/signer python3 -B front.py 2>&1)" 'answered []'
 }
 
+# The folder may have more in it than the trees of sign.py.
+published() {
+    mkdir -p tree/other tree/made-before tree/made-now
+    PYTHONPATH=$examples/signer python3 -B -c '
+import pathlib, sign
+tree = pathlib.Path("tree").absolute()
+sign.publish(tree, tree / "made-now")' 2>&1
+    expect 'sign.py: what it removes' "$(cd tree && echo *), $(readlink tree/now)" 'made-now now other, made-now'
+}
+
 # Whoever has no password may send any name.
 alarms() {
     expect 'alarms: a name with a line end' "$(jq -r -f "$examples/alarms.jq" <<'END'
@@ -276,5 +286,6 @@ refused_files
 deltas
 listed_space
 after_refusals
+published
 alarms
 end

@@ -306,8 +306,8 @@ def publish(tree, made):
     link.unlink(missing_ok=True)
     link.symlink_to(made.name)
     link.replace(tree / "now")
-    for folder in tree.iterdir():
-        if folder not in (made, tree / "now"):
+    for folder in tree.glob("made-*"):
+        if folder != made:
             shutil.rmtree(folder)
 
 
