@@ -450,8 +450,8 @@ def create(page, asn, prefix, **days):
 
 def check_changes(page):
     page.page("routes")
-    page.put(watched="192.0.2.0/24 AS64496\nnonsense\n")
-    page.send("watch", "not a prefix and an AS in line 2")
+    page.put(watched="192.0.2.0/24 AS64496\nnonsense\n192.0.2.0/24\n192.0.2.0/24 AS\n192.0.2.0/24 0x10\n")
+    page.send("watch", "not a prefix and an AS in lines 2, 3, 4, 5.")
     page.get("watched").clear()
     routes = ["192.0.2.0/24 AS64496", "192.0.2.0/25 AS64496", "192.0.2.128/25,64497", "198.51.100.0/24 AS64496",
               "2001:DB8:1::/48 AS64499"]

@@ -341,7 +341,8 @@ function readRoutes(text) {
     const [prefix, origin, ...rest] = line.trim().split(/[\s,]+/);
     const place = readPrefix(prefix);
     const from = originOf(origin ?? "");
-    if (!place || rest.length || !(from === null || from <= 4294967295)) return wrong.push(at + 1);
+    const isOrigin = from === null || (Number.isInteger(from) && from <= 4294967295);
+    if (!place || rest.length || !isOrigin) return wrong.push(at + 1);
     routes.set(`${place.text} ${showOrigin(from)}`, { place, prefix: place.text, origin: from });
   });
   return { routes: [...routes.values()], wrong };
