@@ -1007,6 +1007,11 @@ def check_first_day(page):
     days = [page.get(f"terms-{name}").get_attribute("value") for name in ["from", "until"]]
     expect("the days of a create", days, [DAY, "2026-12-31"])
     page.click("cancel")
+    page.day("day", "")
+    page.wait("notice", "An empty field: This is not a day")
+    page.open_auth(1)
+    page.wait("details-facts", "2026-01-01 to 2026-12-31, in force")
+    page.click("details-close")
     page.day("day", DAY)
 
 

@@ -106,7 +106,9 @@ const prefixIn = (id) => readPrefix($(id).value)?.text ?? $(id).value.trim();
 const nameIn = (id) => $(id).value.trim();
 const pathOf = (...parts) => parts.map((part) => `/${encodeURIComponent(part)}`).join("");
 
-const stateOf = (auth) => stateOn(auth, $("day").value);
+// The day that the list is shown for: the last one in its field that is a day.
+let shownDay = "";
+const stateOf = (auth) => stateOn(auth, shownDay);
 
 // The desk
 
@@ -283,8 +285,8 @@ function showListed(listed) {
 
 /** Shows what is in force, to come or past on a day. */
 function showAsOf(day) {
-  if (!isDay(day)) return say($("notice"), `${day}: ${SENTENCES.malformed[8]}`, "fault");
-  $("day").value = day;
+  if (!isDay(day)) return say($("notice"), `${day || "An empty field"}: ${SENTENCES.malformed[8]}`, "fault");
+  $("day").value = shownDay = day;
   lines = lines.map(({ auth }) => toLine(auth));
   showListSoon();
 }
@@ -570,7 +572,7 @@ async function askDay(terms) {
   };
   try {
     const found = await findDay(isPast, deskDay);
-    if (found !== deskDay && $("day").value === deskDay) showAsOf(found);
+    if (found !== deskDay && shownDay === deskDay) showAsOf(found);
     deskDay = found;
   } catch {
     // What keeps the desk from saying it is the fault of a report, too. Until then it is the day of the front's clock.
@@ -1385,8 +1387,8 @@ async function meet() {
   }
   $("caller").textContent = caller || "unknown";
   deskDay = now.toISOString().slice(0, 10);
-  $("day").value = deskDay;
-  $("grant-until").value = `${$("day").value.slice(0, 4)}-12-31`;
+  $("day").value = shownDay = deskDay;
+  $("grant-until").value = `${deskDay.slice(0, 4)}-12-31`;
   watched = readRoutes(recall("routes")).routes;
   $("watched").value = routeText();
   showLastHolders();
