@@ -919,6 +919,12 @@ def check_address(page):
     page.driver.get("about:blank")
     page.driver.get(f"{ORIGIN}/console/")
     page.wait("authorizations-title", "Authorizations of alpha")
+    page.put(holder="delta")
+    page.get("holder").send_keys(Keys.ENTER)
+    page.wait("notice", "delta: You have no current grant")
+    page.page("routes")
+    page.page("authorizations")
+    WebDriverWait(page.driver, 20).until(lambda _: page.get("holder-view").is_displayed())
     expect("the last holders", page.run(
         "return [...document.querySelectorAll('#last-holders option')].map((option) => option.value)"), ["alpha"])
     expect("a day is written as days are", page.run("return document.getElementById('grant-until').value.length"), 10)

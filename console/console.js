@@ -254,13 +254,22 @@ function makeSorts() {
   $("sorts").append(...heads);
 }
 
-/** Asks for a holder's authorizations: those that the caller may see. */
+// The holder that was asked for last, unless that failed.
+let opening = "";
+
+/** Asks for a holder's authorizations: those that the caller may see. A dialog of the holder before it is closed. */
 async function openHolder(name) {
+  opening = name;
   const { reply, fault } = isName(name) ? await ask("GET", pathOf("holders", name, "auths"))
     : { fault: SENTENCES.malformed[3] };
+  if (opening !== name) return;
   for (const id of ["holder-view", "holder-tasks"]) $(id).hidden = Boolean(fault);
   $("holder-hint").hidden = !fault;
-  if (fault) return say($("notice"), `${name}: ${fault}`, "fault");
+  if (fault) {
+    opening = "";
+    return say($("notice"), `${name}: ${fault}`, "fault");
+  }
+  if (holder && holder !== name) for (const id of ["change", "details"]) $(id).close();
   holder = name;
   goToHolder();
   $("authorizations-title").textContent = `Authorizations of ${holder}`;
@@ -1316,7 +1325,7 @@ async function showPage() {
   for (const other of PAGES) other.hidden = other !== page;
   namePage();
   if (page.id === "payloads") askPayloads();
-  if (name && name !== holder) await openHolder(name);
+  if (name && name !== opening) await openHolder(name);
 }
 
 /** The page of a holder gets an address of its own, so that Back leads to the one before. */
