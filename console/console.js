@@ -280,7 +280,9 @@ async function openHolder(name) {
 
 /** Lists the holder's authorizations after what was done, which stays said if that fails. */
 async function listAnew(done) {
+  const name = holder;
   const { reply, fault } = await ask("GET", underHolder("auths"));
+  if (holder !== name) return;
   if (fault) return say($("notice"), `${done} The list below is from before, since it did not come again: ${fault}`, "done");
   showListed(reply.listed);
 }
@@ -319,7 +321,9 @@ function showDetails(auth) {
 }
 
 async function showContent() {
-  const { reply, fault } = await ask("GET", underHolder("auths", detailed.number, "content"));
+  const auth = detailed;
+  const { reply, fault } = await ask("GET", underHolder("auths", auth.number, "content"));
+  if (detailed !== auth) return;
   if (fault) return say($("details-said"), fault, "fault");
   $("content-hex").value = reply.content;
   $("content").hidden = $("save-content").hidden = false;
@@ -333,10 +337,11 @@ function saveContent() {
 }
 
 async function exportList() {
+  const name = holder;
   const { text, fault } = await ask("GET", underHolder("export"));
   if (fault) return say($("notice"), fault, "fault");
-  save(`${holder}.csv`, "text/csv", text);
-  say($("notice"), `${holder}.csv is saved.`, "done");
+  save(`${name}.csv`, "text/csv", text);
+  say($("notice"), `${name}.csv is saved.`, "done");
 }
 
 // Watched routes
@@ -1133,7 +1138,9 @@ function importFile() {
 /** Shows the authorizations that end where their holder gives a prefix away, as far as the caller may see them. */
 async function showEnded(name, prefix, verb) {
   const place = readPrefix(prefix);
+  const ending = plan;
   const { reply, fault, rule } = await ask("GET", pathOf("holders", name, "auths"));
+  if (plan !== ending) return;
   const rest = `Every authorization of ${name} that shares an address with ${prefix} ends.`;
   if (rule === "grant") {
     const why = `The desk does not show them to you, since you have no grant at ${name}: ask its manager.`;
