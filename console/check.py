@@ -1004,6 +1004,27 @@ def check_second_of_two(page):
     page.open()
 
 
+def check_late_reply(page):
+    """A reply that comes after its dialog was closed is said on the page, and leaves the next dialog as it is."""
+    create(page, "64512", "192.0.2.64/26")
+    page.run("""const send = window.fetch;
+        window.fetch = async (path, given) => {
+          if (given.method === 'POST' && path.endsWith('/auths')) await new Promise((sent) => { window.letGo = sent; });
+          return send(path, given);
+        };""")
+    page.click("confirm")
+    page.click("cancel")
+    page.click("create")
+    page.run("letGo()")
+    said = page.wait("notice", "is created")
+    expect("the next dialog stays", page.get("change").is_displayed(), True)
+    page.click("cancel")
+    curl("ann", f"/holders/alpha/auths/{re.search('[0-9]+', said)[0]}", "-X", "DELETE")
+    page.driver.refresh()
+    page.wait("authorizations-title", "Authorizations of alpha")
+    page.wait_day()
+
+
 def check_first_day(page):
     """The first day of a create is the desk's, whatever day the list is shown for."""
     page.day("day", "2026-10-15")
@@ -1173,6 +1194,7 @@ def main():
         check_import(manager)
         check_offer(manager)
         check_second_of_two(manager)
+        check_late_reply(manager)
         check_first_day(manager)
         manager.open()
         manager.picture("authorizations")

@@ -481,8 +481,10 @@ function offer(words, isDangerous) {
 
 async function report() {
   forgetReport();
-  const planned = await change.plan();
-  const made = planned && withExtras(planned);
+  const asked = change;
+  const planned = await asked.plan();
+  if (change !== asked) return;
+  const made = planned && { ...withExtras(planned), change: asked, name: holder };
   plan = made;
   showExtras(made?.isTogether);
   if (made?.show) await made.show();
@@ -638,7 +640,7 @@ async function reportRoutes(made) {
   if (asked.length > ASKED_AT_MOST) return sayTooMany();
   const found = await askEffects(made, asked);
   if (plan !== made) return;
-  if (found.fault) return deny(found.fault, found.row, found.rule);
+  if (found.fault) return deny(made, found.fault, found.row, found.rule);
   const { number } = worstOf(found.effects, deskDay);
   const which = routes.length ? `${count(routes.length, "watched route")}.`
     : "You watch no route there, so the report is on the authorization's own.";
@@ -649,33 +651,42 @@ async function reportRoutes(made) {
 }
 
 /** A report or a change that was denied. Numbers that are used up do not hold an amendment back. */
-function deny(fault, row, rule) {
+function deny(made, fault, row, rule) {
   $("confirm").hidden = true;
   sayOfChange(faultOfRow(fault, row), "fault");
-  if (row && plan.mark) plan.mark(row, fault);
-  if (rule === "room" && plan.isAmendment) offer("Amend without a report", true);
+  if (row && made.mark) made.mark(row, fault);
+  if (rule === "room" && made.isAmendment) offer("Amend without a report", true);
+}
+
+/** Whether a change is in the dialog still: when a reply comes it may be closed, or another one opened. */
+const isInDialog = (made) => change === made.change && $("change").open;
+
+/** Says why a change was not made: in its dialog, or on the page where that is closed. */
+function sayOfEnd(made, text) {
+  if (isInDialog(made)) return sayOfChange(text, "fault");
+  say(made.said ?? $("notice"), `${made.change.title}: ${text}`, "fault");
 }
 
 /** Sends what is not made yet, one after the other. */
 async function confirmChange() {
   const made = plan;
   $("confirm").disabled = true;
-  if (made.check && !await made.check()) return;
+  if (made.check && !await made.check(made)) return endStep(made);
   const words = [];
   for (const step of made.steps.filter(({ isMade }) => !isMade)) {
     const { reply, fault, row, isUnclear } = await ask(...step.request);
     if (isUnclear) return leaveStepOpen(made, step, words, fault);
     if (fault) {
-      const which = step.terms ? `The further authorization ${describe(step.terms)}` : change.title;
+      const which = step.terms ? `The further authorization ${describe(step.terms)}` : made.change.title;
       const said = made.steps.length > 1 ? `${which} is not made: ${fault}` : faultOfRow(fault, row);
-      sayOfChange([...words, said].join(" "), "fault");
-      if (made.mark && row) deny(fault, row);
+      sayOfEnd(made, [...words, said].join(" "));
+      if (made.mark && row && isInDialog(made)) deny(made, fault, row);
       return endStep(made);
     }
     markMade(step);
     words.push(step.done(reply));
   }
-  $("change").close();
+  if (isInDialog(made)) $("change").close();
   const done = words.join(" ");
   say(made.said ?? $("notice"), done, "done");
   if (holder) await listAnew(done);
@@ -690,13 +701,18 @@ function markMade(step) {
 
 /** After a step that was not made: the change is offered again, or a new report where a step before it was made. */
 async function endStep(made) {
-  $("confirm").disabled = false;
-  if (!made.steps.some(({ isMade }) => isMade)) return;
-  $("confirm").hidden = true;
-  $("ask-report").className = "primary";
-  showExtras();
-  const { reply } = await ask("GET", underHolder("auths"));
-  if (reply) showListed(reply.listed);
+  const isSome = made.steps.some(({ isMade }) => isMade);
+  if (isInDialog(made)) {
+    $("confirm").disabled = false;
+    if (isSome) {
+      $("confirm").hidden = true;
+      $("ask-report").className = "primary";
+      showExtras();
+    }
+  }
+  if (!isSome) return;
+  const { reply } = await ask("GET", pathOf("holders", made.name, "auths"));
+  if (reply && made.name === holder) showListed(reply.listed);
 }
 
 // An end that is not clear stays on the screen until the user has looked
@@ -802,9 +818,12 @@ function leaveTaskOpen(title, fault, request, { rule, made, done }) {
 /** The same of a step of the change in the dialog, which says it too. */
 function leaveStepOpen(made, step, words, fault) {
   const said = [...words, fault].join(" ");
+  const { title } = made.change;
+  const left = step.find ? leaveOpen({ title, fault: said, look: lookInList(made.name, step.find) })
+    : leaveTaskOpen(title, said, step.request, step);
+  if (!isInDialog(made)) return;
   sayOfChange(said, "fault");
-  open = step.find ? leaveOpen({ title: change.title, fault: said, look: lookInList(holder, step.find) })
-    : leaveTaskOpen(change.title, said, step.request, step);
+  open = left;
   $("confirm").hidden = true;
   $("look-here").textContent = open.lookWords;
   $("look-here").hidden = false;
@@ -962,16 +981,17 @@ function create() {
  * Whether the authorization is still as the dialog was filled from it. Another user's change is shown instead, and the
  * report asked for anew.
  */
-async function isUnchanged(auth) {
+async function isUnchanged(auth, made) {
   const { reply, fault } = await ask("GET", underHolder("auths", auth.number));
   if (fault) {
-    sayOfChange(`${fault} Nothing was sent.`, "fault");
+    sayOfEnd(made, `${fault} Nothing was sent.`);
     return false;
   }
   if (sameText(reply.shown) === sameText(auth)) return true;
-  $("confirm").hidden = true;
-  sayOfChange(`Nothing was sent: someone else changed authorization ${auth.number} meanwhile. It was ${describe(auth)}, `
-    + `and is now ${describe(reply.shown)}. Close this and open it again.`, "fault");
+  if (isInDialog(made)) $("confirm").hidden = true;
+  sayOfEnd(made, `Nothing was sent: someone else changed authorization ${auth.number} meanwhile. It was ${describe(auth)}, `
+    + `and is now ${describe(reply.shown)}. Close this and open it again.`);
+  if (made.name !== holder) return false;
   lines = lines.map((line) => (line.auth.number === auth.number ? toLine(reply.shown) : line));
   showList();
   return false;
@@ -989,7 +1009,7 @@ function amend(auth) {
       return terms && {
         verb: "Amend", isAmendment: true, withdrawals, before: [auth], after: [terms],
         changes: [...withdrawals, { do: "create", ...terms }],
-        prefixes: prefixesOf(terms), own: ownRoutes(terms), check: () => isUnchanged(auth),
+        prefixes: prefixesOf(terms), own: ownRoutes(terms), check: (made) => isUnchanged(auth, made),
         request: ["PATCH", underHolder("auths", auth.number), amendmentOf(entriesOf(terms), terms.until)],
         done: () => `Authorization ${auth.number} is amended.`,
         find: (listed) => listed.some((other) => other.number === auth.number && sameText(other) === sameText(terms))
@@ -1007,7 +1027,7 @@ function withdraw(auth) {
     plan: () => ({
       verb: "Withdraw", changes: [{ do: "withdraw", number: auth.number }], before: [auth], after: [],
       withdrawals: [{ do: "withdraw", number: auth.number }],
-      prefixes: prefixesOf(auth), own: ownRoutes(auth), check: () => isUnchanged(auth),
+      prefixes: prefixesOf(auth), own: ownRoutes(auth), check: (made) => isUnchanged(auth, made),
       request: ["DELETE", underHolder("auths", auth.number)],
       done: () => `Authorization ${auth.number} is withdrawn.`,
       find: (listed) => !listed.some(({ number }) => number === auth.number) && `Authorization ${auth.number} is gone.`,
