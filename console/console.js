@@ -1398,11 +1398,14 @@ const CLICKS = {
   withdraw: () => { $("details").close(); withdraw(detailed); },
 };
 
-/** Does the task of a form once at a time. */
+// A report or a holder that is asked for anew takes the place of the one before.
+const ASKED_ANEW = ["change-form", "open"];
+
+/** Does the task of a form once at a time, unless it is one of these. */
 async function submit(event) {
   event.preventDefault();
   const form = event.target;
-  if (form.ariaBusy === "true") return;
+  if (form.ariaBusy === "true" && !ASKED_ANEW.includes(form.id)) return;
   form.ariaBusy = "true";
   try {
     await FORMS[form.id]();
