@@ -1456,8 +1456,10 @@ function listen() {
     if (auth) showDetails(auth);
   });
   $("day").addEventListener("change", () => showAsOf($("day").value));
-  document.addEventListener("click", ({ target }) => {
-    if (!$("session").contains(target)) $("session").open = false;
+  document.addEventListener("click", (event) => {
+    if (!$("session").contains(event.target)) $("session").open = false;
+    // The second click of a double one may come after the answer to the first, and would make a grant twice.
+    if (event.detail > 1 && event.target.type === "submit") event.preventDefault();
   });
   window.addEventListener("popstate", showPage);
 }
