@@ -34,7 +34,7 @@ export const SENTENCES = {
     9: "The role or the scope is none that can be granted. A manager has the scope all.",
     10: "The number has to be a whole number from 1 to 999999.",
     11: "This file is not a SLURM file that the desk takes.",
-    12: "The desk takes 1 to 10,000 rows or routes at once, and at most 1000 changes.",
+    12: "The desk takes at once 1 to 10,000 rows or routes, up to 1000 changes, 64 prefixes, and 16 SLURM files.",
     13: "The request is longer than 1,048,576 bytes.",
     14: "A prefix is given twice.",
     15: "A SLURM file has no name of its own.",
