@@ -949,10 +949,13 @@ function termsToSend() {
 
 const daysFrom = (day) => ({ from: day, until: `${day.slice(0, 4)}-12-31` });
 
-/** Puts the desk's day into the fields of a dialog that was opened before it was found, unless they were changed. */
+/**
+ * Puts the desk's day into the fields of a dialog that was opened before it was found, unless they were changed or
+ * reported on: what is sent is what the report was on.
+ */
 async function correctDays(opened, guess) {
   await findingDay;
-  if (change !== opened) return;
+  if (change !== opened || plan) return;
   for (const [name, day] of Object.entries(daysFrom(guess))) {
     const field = $(`terms-${name}`);
     if (field.value === day) field.value = daysFrom(deskDay)[name];
