@@ -795,6 +795,12 @@ def by_keyboard(page):
     def type_keys(*keys):
         ActionChains(page.driver).send_keys(*keys).perform()
 
+    address = page.driver.current_url
+    page.run("document.querySelector('.skip').focus()")
+    type_keys(Keys.ENTER)
+    expect("what skips to the content leaves the address", page.driver.current_url, address)
+    expect("and leads there", page.run("return document.activeElement.id"), "main")
+
     tab_to("holder")
     ActionChains(page.driver).key_down(Keys.CONTROL).send_keys("a").key_up(Keys.CONTROL).perform()
     type_keys("alpha", Keys.ENTER)

@@ -1464,6 +1464,11 @@ function listen() {
     // The second click of a double one may come after the answer to the first, and would make a grant twice.
     if (event.detail > 1 && event.target.type === "submit") event.preventDefault();
   });
+  document.querySelector(".skip").addEventListener("click", (event) => {
+    // Not by the address, which names the page and the holder.
+    event.preventDefault();
+    $("main").focus();
+  });
   window.addEventListener("popstate", showPage);
 }
 
