@@ -699,6 +699,7 @@ def check_failures(page, desk, front):
     page.click("look-here")
     page.wait("change-said", "it was made. Authorization")
     expect("what was made is not offered again", page.get("confirm").is_displayed(), False)
+    expect("the focus is where the dialog goes on", page.run("return document.activeElement.id"), "cancel")
     page.click("cancel")
     looked()
     page.open()

@@ -539,6 +539,7 @@ function showExtras(isTogether = false) {
 function leaveOut(terms) {
   extras = extras.filter((other) => other !== terms);
   showExtras();
+  $("ask-report").focus();
   report();
 }
 
@@ -558,6 +559,7 @@ async function offerExtras(made, { effects }) {
     also.ariaLabel = `Authorize ${route.prefix} from ${showOrigin(route.origin)} too`;
     also.addEventListener("click", () => {
       extras.push(terms);
+      $("ask-report").focus();
       report();
     });
     $("report").querySelectorAll("tbody tr")[at]?.lastChild.append(" ", also);
@@ -661,6 +663,13 @@ function deny(made, fault, row, rule) {
 /** Whether a change is in the dialog still: when a reply comes it may be closed, or another one opened. */
 const isInDialog = (made) => change === made.change && $("change").open;
 
+/** Gives the focus to what can be done next in the dialog, where the button that had it is gone or disabled. */
+function focusNext() {
+  const last = document.activeElement;
+  if (last !== document.body && !last.hidden && !last.disabled) return;
+  $(["look-here", "confirm", "cancel"].find((id) => !$(id).hidden)).focus();
+}
+
 /** Says why a change was not made: in its dialog, or on the page where that is closed. */
 function sayOfEnd(made, text) {
   if (isInDialog(made)) return sayOfChange(text, "fault");
@@ -709,6 +718,7 @@ async function endStep(made) {
       $("ask-report").className = "primary";
       showExtras();
     }
+    focusNext();
   }
   if (!isSome) return;
   const { reply } = await ask("GET", pathOf("holders", made.name, "auths"));
@@ -782,6 +792,7 @@ async function lookAt(left) {
   say(said, text, isMade ? "done" : "fault");
   if (!fault) {
     forgetUnclear(left);
+    if (document.activeElement === lookButton) closeButton.focus();
     lookButton.hidden = true;
     closeButton.textContent = "Close";
   }
@@ -827,6 +838,7 @@ function leaveStepOpen(made, step, words, fault) {
   $("confirm").hidden = true;
   $("look-here").textContent = open.lookWords;
   $("look-here").hidden = false;
+  focusNext();
   open.found = ({ isMade, fault: still }, text) => {
     if (isMade) markMade(step);
     if (plan !== made) return;
@@ -836,6 +848,7 @@ function leaveStepOpen(made, step, words, fault) {
     const isAll = made.steps.every((each) => each.isMade);
     $("confirm").hidden = isAll;
     if (!isAll) endStep(made);
+    focusNext();
   };
 }
 
