@@ -1295,7 +1295,8 @@ async function putSlurm() {
 
 // The VRPs of the day
 
-let payloads = [];
+// The lines of the last reply, or null where none came.
+let payloads = null;
 let searching = {};
 
 const payloadRow = (line) => rowOf(...line.split(","));
@@ -1318,6 +1319,7 @@ async function searchPayloads(tests) {
 
 async function showPayloads() {
   searching = {};
+  if (!payloads) return;
   const words = $("payload-filter").value.toLowerCase().split(/\s+/).filter(Boolean);
   const found = await searchPayloads(words.map(payloadFilterOf));
   if (!found) return;
@@ -1330,8 +1332,11 @@ async function showPayloads() {
 
 async function askPayloads() {
   const { text, fault } = await ask("GET", "/payloads");
-  if (fault) return say($("payload-count"), fault, "fault");
-  payloads = text.trim().split("\n").slice(1);
+  payloads = fault ? null : text.trim().split("\n").slice(1);
+  if (fault) {
+    say($("payload-count"), fault, "fault");
+    fill($("payload-rows"), [], payloadRow);
+  }
   showPayloads();
 }
 
