@@ -260,6 +260,7 @@ let opening = "";
 /** Asks for a holder's authorizations: those that the caller may see. A dialog of the holder before it is closed. */
 async function openHolder(name) {
   opening = name;
+  namePage();
   const { reply, fault } = isName(name) ? await ask("GET", pathOf("holders", name, "auths"))
     : { fault: SENTENCES.malformed[3] };
   if (opening !== name) return;
@@ -267,6 +268,7 @@ async function openHolder(name) {
   $("holder-hint").hidden = !fault;
   if (fault) {
     opening = "";
+    namePage();
     return say($("notice"), `${name}: ${fault}`, "fault");
   }
   if (holder && holder !== name) for (const id of ["change", "details"]) $(id).close();
@@ -1351,7 +1353,8 @@ function readAddress() {
   return { page, name: parts.length === 2 && isName(parts[0]) ? parts[0] : "" };
 }
 
-const addressOf = (page) => (holder ? `#/${holder}/${page.id}` : `#/${page.id}`);
+/** The address of a page, of the holder that is open, or of one that is asked for. */
+const addressOf = (page) => (opening || holder ? `#/${opening || holder}/${page.id}` : `#/${page.id}`);
 
 const shownPage = () => PAGES.find(({ hidden }) => !hidden);
 
