@@ -1372,7 +1372,7 @@ function namePage() {
 async function showPage() {
   const { page: wanted, name } = readAddress();
   const page = wanted ?? shownPage();
-  if (page !== shownPage()) say($("notice"), "");
+  if (page !== shownPage() || (holder && name && name !== opening)) say($("notice"), "");
   for (const other of PAGES) other.hidden = other !== page;
   namePage();
   if (page.id === "payloads") askPayloads();
