@@ -4,6 +4,7 @@ import assert from "node:assert/strict";
 import test from "node:test";
 
 import { coveredBy, judgePrefix, overlap, readPlace, readPrefix } from "../prefixes.js";
+import { faultOf } from "../sentences.js";
 import {
   amendmentOf, asOf, dayAfter, entriesGiven, faultOfEntries, isDay, originOf, readEntries, showEntry, stateOn, termsOf,
 } from "../values.js";
@@ -74,4 +75,9 @@ test("entries are pasted, put in the order of prefixes, and sent by the members 
   assert.equal(faultOfEntries(entries), "");
   assert.match(faultOfEntries([...entries, entries[0]]), /192\.0\.2\.0\/24 is given twice/);
   assert.match(faultOfEntries(Array.from({ length: 65 }, (_, at) => ({ prefix: `10.0.${at}.0/24`, max: 24 }))), /65/);
+});
+
+test("a request of too many parts is told all limits that it may have passed", () => {
+  const said = faultOf(400, { malformed: 12 });
+  for (const limit of [/10,000 rows or routes/, /1000 changes/, /64 prefixes/, /16 SLURM files/]) assert.match(said, limit);
 });
