@@ -27,7 +27,7 @@ use Rattle.store_tables.specs.Cells.{number_cell, family_number, address_bytes, 
 use Rattle.store_tables.specs.TablesHold.{HoldsPart, holding_part}
 use Rattle.store_tables.specs.declared.holding.TheConstants.{SELECT_OVERLAP}
 use Rattle.store_read.specs.Loads.{MeetsSome}
-use Rattle.store_tables.proofs.Addresses.{addresses_in_order}
+use Rattle.store_tables.proofs.AddressBytes.{addresses_in_order}
 use Rattle.store_tables.proofs.SomeRow.{of_some, in_table}
 use Rattle.store_tables.proofs.Selecting.{picks, first_shown}
 use Rattle.store_transactions.proofs.QueryLemmas.{reads_desk}

@@ -30,7 +30,7 @@ use Rattle.store_tables.specs.Cells.{number_cell, family_number, address_bytes, 
 use Rattle.store_tables.specs.TablesHold.{HoldsPart, holding_part, is_name_of}
 use Rattle.store_tables.specs.declared.holding.TheConstants.{SELECT_RUN_BELOW}
 use Rattle.store_read.specs.steps.Below.{IsRunBelow, IsRowBelow}
-use Rattle.store_tables.proofs.Addresses.{addresses_in_order}
+use Rattle.store_tables.proofs.AddressBytes.{addresses_in_order}
 use Rattle.store_tables.proofs.PartLemmas.{name_of-true, name_of_itself}
 use Rattle.store_tables.proofs.SomeRow.{has_permuted, of_some, in_table}
 use Rattle.store_tables.proofs.Selecting.{from_table, picks, outputs}

@@ -3,7 +3,7 @@ use Rattle.store_tables.proofs.Vocabulary.{◌≡◌, ℕ, pos, ◌<◌, ◌^◌
 use Rattle.std.proofs.lemmas.Bool.Decides.{nat_tests}
 use Rattle.sqlite_sql.specs.Ops.{unary}
 use Rattle.store_tables.specs.declared.exception.Exception.TheVariants.{Filter as FilterOf}
-use Rattle.store_tables.proofs.Addresses.{addresses_in_order}
+use Rattle.store_tables.proofs.AddressBytes.{addresses_in_order}
 use Rattle.store_tables.proofs.Inserting.{either, cast_null}
 
 pub cast_number : (n : ℕ) → cast Integer (number_cell n) ≡ number_cell n

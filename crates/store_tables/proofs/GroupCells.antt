@@ -1,6 +1,6 @@
 -- Rows of entries as SQL orders them: by number, family, first address and length.
 use Rattle.store_tables.proofs.Vocabulary.{◌≡◌, ℕ, ◌<◌, ◌^◌, pos, Ordering, Less, nat_cmp, int_cmp, inl, inr, sym, ap, ap₂, subst, ◌∙◌, arith, ordering_reverse, ordering_then, cases_lt, int_cmp_total, nat_cmp_total, tied_itself, ints, Row, column, value_cmp, value_cmp-Blob, value_cmp-Int, family_cmp, Family, V4, V6, EntryRow, address_bytes, entry_cells, family_number, number_cell}
-use Rattle.store_tables.proofs.Addresses.{addresses_in_order}
+use Rattle.store_tables.proofs.AddressBytes.{addresses_in_order}
 use Rattle.store_tables.proofs.GroupOrder.{entry_row_cmp}
 
 int_less : (m n : ℕ) → m < n → int_cmp (pos m) (pos n) ≡ Less

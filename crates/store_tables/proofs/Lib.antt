@@ -1,6 +1,5 @@
 pub mod Actions
 pub mod AddressBytes
-pub mod Addresses
 pub mod CellLemmas
 pub mod CellsOnce
 pub mod Childless
