@@ -9,7 +9,8 @@ def reason:
     elif .status == "401" and .caller != "" then "a wrong password"
     elif .status == "429" then "too many requests"
     elif .status == "403" and .desk == "" then "a page of another site"
-    elif (.desk | tonumber? // 0) > 5 then "the desk was held"
+    # With wait.conf it has a time for each try, as in "0.000 : 9.100".
+    elif ([.desk | scan("[0-9.]+") | tonumber] | max // 0) > 5 then "the desk was held"
     else empty end;
 # The caller of a 401 may have line ends, which stay as in the log.
 "\(.time) \(reason): \(.status) \(.caller | tojson[1:-1]) \(.method) \(.path)"
