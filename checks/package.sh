@@ -540,8 +540,8 @@ AS64496,2001:db8::/32,48
 # Two more desks, by OPERATIONS.md.
 desks() {
     shell "$(block 'systemctl enable --now roadesk@east.service')" >"$work/desks"
-    shell "$(block 'systemctl enable --now roadesk@east.service' | sed 's/east/west/g; s/8082/8083/g
-        s/ 127.0.0.1 . 8080/&, 127.0.0.1 . 8082/g')" >>"$work/desks"
+    shell "$(block 'systemctl enable --now roadesk@east.service' | sed 's/east/west/g; s/8082/8083/g')" \
+        >>"$work/desks"
     expect 'desks: all three are active' "$(shell 'systemctl is-active roadesk roadesk@east roadesk@west \
         roadesk-day@east.timer roadesk-probe@west.timer')" 'active
 active
