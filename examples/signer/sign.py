@@ -207,13 +207,20 @@ def write_manifest(authority, updates, valid):
     files = {file.name: file.read_bytes() for file in authority.folder.iterdir() if file.name != name}
     content = der.manifest(authority.state["manifest"], *updates, files)
     inherit = "sbgp-ipAddrBlock = critical,IPv4:inherit,IPv6:inherit\nsbgp-autonomousSysNum = critical,AS:inherit"
-    signed = sign(authority, name, authority.next_serial(), valid, MANIFEST, inherit, content)
-    (authority.folder / name).write_bytes(signed)
+    serial = authority.next_serial()
+    (authority.folder / name).write_bytes(sign(authority, name, serial, valid, MANIFEST, inherit, content))
+    authority.state["listed"] = {"serial": serial, "from": stamp(valid[0]), "until": stamp(valid[1])}
 
 
 def write_lists(authority, moment):
     """What it revoked, and then the manifest: the last of what it writes."""
-    authority.state["manifest"] += 1
+    state = authority.state
+    state["manifest"] += 1
+    if "listed" in state:
+        # The manifest before is revoked (RFC 9286 section 5.1). What ended is on a list made later (RFC 5280 section
+        # 3.3), and on none after it.
+        state["revoked"] = [one for one in state["revoked"] if max(one[1:]) >= state["listed"]["from"]]
+        authority.revoke(state["listed"], moment)
     days = moment, moment + datetime.timedelta(DAYS["lists"])
     write_revoked(authority, *days)
     write_manifest(authority, days, days)
