@@ -128,9 +128,10 @@ class Authority:
         self.certificate, self.certificate_uri = now / "repository" / at, f"{HOST}/{at}"
 
     def make(self):
-        """Its folder and its key."""
+        """Its folder, and its key if it never had one."""
         self.folder.mkdir(parents=True)
-        make_key(self.key)
+        if not self.key.exists():
+            make_key(self.key)
 
     def next_serial(self):
         self.state["serial"] += 1
@@ -269,10 +270,14 @@ def follow_space(anchor, authority, space, day, moment):
 
 
 def retire(anchor, authority, moment):
-    """A holder without space has no authority: no resources, no certificate."""
-    anchor.revoke(authority.state["certificate"], moment)
+    """A holder without space has no certificate, and publishes nothing. Its key and its state are kept: with space
+    again it has the same name and place, where numbers go on and what was signed before is revoked."""
+    anchor.revoke(authority.state.pop("certificate"), moment)
+    objects = authority.state["objects"]
+    while objects:
+        authority.revoke(objects.popitem()[1], moment)
     shutil.rmtree(authority.folder)
-    for file in (authority.key, authority.pem, authority.certificate):
+    for file in (authority.pem, authority.certificate):
         file.unlink()
     print(f"{authority.name}: revoked")
 
@@ -295,11 +300,12 @@ def follow(snapshot, now, states, day):
     moment = next_moment(anchor.state, day)
     held = {holder for holder in snapshot if snapshot[holder]["space"]}
     for holder in sorted(set(states) - held - {ANCHOR}):
-        retire(anchor, Authority(now, holder, states.pop(holder)), moment)
+        if "certificate" in states[holder]:
+            retire(anchor, Authority(now, holder, states[holder]), moment)
     with concurrent.futures.ThreadPoolExecutor(os.cpu_count()) as pool:
         for holder in sorted(held):
             authority = Authority(now, holder, states.setdefault(holder, new_state()))
-            if not authority.key.exists():
+            if not authority.folder.exists():
                 authority.make()
             follow_space(anchor, authority, snapshot[holder]["space"], day, moment)
             follow_authorizations(authority, snapshot[holder]["authorizations"], moment, pool)
