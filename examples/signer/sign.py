@@ -333,9 +333,10 @@ def main(snapshot_file, tree, day):
     if states and day.isoformat()[:10] < states[ANCHOR]["made"][:10]:
         sys.exit(f"sign.py: the last run was of {states[ANCHOR]['made'][:10]}")
     made = pathlib.Path(tempfile.mkdtemp(prefix="made-", dir=tree))
-    made.chmod(0o755)
     if now.exists():
+        # Nobody else may enter yet: a copied key gets its mode after its octets.
         shutil.copytree(now, made, dirs_exist_ok=True)
+    made.chmod(0o755)
     try:
         follow(snapshot, made, states, day)
         (made / "state.json").write_text(json.dumps(states, indent=1), encoding="ascii")
