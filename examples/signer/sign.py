@@ -19,11 +19,12 @@ while its content and its days are. Lists of what was revoked (RFC 5280) and man
 run and hold for two days, so it has to run each day. Nothing is judged here: that a ROA lies within the holder's
 space is for the validators to see.
 
-Needs openssl, 3.0 or later. Prints what it signed and revoked. Ends with 1 where openssl failed or DAY lies before that
-of the run before; TREE/now then stays as it was.
+Needs openssl, 3.0 or later. Prints what it signed and revoked. Ends with 1 where openssl failed, another run in TREE
+has not ended or DAY lies before that of the run before; TREE/now then stays as it was.
 """
 import concurrent.futures
 import datetime
+import fcntl
 import ipaddress
 import json
 import os
@@ -313,6 +314,14 @@ def follow(snapshot, now, states, day):
     write_lists(anchor, moment)
 
 
+def lock(tree):
+    """Until the process ends: another run would remove what this one makes, and sign under the same numbers."""
+    try:
+        fcntl.flock(os.open(tree, os.O_RDONLY), fcntl.LOCK_EX | fcntl.LOCK_NB)
+    except BlockingIOError:
+        sys.exit(f"sign.py: another run in {tree} has not ended")
+
+
 def publish(tree, made):
     """`now` becomes the folder that was made, at once."""
     link = tree / "next"
@@ -329,6 +338,7 @@ def main(snapshot_file, tree, day):
     tree, day = pathlib.Path(tree).absolute(), day_time(day)
     now = tree / "now"
     tree.mkdir(exist_ok=True)
+    lock(tree)
     states = json.loads((now / "state.json").read_text(encoding="ascii")) if now.exists() else {}
     if states and day.isoformat()[:10] < states[ANCHOR]["made"][:10]:
         sys.exit(f"sign.py: the last run was of {states[ANCHOR]['made'][:10]}")
