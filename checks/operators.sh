@@ -1,7 +1,7 @@
 #!/usr/bin/env bash
 # Whether what operators use beside the program does as the guide says: routes.sh on tables that BIRD wrote,
 # normalize.py on SLURM files of others, krill-delta.py on exports, fetch.py on a listing and behind a limit,
-# sign.py in a folder with others, and alarms.jq on a name that is no user's.
+# sign.py in a folder with others and twice at once, and alarms.jq on a name that is no user's.
 #
 #     operators.sh [ROUTES]      (1,000,000 if left out)
 #
@@ -269,6 +269,22 @@ sign.publish(tree, tree / "made-now")' 2>&1
     expect 'sign.py: what it removes' "$(cd tree && echo *), $(readlink tree/now)" 'made-now now other, made-now'
 }
 
+# Keys are copied while nobody else may enter. A second run is refused: here of the process that has the lock.
+only_one_run() {
+    echo '{}' | tee none.json >tree/now/state.json
+    expect 'sign.py: a run, and a second at once' "$(PYTHONPATH=$examples/signer python3 -B -c '
+import sign
+copytree, sign.follow = sign.shutil.copytree, lambda *_: None
+def copy(now, made, **words):
+    print(oct(made.stat().st_mode)[-3:])
+    copytree(now, made, **words)
+sign.shutil.copytree = copy
+for _ in range(2):
+    sign.main("none.json", "tree", "2026-03-01")' 2>&1; stat -c %a tree/now/)" "700
+sign.py: another run in $PWD/tree has not ended
+755"
+}
+
 # Whoever has no password may send any name.
 alarms() {
     expect 'alarms: a name with a line end' "$(jq -r -f "$examples/alarms.jq" <<'END'
@@ -287,5 +303,6 @@ deltas
 listed_space
 after_refusals
 published
+only_one_run
 alarms
 end

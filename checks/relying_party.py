@@ -8,6 +8,7 @@ import ipaddress
 import json
 import pathlib
 import random
+import re
 import shutil
 import subprocess
 import sys
@@ -268,6 +269,23 @@ def change(desk, tomorrow):
     desk.create("beta", 64497, [(MOVED, 24)], "1970-01-01", tomorrow)
 
 
+def return_space(relying, snapshot, plain, tree):
+    """One holder, with two authorizations, loses its space and gets it back: numbers go on, and all is revoked that was
+    signed before, manifests too."""
+    copy = shutil.copytree(tree, relying.work / "away", symlinks=True)
+    relying.sign({}, copy)
+    relying.expect("without any space", relying.validate(copy), set())
+    relying.sign(snapshot, copy)
+    relying.expect("with space again", relying.validate(copy), plain)
+    for name, expected in (("alpha", [2, 1, 2, 3]), ("TA", [3, 2, 3, 4])):
+        file = copy / f"now/repository/repo/{name}/{name}.crl"
+        text = run("openssl", "crl", "-inform", "DER", "-in", file, "-noout", "-text")
+        found = [int(number, 16) for number in re.findall(r"Number:\s+([0-9A-F]+)", text)]
+        if found != expected:
+            relying.failed = True
+            print(f"{name}.crl has the number {found[0]} and the serials {found[1:]}, not those of {expected}")
+
+
 def contents_of(snapshot, holder):
     """The numbers of the holder's authorizations of one short prefix, with their contents."""
     terms = snapshot[holder]["authorizations"]
@@ -342,7 +360,8 @@ def main(program, top, work):
     try:
         desk.serve(days[1])
         open_whole(desk, days[0])
-        relying.round("the prefixes of length 0", desk, tree)
+        snapshot, plain, _ = relying.round("the prefixes of length 0", desk, tree)
+        return_space(relying, snapshot, plain, tree)
         desk.serve(days[1])
         fill(desk, days)
         before = relying.round("some 300 authorizations", desk, tree)[0]

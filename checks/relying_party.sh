@@ -8,9 +8,9 @@
 # families, AS numbers where their octets end, AS 0, up to 64 prefixes, and prefixes of both families. Some first days
 # are to come, and some last days are past. They are signed, and both validate them without a network. Then some are
 # withdrawn and amended and a prefix is transferred; what changed is signed, and they validate again. fort also applies
-# the SLURM files that the desk has. Last come three trees that each has to refuse. They have a ROA with one bit
-# changed, one beyond its holder's space, and a manifest that is stale while all else is in date. Neither's status says
-# so: the VRPs do.
+# the SLURM files that the desk has. A holder whose space went and came back has rising numbers, and all is revoked that
+# was signed before. Last come three trees that each has to refuse. They have a ROA with one bit changed, one beyond its
+# holder's space, and a manifest that is stale while all else is in date. Neither's status says so: the VRPs do.
 #
 # The validators read more spellings of a content than the desk writes. So this shows that they read each content as the
 # desk means it, not that no other octets are read so.
