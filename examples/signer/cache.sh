@@ -4,7 +4,8 @@
 #
 #     cache.sh TREE CACHE
 #
-# CACHE is made anew. Then, as a user who may write to FOLDER (as root, rpki-client becomes the user _rpki-client):
+# CACHE is made anew. Then, as a user who may write to FOLDER, which rpki-client does not make (as root, it becomes the
+# user _rpki-client):
 #
 #     rpki-client -n -c -d CACHE -t TREE/now/ta.tal FOLDER          # writes FOLDER/csv
 #     fort --mode=standalone --work-offline --tal=TREE/now/ta.tal --local-repository=CACHE --output.roa=FOLDER/fort.csv
