@@ -32,7 +32,7 @@ sent() {
 check_lines() {
     blocks jsonl
     [ -s "$work/1.jsonl" ] || fail 'FORMATS.md has no lines'
-    awk 'NR % 2' "$work/1.jsonl" | "$program" script --charter "$charter" >"$work/replied"
+    awk 'NR % 2' "$work/1.jsonl" | "$program" script --charter "$charter" >"$work/replied" || return
     awk 'NR % 2 == 0' "$work/1.jsonl" | diff - "$work/replied"
 }
 
@@ -75,7 +75,7 @@ ask() {
     local connection
     exec {connection}<>"/dev/tcp/127.0.0.1/$2" || return
     sent "$work/$1.http" >&"$connection"
-    tr -d '\r' <&"$connection"
+    cat <&"$connection"
     exec {connection}>&-
 }
 
@@ -90,11 +90,16 @@ check_messages() {
     server=$!
     wait_for "$port" "$server" || return
     for block in $(seq 1 2 "$count"); do
-        ask "$block" "$port" | diff "$work/$((block + 1)).http" - >"$work/differs" && continue
+        # A response ends with a line feed.
+        ask "$block" "$port" | diff <(sent "$work/$((block + 1)).http" && echo) - >"$work/differs" && continue
         echo "$(head -n 1 "$work/$block.http"):"
         cat "$work/differs"
         differs=1
     done
+    if [ "$differs" = 0 ] && ! { timeout 60 tail --pid="$server" -f /dev/null && wait "$server"; }; then
+        echo 'the program does not end after so many connections, or not with status 0'
+        differs=1
+    fi
     return "$differs"
 }
 
