@@ -40,6 +40,8 @@ for set in $sets; do
     done
 done >"$work/times"
 
+# The last answer has the 10,000 VRPs.
+[ "$(tail -n 1 "$work/0-1-101.out" | grep -o '"asn":' | wc -l)" = 10000 ] || fail 'other answers'
 for set in $sets; do
     cmp -s "$work/0-1-101.out" "$work/$set-101.out" || fail 'other answers'
 done
