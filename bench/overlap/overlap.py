@@ -36,7 +36,7 @@ def seconds(program, charter, text, answer):
     start = time.perf_counter()
     words = [program, "script", "--charter", charter]
     said = subprocess.run(words, input=text, capture_output=True, text=True, check=True)
-    if set(said.stdout.splitlines()) != {answer}:
+    if said.stdout.splitlines() != [answer] * text.count("\n"):
         sys.exit(f"overlap.py: {said.stdout[:80]}")
     return time.perf_counter() - start
 
