@@ -73,8 +73,7 @@ refuse_each() {
     local number unavailable early=0
     for number in $(seq 100000); do
         answer "$number"
-        [ -e "$work/refused" ] || break
-        if ended_early; then
+        if [ -e "$work/refused" ] && ended_early; then
             early=$((early + 1))
             continue
         fi
@@ -84,8 +83,11 @@ refuse_each() {
             cat "$work/replies" "$work/error"
             return 1
         fi
+        # Where none is refused all are right.
+        [ -e "$work/refused" ] || break
         seen[${unavailable:-0}]=$((${seen[${unavailable:-0}]:-0} + 1))
     done
+    [ -z "$unavailable" ] || fail 'a reply is Unavailable, and no allocation was refused'
     counted=$((number - 1))
     [ "$counted" -gt 0 ] || fail 'no allocation of the program was refused'
     echo "each of $counted allocations of the program was refused in turn: it ended at its start for $early of them, no"
