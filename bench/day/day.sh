@@ -71,10 +71,10 @@ ask() {
 # What is asked: an authorization by a caller without grants, which the desk denies.
 question=/holders/h0/auths/1
 
-# keep_asking: a line for each request to the first front, until one is answered by the desk.
+# keep_asking: a line for each request to the first front, until one gets something else than 502.
 keep_asking() {
-    local line
-    until [[ ${line:-} == 403* ]]; do
+    local line=502
+    while [[ $line == 502* ]]; do
         line=$(curl -s -u noc:secret -m 600 -o /dev/null -w '%{http_code} %{time_total}' \
             "http://127.0.0.1:$front_port$question")
         echo "$line"
