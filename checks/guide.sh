@@ -166,7 +166,9 @@ done
 tell_missing
 export work blocks CURL_HOME=$work
 export -f run_blocks wait_for_desks listens
-timeout 600 bash -c run_blocks
+# In the background, where it is ended with the script.
+timeout 600 bash -c run_blocks &
+wait $!
 
 for block in $(seq "$blocks"); do
     verdict=$(judge "$block") || failed=1
