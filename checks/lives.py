@@ -374,9 +374,13 @@ class Check:
         subprocess.run([self.program, "init", "--db", self.db, "--charter", charter], check=True)
         commands = [command for client in self.clients for command in client.rows.setup()]
         server = self.serve(self.db, self.port, len(commands))
-        replies = [self.ask(self.port, command) for command in commands]
+        for command in commands:
+            reply = self.ask(self.port, command)
+            if reply != command.reply:
+                server.kill()
+                return [f"{command}\nfound {reply}"]
         server.wait()
-        return [f"{command}\nfound {reply}" for command, reply in zip(commands, replies) if reply != command.reply]
+        return []
 
     def expected(self, kept=None):
         rows = {("meta", "schema", 2), ("operator", "reg"), ("pool", 4, blob(POOL), 8)}
