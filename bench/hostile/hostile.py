@@ -152,6 +152,7 @@ def seconds_of(process):
 def ask(server, port, head, caller, body):
     client = connected(port, server)
     if not client:
+        server.kill()
         sys.exit("hostile.py: the program does not listen")
     got, fault = exchanged(client, request(head, caller, body))
     return got.decode() + (f"[{fault}]" if fault else "")

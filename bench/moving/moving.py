@@ -75,6 +75,7 @@ def first_answer(program, path):
     client = connected(port, desk, seconds=600)
     response = exchanged(client, request("GET /holders/h000/auths", "nobody"))[0] if client else b""
     if not response.startswith(b"HTTP/1.1 403 "):
+        desk.kill()
         sys.exit("moving.py: the desk did not answer")
     seconds = time.perf_counter() - start
     usage = os.wait4(desk.pid, 0)[2]
