@@ -14,6 +14,7 @@ And a second desk that is opened while the first one goes on.
 
 Ends with 1 where something else is found, or where of the commands without a response none was kept or none was lost.
 """
+import atexit
 import os
 import shutil
 import struct
@@ -122,6 +123,7 @@ class Pair(Check):
         environment = {**os.environ, **preloaded} if db == self.db else None
         with open(self.folder / "errors", "w") as errors:
             server = subprocess.Popen([self.program, *serve_words(db, port, count)], stderr=errors, env=environment)
+        atexit.register(server.kill)
         # Most lives are counted from when the desk listens.
         if self.chance.random() < 0.9:
             wait_for(port, server)

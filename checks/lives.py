@@ -10,6 +10,7 @@ them. Then the desk is started again on its own files.
 
 Ends with 1 where something else is found, or where of the commands without a response none was kept or none was lost.
 """
+import atexit
 import copy
 import json
 import random
@@ -358,7 +359,9 @@ class Check:
 
     def serve(self, db, port, count):
         with open(self.folder / "errors", "w") as errors:
-            return subprocess.Popen([self.program, *serve_words(db, port, count)], stderr=errors)
+            server = subprocess.Popen([self.program, *serve_words(db, port, count)], stderr=errors)
+        atexit.register(server.kill)
+        return server
 
     def errors(self):
         return (self.folder / "errors").read_text()
@@ -393,7 +396,8 @@ class Check:
         clients = self.clients[:self.chance.randint(1, CLIENTS)]
         is_over = threading.Event()
         server = self.serve(self.db, self.port, count)
-        threads = [threading.Thread(target=client.run, args=(self.port, is_over)) for client in clients]
+        threads = [threading.Thread(target=client.run, args=(self.port, is_over), daemon=True)
+                   for client in clients]
         for thread in threads:
             thread.start()
         time.sleep(self.chance.uniform(0, LONGEST))

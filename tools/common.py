@@ -5,6 +5,7 @@ A script that is not started by one in bash puts this folder on its path before 
 import os
 import pathlib
 import shutil
+import signal
 import socket
 import sys
 import time
@@ -21,6 +22,9 @@ SCHEMA = (TOP / "tools/tables.sql").read_text(encoding="ascii").splitlines()
 NEW_TABLES = [line for line in SCHEMA if line.startswith(("CREATE TABLE claim ", "CREATE TABLE entry "))]
 # The names of what was expected and not found.
 failures = []
+
+# A script that is asked to end does so as by sys.exit, so that it first ends what it started.
+signal.signal(signal.SIGTERM, lambda *_: sys.exit(1))
 
 
 def expect(name, found, expected):

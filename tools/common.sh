@@ -91,9 +91,10 @@ need_python() {
 }
 
 # run_python SCRIPT WORD...: runs a part of the script that is in Python, which ends as a script does. `python` may name
-# another than python3.
+# another than python3. It is in the background, where it is ended with the script.
 run_python() {
-    "${python:-python3}" -B "$@"
+    "${python:-python3}" -B "$@" &
+    wait $!
     case $? in
         0) ;;
         77) left_out=1 ;;
