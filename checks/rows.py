@@ -8,7 +8,7 @@ try --test` runs the test of that crate: it has to fail with a message that has 
 passes without the edit is for `./roadesk test`.
 
 Needs rt. Ends with 0 where each row failed, with 1 where one did not, a test did not run or an edit could not be
-planted, and with 77, after a line that says so, where there is no rt.
+planted or none names a row, and with 77, after a line that says so, where there is no rt.
 """
 import pathlib
 import re
@@ -63,15 +63,18 @@ def main():
     need_rt()
     names = sys.argv[1:]
     edits = [TOP / "crates" / crate / "must-fail" / f"{edit}.edit" for crate, edit in (it.split("/") for it in names)]
-    failed = 0
+    failed = tried = 0
     for edit in edits or sorted(TOP.glob("crates/*/must-fail/*.edit")):
         named = NAMED.search(edit.read_text())
         if named or names:
             with tempfile.TemporaryDirectory(prefix="roadesk-rows-") as work:
                 said = verdict(edit, named, pathlib.Path(work)) if named else "names no row"
+            tried += 1
             failed += said != "fails"
             about = ", ".join(named.groups()) if named else ""
             print(f"{edit.parent.parent.name}/{edit.stem}: {about}: {said}", flush=True)
+    if not tried:
+        sys.exit("rows.py: no edit names a row")
     sys.exit(failed > 0)
 
 
