@@ -10,6 +10,7 @@ use addr::RoaPrefix;
 use registry::RoaPrefixes;
 use sqlite::Row;
 use std::alloc::Global;
+use std::mem;
 use store_tables::{Claim, EntryRow, FromRow, HasEntries, OfHolder};
 use store_transactions::{StoreFault, TakeRow};
 
@@ -31,17 +32,6 @@ fn entry_at(claims: &[OfHolder<Claim>], place: usize, row: &OfHolder<EntryRow>) 
     claim.entry_if(row)
 }
 
-/// The entries with one more.
-fn with_entry(mut entries: Vec<RoaPrefix>, entry: RoaPrefix) -> Result<Vec<RoaPrefix>, StoreFault>
-    ensures more { IfOk result (λ now. now.items ≡ entries.items ++ entry ∷ []) }
-    ensures no_schema { result ≢ Err StoreFault.Schema }
-{
-    let Ok(()) = entries.push(entry) else {
-        return Err(StoreFault::Database);
-    };
-    Ok(entries)
-}
-
 impl Joined {
     /// The walk before any row.
     pub(crate) fn start(alloc: Global, claims: Vec<OfHolder<Claim>>) -> Joined
@@ -57,8 +47,31 @@ impl Joined {
         }
     }
 
+    /// The walk with one more entry of the next claim.
+    fn with(mut self, entry: RoaPrefix) -> Result<Joined, StoreFault>
+        ensures place { IfOk result (λ now. (now.claims ≡ self.claims)
+            × (now.passed ≡ self.passed) × (now.fits ≡ self.fits)) }
+        ensures more { IfOk result (λ now. now.found.items ≡ self.found.items ++ entry ∷ []) }
+        ensures no_schema { result ≢ Err StoreFault.Schema }
+    {
+        let Ok(()) = self.found.push(entry) else {
+            return Err(StoreFault::Database);
+        };
+        Ok(self)
+    }
+
+    /// The walk of which no authorizations come.
+    fn unfit(mut self) -> Joined
+        ensures { (result.claims ≡ self.claims) × (result.passed ≡ self.passed)
+            × (result.found ≡ self.found) × (result.fits ≡ false) }
+    {
+        self.fits = false;
+        self
+    }
+
     /// The walk after the row of one more entry.
-    fn pass(self, row: &OfHolder<EntryRow>) -> Result<Joined, StoreFault>
+    fn pass(mut self, row: &OfHolder<EntryRow>) -> Result<Joined, StoreFault>
+        requires { self.fits ≡ true }
         ensures claims { IfOk result (λ now. now.claims ≡ self.claims) }
         ensures walks { IfOk result (λ now. (entries : List (OfHolder EntryRow))
             → WalkStands self.claims.items entries (drop self.passed self.claims.items)
@@ -67,57 +80,21 @@ impl Joined {
             now.fits) }
         ensures no_schema { result ≢ Err StoreFault.Schema }
     {
-        let Joined {
-            alloc,
-            claims,
-            passed,
-            found,
-            fits: _,
-        } = self;
-        if passed >= claims.len() {
-            return Ok(Joined {
-                alloc,
-                claims,
-                passed,
-                found,
-                fits: false,
-            });
+        if self.passed >= self.claims.len() {
+            return Ok(self.unfit());
         }
-        if let Some(entry) = entry_at(&claims, passed, row) {
-            return Ok(Joined {
-                alloc,
-                claims,
-                passed,
-                found: with_entry(found, entry)?,
-                fits: true,
-            });
+        if let Some(entry) = entry_at(&self.claims, self.passed, row) {
+            return self.with(entry);
         }
-        let none = Vec::new(alloc);
+        let found = mem::replace(&mut self.found, Vec::new(self.alloc));
         let Some(_) = RoaPrefixes::in_order(found) else {
-            return Ok(Joined {
-                alloc,
-                claims,
-                passed,
-                found: none,
-                fits: false,
-            });
+            return Ok(self.unfit());
         };
-        let Some(entry) = entry_at(&claims, passed + 1, row) else {
-            return Ok(Joined {
-                alloc,
-                claims,
-                passed,
-                found: none,
-                fits: false,
-            });
+        let Some(entry) = entry_at(&self.claims, self.passed + 1, row) else {
+            return Ok(self.unfit());
         };
-        Ok(Joined {
-            alloc,
-            claims,
-            passed: passed + 1,
-            found: with_entry(none, entry)?,
-            fits: true,
-        })
+        self.passed += 1;
+        self.with(entry)
     }
 
     /// Whether the claims made authorizations with the rows.
@@ -127,23 +104,16 @@ impl Joined {
             → MatchBool result (MakeOfRows self.claims.items rows)
             (MakeNoneOfRows self.claims.items rows) }
     {
-        let Joined {
-            alloc: _,
-            claims,
-            passed,
-            found,
-            fits,
-        } = self;
-        if !fits {
+        if !self.fits {
             return false;
         }
-        if passed >= claims.len() {
+        if self.passed >= self.claims.len() {
             return true;
         }
-        let Some(_) = RoaPrefixes::in_order(found) else {
+        let Some(_) = RoaPrefixes::in_order(self.found) else {
             return false;
         };
-        passed + 1 >= claims.len()
+        self.passed + 1 >= self.claims.len()
     }
 }
 
