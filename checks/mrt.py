@@ -3,6 +3,7 @@
     mrt.py COUNT
 
 Route K has a prefix of its own, of 24 or 48 bits, and an origin of 64496 to 64511; each tenth path ends with an AS_SET.
+Each seventh route has a path identifier (RFC 8050), as of a neighbour with add-path.
 """
 import struct
 import sys
@@ -21,11 +22,13 @@ def attributes(place):
 
 
 def rib(place):
-    """RIB_IPV4_UNICAST or RIB_IPV6_UNICAST, with the one entry of the peer."""
+    """RIB_IPV4_UNICAST or RIB_IPV6_UNICAST, or with _ADDPATH, with the one entry of the peer."""
     number = struct.pack(">I", place // 2)
     kind, prefix = (4, b"\x30\x20\x01" + number) if place % 2 else (2, b"\x18" + number[1:])
     made = attributes(place)
-    return record(kind, struct.pack(">I", place) + prefix + struct.pack(">HHIH", 1, 0, 0, len(made)) + made)
+    identifier = struct.pack(">I", 1) if place % 7 == 0 else b""
+    entry = struct.pack(">HHI", 1, 0, 0) + identifier + struct.pack(">H", len(made)) + made
+    return record(kind + 6 if identifier else kind, struct.pack(">I", place) + prefix + entry)
 
 
 peer = struct.pack(">B4s4sI", 2, b"\xc0\0\2\2", b"\xc0\0\2\2", 64512)

@@ -92,6 +92,31 @@ tables_of_bird() {
 203.0.113.128/25,AS64496,NotFound'
 }
 
+# What routes.sh makes of the table `show route all` of a BIRD with routes of other kinds, and of one of bgpdump, which
+# spells some addresses of IPv6 otherwise than RFC 5952.
+other_tables() {
+    local prefix
+    printf '%s\n' 'Table master6:' '2001:db8::/32        unicast [outer 12:00:00.000] * (100) [AS64501i]' \
+        $'\tBGP.as_path: 64500 64501' '' 'Table vt:' '64500:1 198.51.100.0/25 blackhole [vpn 12:00:00.000] * (200)' \
+        $'\tBGP.as_path: 64511' '' 'Table ft:' 'flow4 { dst 198.51.100.0/24; }  [flows 12:00:00.000] * (200)' \
+        $'\tBGP.as_path: 64510' >other.table
+    expect 'vpn4 and flow4' "$("$examples/routes.sh" bird 64496 <other.table)" 'prefix,origin
+2001:db8::/32,AS64501'
+    for prefix in ::ffff:192.0.2.0/120 ::192.0.2.0/120 ::0.0.2.0/120 2001:db8::1:1:1:1:1/128 ::1:1:1:1:1:1:1/128 \
+        2001:db8:1:1:1:1:1::/112 2001:db8:0:0:1::/80 ::/0; do
+        echo "TABLE_DUMP2|1772323200|B|192.0.2.2|64512|$prefix|64512 64500|IGP|2001:db8::1|0|0||NAG||"
+    done >other.table
+    expect 'spellings of bgpdump' "$("$examples/routes.sh" mrt 64496 <other.table)" 'prefix,origin
+0:1:1:1:1:1:1:1/128,AS64500
+2001:db8:0:0:1::/80,AS64500
+2001:db8:0:1:1:1:1:1/128,AS64500
+2001:db8:1:1:1:1:1:0/112,AS64500
+::/0,AS64500
+::200/120,AS64500
+::c000:200/120,AS64500
+::ffff:c000:200/120,AS64500'
+}
+
 # Of three routes in turn, one has a VRP of its origin, one a VRP of AS 64512, which is no origin, and one has none.
 many_routes() {
     local status
@@ -99,6 +124,8 @@ many_routes() {
     SECONDS=0
     bgpdump -m many.mrt 2>>mrt.log | "$examples/routes.sh" mrt 64496 >many.csv
     expect "routes of a dump" "$(wc -l <many.csv)" $((count + 1))
+    expect 'their origins' "$(tail -n +2 many.csv | cut -d , -f 2 | sort -u | paste -sd ' ')" \
+        "$(seq -f AS%.0f 64496 64511 | paste -sd ' ') NONE"
     echo "made in $SECONDS s"
     awk -F '[,/]' -v states=many.expected 'BEGIN { print "asn,prefix,maxlength" }
         NR > 1 {
@@ -294,6 +321,7 @@ END
 }
 
 tables_of_bird
+other_tables
 other_words
 many_routes
 other_spellings
