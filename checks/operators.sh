@@ -231,7 +231,7 @@ refused_files() {
 }
 
 deltas() {
-    local header=number,asn,prefix,maxlength,from,until
+    local day header=number,asn,prefix,maxlength,from,until
     printf '%s\n' $header 1,AS64496,192.0.2.0/24,24,2026-01-01,2026-12-31 \
         2,AS64497,192.0.2.0/25,25,2026-03-02,2026-12-31 3,AS64498,2001:db8::/32,48,2026-01-01,2026-03-01 >old.csv
     printf '%s\n' $header 1,AS64496,192.0.2.0/24,26,2026-01-01,2026-12-31 \
@@ -241,6 +241,12 @@ deltas() {
 [{"asn":64496,"prefix":"192.0.2.0/24","max_length":24},{"asn":64498,"prefix":"2001:db8::/32","max_length":48}]'
     expect 'no delta' "$("$examples/krill-delta.py" new.csv 2026-03-02 new.csv 2026-03-03 | jq -c .)" \
         '{"added":[],"removed":[]}'
+    for day in '' 20260302 2.3.2026; do
+        "$examples/krill-delta.py" old.csv 2026-03-01 new.csv "$day" 2>&1
+    done >delta
+    expect 'no day' "$(cat delta)" "krill-delta.py: '' is no day
+krill-delta.py: '20260302' is no day
+krill-delta.py: '2.3.2026' is no day"
     expect 'no export' "$("$examples/krill-delta.py" vrps.csv 2026-03-01 new.csv 2026-03-02 2>&1; echo $?)" \
         'krill-delta.py: vrps.csv is no export
 1'
