@@ -6,7 +6,8 @@
 #
 # BIRD and FRR each announce a route whose origin is authorized and one whose origin is not: BIRD a whole prefix of
 # another AS, to FRR and OpenBGPD, FRR a part of one, to BIRD. BIRD and OpenBGPD leave the invalid route out, FRR marks
-# it. They run in a network namespace.
+# it. With the route map of examples/frr.conf FRR leaves it out too, and a route that later VRPs make invalid. They run in
+# a network namespace.
 #
 # Takes half a minute.
 #
@@ -53,6 +54,12 @@ authorize() {
         "{\"asn\":$1,\"prefix\":\"$2\",\"max\":24,\"from\":\"2026-01-01\",\"until\":\"2026-12-31\"}"
 }
 
+write_vrps() {
+    ask noc GET /payloads >vrps.csv || exit 1
+    jq -R -n -c '{roas: [inputs | select(startswith("AS")) | split(",")
+        | {asn: .[0], prefix: .[1], maxLength: (.[2] | tonumber)}]}' vrps.csv >vrps.json.new && mv vrps.json.new vrps.json
+}
+
 make_vrps() {
     printf '%s\n' kind,value operator,reg pool,192.0.2.0/24 pool,198.51.100.0/24 pool,203.0.113.0/24 >charter.csv
     "$program" init --db desk.db --charter charter.csv || exit 1
@@ -66,10 +73,8 @@ make_vrps() {
         ask reg POST /holders/alpha/grants '{"name":"ann","role":"manager","scope":"all","until":"2026-12-31"}'
         authorize 64496 192.0.2.0/24 && authorize 64500 198.51.100.0/24 && authorize 64497 203.0.113.0/24
     } >asked.log || exit 1
-    ask noc GET /payloads >vrps.csv || exit 1
-    jq -R -n -c '{roas: [inputs | select(startswith("AS")) | split(",")
-        | {asn: .[0], prefix: .[1], maxLength: (.[2] | tonumber)}]}' vrps.csv >vrps.json
-    stayrtr -cache vrps.json -bind 127.0.0.1:8282 -metrics.addr '' -checktime=false 2>stayrtr.log &
+    write_vrps
+    stayrtr -cache vrps.json -bind 127.0.0.1:8282 -metrics.addr '' -checktime=false -refresh 1 2>stayrtr.log &
     until_done rtrdump -connect 127.0.0.1:8282 -file routers.json
 }
 
@@ -130,13 +135,29 @@ of_frr() {
         awk '/10[.]0[.]0[.]2 / { print substr($1, 1, 1), $2 }'
 }
 
+# of_frr_is ROUTES
+of_frr_is() {
+    [ "$(of_frr)" = "$1" ]
+}
+
+# As examples/frr.conf says, at the neighbour. The timer would judge all routes again five seconds later.
+judge_in_frr() {
+    {
+        echo 'bgp route-map delay-timer 0'
+        sed -n '/^route-map/,$p' "$top/examples/frr.conf"
+        printf '%s\n' 'router bgp 64497' 'address-family ipv4 unicast'
+        sed -n 's/^! *neighbor ADDRESS/neighbor 10.0.0.2/p' "$top/examples/frr.conf"
+    } >judged.conf
+    vtysh --vty_socket "$work/vty" -f judged.conf >vtysh.log 2>&1 || exit 1
+}
+
 # The prefixes that BIRD has of the other router; with `filtered`, those that it left out.
 of_bird() {
     birdc -s bird.ctl "show route ${1:-} protocol beside" | awk '/AS64497/ { print $1 }' | sort
 }
 
 have_exchanged() {
-    [ "$(of_frr | wc -l)" = 2 ] && [ -n "$(of_bird)" ] && [ -n "$(of_bird filtered)" ]
+    [ "$(of_frr | grep -c "^[IV]")" = 2 ] && [ -n "$(of_bird)" ] && [ -n "$(of_bird filtered)" ]
 }
 
 start_openbgpd() {
@@ -174,4 +195,11 @@ until_done have_filtered
 expect 'OpenBGPD' "$(of_openbgpd in)" '! 192.0.2.0/24
 V 198.51.100.0/24'
 expect 'OpenBGPD takes' "$(of_openbgpd)" 'V 198.51.100.0/24'
+judge_in_frr
+until_done of_frr_is 'V 198.51.100.0/24'
+expect 'FRR takes' "$(of_frr)" 'V 198.51.100.0/24'
+{ ask ann DELETE /holders/alpha/auths/2 && authorize 64499 198.51.100.0/24; } >asked.log || exit 1
+write_vrps
+until_done of_frr_is ''
+expect 'FRR takes after the change' "$(of_frr)" ''
 end
