@@ -243,8 +243,8 @@ deltas() {
         '{"added":[],"removed":[]}'
     for day in '' 20260302 2.3.2026; do
         "$examples/krill-delta.py" old.csv 2026-03-01 new.csv "$day" 2>&1
-    done >delta
-    expect 'no day' "$(cat delta)" "krill-delta.py: '' is no day
+    done >refusals
+    expect 'no day' "$(cat refusals)" "krill-delta.py: '' is no day
 krill-delta.py: '20260302' is no day
 krill-delta.py: '2.3.2026' is no day"
     expect 'no export' "$("$examples/krill-delta.py" vrps.csv 2026-03-01 new.csv 2026-03-02 2>&1; echo $?)" \
