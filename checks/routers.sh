@@ -6,8 +6,8 @@
 #
 # BIRD and FRR each announce a route whose origin is authorized and one whose origin is not: BIRD a whole prefix of
 # another AS, to FRR and OpenBGPD, FRR a part of one, to BIRD. BIRD and OpenBGPD leave the invalid route out, FRR marks
-# it. With the route map of examples/frr.conf FRR leaves it out too, and a route that later VRPs make invalid. They run in
-# a network namespace.
+# it. With the route map of examples/frr.conf FRR leaves it out too, and a route that later VRPs make invalid. They run
+# in a network namespace.
 #
 # Takes half a minute.
 #
@@ -57,7 +57,8 @@ authorize() {
 write_vrps() {
     ask noc GET /payloads >vrps.csv || exit 1
     jq -R -n -c '{roas: [inputs | select(startswith("AS")) | split(",")
-        | {asn: .[0], prefix: .[1], maxLength: (.[2] | tonumber)}]}' vrps.csv >vrps.json.new && mv vrps.json.new vrps.json
+        | {asn: .[0], prefix: .[1], maxLength: (.[2] | tonumber)}]}' vrps.csv >vrps.json.new &&
+        mv vrps.json.new vrps.json
 }
 
 make_vrps() {
