@@ -854,12 +854,12 @@ def check_looks(page):
             wide = page.run("""const change = document.getElementById('change');
                 return change.scrollWidth - change.clientWidth;""")
             expect(f"a change at {width} pixels, {scheme}", max(0, wide), 0)
-            page.put(terms_asn="AS64777", terms_prefix="2001:db8:1::/48")
+            page.put(terms_asn="AS4294967295", terms_prefix="2001:db8:1::/48")
             page.get("terms-prefix").send_keys(Keys.ENTER)
             page.wait("confirm", "Create:")
-            wide = page.run("""const change = document.getElementById('change');
-                return change.scrollWidth - change.clientWidth;""")
-            expect(f"its report at {width} pixels, {scheme}", max(0, wide), 0)
+            wide = page.run("""return ['change', 'terms-asn'].map((name) => document.getElementById(name))
+                .map((box) => Math.max(0, box.scrollWidth - box.clientWidth));""")
+            expect(f"its report and the longest AS number at {width} pixels, {scheme}", wide, [0, 0])
             page.click("cancel")
         for name in PAGES:
             page.page(name)
