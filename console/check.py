@@ -796,11 +796,33 @@ def by_keyboard(page):
     def type_keys(*keys):
         ActionChains(page.driver).send_keys(*keys).perform()
 
+    def uncovered(name):
+        """The name of what is seen in the middle of an element that has the focus."""
+        tab_to(name)
+        return page.run("""const { left, top, width, height } = document.activeElement.getBoundingClientRect();
+            return document.elementFromPoint(left + width / 2, top + height / 2).id;""")
+
     address = page.driver.current_url
     page.run("document.querySelector('.skip').focus()")
     type_keys(Keys.ENTER)
     expect("what skips to the content leaves the address", page.driver.current_url, address)
     expect("and leads there", page.run("return document.activeElement.id"), "main")
+
+    # A browser that shows all twice as large has half the room, and so has a small screen.
+    for width, height in [(640, 400), (360, 640)]:
+        page.width(width, height)
+        tab_to("create")
+        type_keys(Keys.ENTER)
+        names = ["terms-asn", "terms-prefix", "terms-max", "terms-from", "terms-until", "reach-which", "ask-report"]
+        found = [uncovered(name) for name in names]
+        page.put(terms_asn="AS64520", terms_prefix="2001:db8:20::/48")
+        type_keys(Keys.ENTER)
+        page.wait("confirm", "Create:")
+        found += [uncovered(name) for name in names]
+        expect(f"{width} by {height} pixels: the buttons below cover nothing that has the focus", found, names * 2)
+        type_keys(Keys.ESCAPE)
+        expect("Escape leads back to the dialog's button", page.run("return document.activeElement.id"), "create")
+    page.width(1280)
 
     tab_to("holder")
     ActionChains(page.driver).key_down(Keys.CONTROL).send_keys("a").key_up(Keys.CONTROL).perform()
