@@ -983,6 +983,17 @@ def check_offer(page):
     page.wait("confirm", "Create: 1 route becomes Invalid")
     row = page.run("return document.querySelector('#report tbody tr').innerText")
     expect("both states are in one cell", "NotFound → Invalid" in row, True)
+    WebDriverWait(page.driver, 20).until(lambda driver: driver.find_element(By.CSS_SELECTOR, "#report td button"))
+    is_seen = page.run("""const [box, table] = ['report-box', 'report'].map((name) => document.getElementById(name));
+        const offer = table.querySelector('td button');
+        table.style.marginBottom = '50rem';
+        box.scrollTop += offer.getBoundingClientRect().top - box.getBoundingClientRect().top;
+        offer.focus();
+        const { left, top, width, height } = offer.getBoundingClientRect();
+        const seen = document.elementFromPoint(left + width / 2, top + height / 2);
+        table.style.marginBottom = '';
+        return seen === offer;""")
+    expect("the head of the report does not cover the offer that has the focus", is_seen, True)
     press_offer(page, "Authorize 2001:db8:1::/48 from AS64499 too")
     page.wait("confirm", "Create, with 1 further authorization: no route becomes Invalid")
     expect("the report with it", "Today: 1 becomes Valid." in page.text("change-said"), True)
