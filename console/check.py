@@ -949,6 +949,11 @@ def check_address(page):
     page.driver.back()
     expect("Back", [page.get("authorizations").is_displayed(), page.get("routes").is_displayed()], [True, False])
     page.driver.get("about:blank")
+    page.driver.get(f"{ORIGIN}/console/#/delta/authorizations")
+    page.wait("notice", "delta: You have no current grant")
+    expect("a holder of the address that was not opened can be asked for again",
+           page.get("holder").get_attribute("value"), "delta")
+    page.driver.get("about:blank")
     page.driver.get(f"{ORIGIN}/console/#/alpha/authorizations")
     page.wait("authorizations-title", "Authorizations of alpha")
     page.driver.get("about:blank")

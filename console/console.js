@@ -1376,7 +1376,9 @@ async function showPage() {
   for (const other of PAGES) other.hidden = other !== page;
   namePage();
   if (page.id === "payloads") askPayloads();
-  if (name && name !== opening) await openHolder(name);
+  if (!name || name === opening) return;
+  $("holder").value = name;
+  await openHolder(name);
 }
 
 /** The page of a holder gets an address of its own, so that Back leads to the one before. */
