@@ -1076,6 +1076,73 @@ def check_late_reply(page):
     page.wait_day()
 
 
+HOLD = """
+const send = window.fetch;
+const held = [];
+const end = arguments[0];
+window.fetch = async (path, given) => {
+  if (path.endsWith(end)) await new Promise((sent) => { held.push(sent); });
+  return send(path, given);
+};
+window.letGo = () => { window.fetch = send; held.forEach((sent) => sent()); };
+"""
+
+
+def check_last_asked(page):
+    """What was asked for last is what is shown, where the reply to what was asked for before it comes later."""
+    def ask_for(holder):
+        page.put(holder=holder)
+        page.get("holder").send_keys(Keys.ENTER)
+
+    def let_go():
+        page.run("letGo()")
+        time.sleep(0.5)
+
+    terms = {"name": "ann", "role": "auditor", "scope": "all", "until": "2026-12-31"}
+    number = json.loads(curl("reg", "/holders/beta/grants", "-d", json.dumps(terms)))["done"]
+    page.open()
+    page.run(HOLD, "/holders/alpha/auths")
+    ask_for("alpha")
+    ask_for("beta")
+    page.wait("authorizations-title", "Authorizations of beta")
+    let_go()
+    expect("the holder asked for last", page.text("authorizations-title"), "Authorizations of beta")
+    page.run(HOLD, "/holders/alpha/auths")
+    ask_for("alpha")
+    expect("links name the holder that is asked for",
+           page.run("return document.querySelector('nav a[href$=\"/routes\"]').hash"), "#/alpha/routes")
+    let_go()
+    page.wait("authorizations-title", "Authorizations of alpha")
+    page.click("export")
+    page.wait("notice", "alpha.csv is saved")
+    page.driver.back()
+    page.wait("authorizations-title", "Authorizations of beta")
+    expect("what was said of a holder goes with it", page.text("notice"), "")
+    curl("reg", f"/holders/beta/grants/{number}", "-X", "DELETE")
+
+    page.open()
+    page.open_auth(1)
+    page.run(HOLD, "/holders/alpha/auths/1/content")
+    page.click("show-content")
+    page.click("details-close")
+    page.open_auth(2)
+    let_go()
+    expect("no content of another authorization", page.get("content").is_displayed(), False)
+    page.click("details-close")
+
+    page.click("create")
+    page.put(terms_asn="64777", terms_prefix="192.0.2.64/26")
+    page.run(HOLD, "/holders/alpha/whatif")
+    page.get("terms-asn").send_keys(Keys.ENTER)
+    page.put(terms_asn="64778")
+    page.get("terms-asn").send_keys(Keys.ENTER)
+    page.run("letGo()")
+    page.wait("confirm", "Create:")
+    made = page.run("return document.getElementById('report').innerText")
+    expect("a report on the fields as they are", ["AS64777" in made, "AS64778" in made], [False, True])
+    page.click("cancel")
+
+
 def check_first_day(page):
     """The first day of a create is the desk's, whatever day the list is shown for."""
     page.day("day", "2026-10-15")
@@ -1246,6 +1313,7 @@ def main():
         check_offer(manager)
         check_second_of_two(manager)
         check_late_reply(manager)
+        check_last_asked(manager)
         check_first_day(manager)
         manager.open()
         manager.picture("authorizations")
