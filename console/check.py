@@ -715,6 +715,14 @@ def check_failures(page, desk, front):
     page.get("holder").send_keys(Keys.ENTER)
     page.wait("notice", "There was no answer from the desk")
     expect("an unclear end stays, whatever fails afterwards", "may have been made" in page.text("unclear"), True)
+    page.page("payloads")
+    page.wait("payload-count", "There was no answer from the desk")
+    page.put(payload_filter="192")
+    time.sleep(1)
+    expect("where the VRPs did not come that stays said, without old ones",
+           ["There was no answer" in page.text("payload-count"), page.table("payload-rows")], [True, []])
+    page.get("payload-filter").clear()
+    page.page("authorizations")
     desk = start_desk()
     page.driver.find_element(By.CSS_SELECTOR, "#unclear .look").click()
     page.wait("unclear", "it was not made")
@@ -857,7 +865,11 @@ return [...document.querySelectorAll('body *')].filter((node) => node.checkVisib
   const [low, high] = [bright(rgb(getComputedStyle(node).color)), bright(behind(node))]
     .sort((one, other) => one - other);
   return (high + 0.05) / (low + 0.05) < 4.5 ? [node.textContent.slice(0, 40)] : [];
-});
+}).concat([...document.querySelectorAll('[placeholder]')].filter((node) => node.checkVisibility()).flatMap((node) => {
+  const [low, high] = [bright(rgb(getComputedStyle(node, '::placeholder').color)), bright(behind(node))]
+    .sort((one, other) => one - other);
+  return (high + 0.05) / (low + 0.05) < 4.5 ? [node.placeholder] : [];
+}));
 """
 
 
@@ -1208,6 +1220,16 @@ def check_unclear_tasks(page, desk):
     expect("what was looked at does not come again", page.text("unclear"), "")
     page.page("grants")
     page.send("revoke", "Grant 1 at gamma is revoked", revoke_holder="gamma", revoke_number="1")
+    page.put(grant_holder="gamma", grant_name="gus")
+    button = page.driver.find_element(By.CSS_SELECTOR, "#grant button")
+    ActionChains(page.driver).double_click(button).perform()
+    page.wait("grant", "Grant 2 at gamma is made", "output")
+    # The second click of a slow one comes after the answer to the first.
+    page.run("""const second = new MouseEvent('click', { bubbles: true, cancelable: true, detail: 2 });
+        arguments[0].dispatchEvent(second);""", button)
+    time.sleep(0.5)
+    third = curl("reg", "/holders/gamma/grants/3", "-X", "DELETE")
+    expect("a double click makes one grant", third, '{"denied":"number"}\n')
 
 
 def check_slurm_sets(page):
