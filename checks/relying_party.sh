@@ -4,7 +4,7 @@
 #
 #     relying_party.sh
 #
-# relying_party.py makes some 300 authorizations of three holders over HTTP. They have every prefix length of both
+# relying_party.py makes some 330 authorizations of three holders over HTTP. They have every prefix length of both
 # families, AS numbers where their octets end, AS 0, up to 64 prefixes, and prefixes of both families. Some first days
 # are to come, and some last days are past. They are signed, and both validate them without a network. Then some are
 # withdrawn and amended and a prefix is transferred; what changed is signed, and they validate again. fort also applies
