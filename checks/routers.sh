@@ -6,8 +6,8 @@
 #
 # BIRD and FRR each announce a route whose origin is authorized and one whose origin is not: BIRD a whole prefix of
 # another AS, to FRR and OpenBGPD, FRR a part of one, to BIRD. BIRD and OpenBGPD leave the invalid route out, FRR marks
-# it. With the route map of examples/frr.conf FRR leaves it out too, and a route that later VRPs make invalid. They run
-# in a network namespace.
+# it. With the route map of examples/frr.conf FRR leaves it out too, and a route that later VRPs make invalid. Twelve
+# hours after an export StayRTR drops the VRPs, and BIRD and FRR take all routes. They run in a network namespace.
 #
 # Takes half a minute.
 #
@@ -56,8 +56,13 @@ authorize() {
 
 write_vrps() {
     ask noc GET /payloads >vrps.csv || exit 1
-    jq -R -n -c '{roas: [inputs | select(startswith("AS")) | split(",")
-        | {asn: .[0], prefix: .[1], maxLength: (.[2] | tonumber)}]}' vrps.csv >vrps.json.new &&
+    write_json
+}
+
+# As GUIDE.md does.
+write_json() {
+    jq -R -n -c --argjson made "$(stat -c %Y vrps.csv)" '{roas: [inputs | select(startswith("AS")) | split(",") |
+        {asn: .[0], prefix: .[1], maxLength: (.[2] | tonumber), expires: ($made + 43200)}]}' vrps.csv >vrps.json.new &&
         mv vrps.json.new vrps.json
 }
 
@@ -94,7 +99,7 @@ protocol bgp beside {
     local 10.0.0.2 port 17901 as 64500;
     neighbor 10.0.0.3 port 17902 as 64497;
     multihop;
-    ipv4 { import keep filtered; import filter judged; export where source = RTS_STATIC; };
+    ipv4 { import table; import keep filtered; import filter judged; export where source = RTS_STATIC; };
 }
 protocol bgp third {
     local 10.0.0.2 port 17901 as 64500;
@@ -157,6 +162,11 @@ of_bird() {
     birdc -s bird.ctl "show route ${1:-} protocol beside" | awk '/AS64497/ { print $1 }' | sort
 }
 
+# bird_leaves_out PREFIXES
+bird_leaves_out() {
+    [ "$(of_bird filtered)" = "$1" ]
+}
+
 have_exchanged() {
     [ "$(of_frr | grep -c "^[IV]")" = 2 ] && [ -n "$(of_bird)" ] && [ -n "$(of_bird filtered)" ]
 }
@@ -203,4 +213,16 @@ expect 'FRR takes' "$(of_frr)" 'V 198.51.100.0/24'
 write_vrps
 until_done of_frr_is ''
 expect 'FRR takes after the change' "$(of_frr)" ''
+# Twelve hours after the export, but for three seconds. What changes is only when the VRPs end.
+touch -d '11 hours ago 59 minutes ago 57 seconds ago' vrps.csv && write_json || exit 1
+expect 'BIRD leaves out before the VRPs end' "$(of_bird filtered)" 198.51.100.128/25
+until_done bird_leaves_out ''
+expect 'BIRD takes after they ended' "$(of_bird)" '198.51.100.128/25
+203.0.113.0/24'
+# FRR 8.4 judges what it left out only when told to.
+vtysh --vty_socket "$work/vty" -c 'clear bgp ipv4 unicast * soft in' >vtysh.log 2>&1 || exit 1
+until_done of_frr_is 'N 192.0.2.0/24
+N 198.51.100.0/24'
+expect 'FRR takes after they ended' "$(of_frr)" 'N 192.0.2.0/24
+N 198.51.100.0/24'
 end
