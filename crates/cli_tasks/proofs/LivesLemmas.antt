@@ -1,6 +1,7 @@
 -- The lives of `serve` on files whose disk may crash.
-use Rattle.std.proofs.Common.{◌≡◌, ◌<◌, ◌≤◌, ◌+◌, ◌∙◌, ℕ, Bool, List, [], ◌∷◌, ◌++◌, Option, Result, Ok, Err, IfOk, IfErr, arith, length, length-append, get_or, take, true, false, ap, refl, subst, sym}
+use Rattle.std.proofs.Common.{◌≡◌, ◌<◌, ◌≤◌, ◌+◌, ◌∙◌, ℕ, Bool, List, [], ◌∷◌, ◌++◌, inl, inr, Option, Result, Ok, Err, IfOk, IfErr, OnOk, OnErr, arith, length, length-append, get_or, take, true, false, ap, refl, subst, sym}
 use Rattle.std.proofs.Math.Logic.{∥∥₁_elim, ∥∥₁_map}
+use Rattle.std.proofs.lemmas.Bool.{false≢true}
 use Rattle.std.proofs.lemmas.List.{flat_map_more, take_more}
 use Rattle.std.proofs.lemmas.List.Elements.{All-nil}
 use Rattle.std.specs.List.{flat_map}
@@ -34,7 +35,7 @@ use Rattle.web.specs.ScriptAnswer.{Standing}
 use Rattle.cli_tasks.specs.Connections.{Accepts, Logs}
 use Rattle.cli_tasks.specs.ServedHistories.{LeavesInTurn}
 use Rattle.cli_tasks.specs.ServedFiles.{FailsToCloseOver, IfClosed, IfUnclosed, IsCauseOf, IsServedCount, FilesGoOn, LeavesUnclosed}
-use Rattle.cli_tasks.specs.ServedLives.{end_of_close, end_of_serve, EndsLife, EndsLives, LeavesEnded, LeavesRefused, LifeLeads, LivesAllow, LivesLead, ServesLife, ServesLives}
+use Rattle.cli_tasks.specs.ServedLives.{end_of_close, end_of_serve, EndsLife, EndsLives, HasLifeCount, LeavesEnded, LeavesRefused, LifeLeads, LivesAllow, LivesLead, ServesLife, ServesLives}
 use Rattle.cli_tasks.specs.Serving.{fault_lines, Transcript}
 use Rattle.cli_tasks.specs.declared.lives.Life.{Life}
 use Rattle.cli_tasks.specs.declared.lives.LifeFault.{LifeFault}
@@ -83,6 +84,17 @@ none_served : (passed : List Transcript) → length passed ≡ 0 → passed ≡ 
 none_served [] none = refl
 none_served (p ∷ passed) none = absurd (omega (arith, none))
 
+-- all connections were served, unless accepting failed
+pub life_count : {T E : Type 0} (result : Result T E) {served count : ℕ} {has_failed : Bool} → OnOk result (served ≡ count) → OnErr result (has_failed ≡ true)
+    → HasLifeCount served count false has_failed
+life_count (Ok x) all failed = inl all
+life_count (Err e) all failed = inr (inr failed)
+
+pub count_of_stop : {served count : ℕ} {cannot_listen has_failed : Bool} → HasLifeCount served count false has_failed → HasLifeCount served count cannot_listen has_failed
+count_of_stop (inl all) = inl all
+count_of_stop (inr (inl cannot)) = absurd (false≢true cannot)
+count_of_stop (inr (inr failed)) = inr (inr failed)
+
 -- how `serve` ended is how the life did
 module _ {D : Type 0} (g : Ghosts D) (stays : SeenMayStay g) (day count : ℕ) (files : Files D) (passed : List Transcript)
     (cannot_listen not_accepted : Bool) where
@@ -97,18 +109,20 @@ module _ {D : Type 0} (g : Ghosts D) (stays : SeenMayStay g) (day count : ℕ) (
   abbrev pub Served : Result (Files D) (LifeFault D g) → Type 0
   Served end =
       (length passed ≤ count)
+      × OnOk end (HasLifeCount (length passed) count cannot_listen not_accepted)
       × IfOk end (λ left. AreClean g left.log left.db → AreClean g files.log files.db)
       × IfOk end (λ left. AreClean g left.log left.db → ServesLife g true day files passed left)
       × IfErr end (EndsLife g day files passed)
 
   closed_ends : (end : Result (Files D) (CloseFault D g)) → length passed ≤ count
+      → HasLifeCount (length passed) count cannot_listen not_accepted
       → IfOk end (λ left. AreClean g left.log left.db → AreClean g files.log files.db)
       → IfErr end (λ fault. IsClean (view fault.store) → AreClean g files.log files.db)
       → IfOk end Closed → IfErr end Unclosed → Served (end_of_close end)
-  closed_ends (Ok left) few clean clean_store closed unclosed =
-      (few, clean, (λ was. closes_life g stays day passed files left (closed was)), tt)
-  closed_ends (Err fault) few clean clean_store closed unclosed =
-      (few, tt, tt, (λ was. (clean_store was, (unclosed was).0, (unclosed was).1)))
+  closed_ends (Ok left) few why clean clean_store closed unclosed =
+      (few, why, clean, (λ was. closes_life g stays day passed files left (closed was)), tt)
+  closed_ends (Err fault) few why clean clean_store closed unclosed =
+      (few, tt, tt, tt, (λ was. (clean_store was, (unclosed was).0, (unclosed was).1)))
 
   pub serve_ends : (end : Result (Files D) (ServeFault D g))
       → IfClosed end (λ left. AreClean g left.log left.db → AreClean g files.log files.db)
@@ -117,15 +131,15 @@ module _ {D : Type 0} (g : Ghosts D) (stays : SeenMayStay g) (day count : ℕ) (
       → IfClosed end Closed → IfUnclosed end Unclosed → IfErr end (IsCauseOf files cannot_listen not_accepted)
       → Served (end_of_serve end)
   serve_ends (Ok left) clean clean_store counted closed unclosed cause =
-      (omega (arith, counted), clean, (λ was. closes_life g stays day passed files left (closed was)), tt)
+      (omega (arith, counted), inl counted, clean, (λ was. closes_life g stays day passed files left (closed was)), tt)
   serve_ends (Err (Open fault)) clean clean_store counted closed unclosed cause =
-      (omega (arith, counted), tt, tt, (none_served passed counted, cause.0, cause.2, cause.3))
+      (omega (arith, counted), tt, tt, tt, (none_served passed counted, cause.0, cause.2, cause.3))
   serve_ends (Err (Bind fault end)) clean clean_store counted closed unclosed cause =
-      closed_ends end (omega (arith, counted)) clean clean_store closed unclosed
+      closed_ends end (omega (arith, counted)) (inr (inl cause.0)) clean clean_store closed unclosed
   serve_ends (Err (Accept end)) clean clean_store counted closed unclosed cause =
-      closed_ends end (omega (arith, counted)) clean clean_store closed unclosed
+      closed_ends end (omega (arith, counted)) (inr (inr cause)) clean clean_store closed unclosed
   serve_ends (Err (Close fault)) clean clean_store counted closed unclosed cause =
-      (omega (arith, counted), tt, tt, (λ was. (clean_store was, (unclosed was).0, (unclosed was).1)))
+      (omega (arith, counted), tt, tt, tt, (λ was. (clean_store was, (unclosed was).0, (unclosed was).1)))
 
 -- ---- one more life
 

@@ -1,6 +1,6 @@
 -- The lives of `serve` on files whose disk may crash: a crash before each, its connections, and a close or a stop after
 -- them.
-use Rattle.std.specs.Prelude.{◌≡◌, ◌≤◌, ℕ, Bool, true, false, All, List, [], ◌∷◌, ◌++◌, IsTrue, Result, Ok, Err, length, take, ⊤}
+use Rattle.std.specs.Prelude.{◌≡◌, ◌⊎◌, ◌≤◌, ℕ, Bool, true, false, All, List, [], ◌∷◌, ◌++◌, IsTrue, Result, Ok, Err, length, take, ⊤}
 use Rattle.std.specs.List.{AllByRecursion}
 use Rattle.sqlite.specs.Files.{IsCleanLeft, image_of, over_files}
 use Rattle.sqlite.specs.declared.file.Leftover.TheVariants as left
@@ -46,6 +46,12 @@ LifeLeads true charter day history passed after =
     AnswersInTurn (ConnectionLeads charter day) history passed after.history × (after.pending ≡ [])
 LifeLeads false charter day history passed after =
     AnswersInTurn (ConnectionLeaves charter day) (record { history = history; pending = [] }) passed after
+
+-- How many connections a life had that ended well: all of its count, unless its socket was not bound, or one could not be
+-- accepted.
+abbrev pub HasLifeCount : ℕ → ℕ → Bool → Bool → Type 0
+HasLifeCount passed count cannot_listen has_failed =
+    (passed ≡ count) ⊎ (cannot_listen ≡ true) ⊎ (has_failed ≡ true)
 
 -- From files of which a crash leaves at most a legal history with requests pending, to files of which one leaves at most
 -- that to which a life leads: from that history, or from it with one of the requests.

@@ -7,7 +7,7 @@ ghost use Rattle.sqlite_wal.specs.Reads.{AreClean};
 ghost use Rattle.desk_files.specs.Refused.{RefusedLeaves, RefusesFiles, RefusesNoLeft};
 ghost use Rattle.desk_files.specs.Refused.{RefusesNoLegal};
 ghost use Rattle.cli_tasks.specs.Connections.{Accepts, Logs};
-ghost use Rattle.cli_tasks.specs.ServedLives.{EndsLife, EndsLives, ServesLife, ServesLives};
+ghost use Rattle.cli_tasks.specs.ServedLives.{EndsLife, EndsLives, HasLifeCount, ServesLife, ServesLives};
 ghost use Rattle.cli_tasks.specs.ServedLives.{end_of_close, end_of_serve};
 ghost use Rattle.cli_tasks.specs.Serving.{Transcript, fault_lines};
 
@@ -54,9 +54,11 @@ pub fn serve_until_stop<D: Disk + Drop, C: Connections, L: Log>(
     requires db { IsTrue (D.Disk.is_usable files.db) }
     ensures clean { IfOk result (λ left. AreClean D.Disk left.log left.db
         → AreClean D.Disk files.log files.db) }
-    // `passed` are the connections: they were accepted, the log has the lines of those that failed,
-    // and a crash leaves of the files at most what they lead to.
+    // `passed` are the connections: there are as many, unless one could not be accepted, they were
+    // accepted, the log has the lines of those that failed, and a crash leaves of the files at most
+    // what they lead to.
     ensures served { (passed : List Transcript) × (length passed ≤ count)
+        × OnOk result (HasLifeCount (length passed) count false (C.has_failed connections.new))
         × Accepts (C.accepted connections.old) (C.accepted connections.new) passed
         × Logs (L.has_lost log.old) (L.has_lost log.new) (L.contents log.old)
         (L.contents log.new) (fault_lines 1 passed)
@@ -90,6 +92,8 @@ pub fn serve_life<D: Disk + Drop, C: Connections, L: Log>(
     ensures clean { IfOk result (λ left. AreClean D.Disk left.log left.db
         → AreClean D.Disk files.log files.db) }
     ensures served { (passed : List Transcript) × (length passed ≤ life.count)
+        × OnOk result (HasLifeCount (length passed) life.count (C.cannot_listen connections.new)
+        (C.has_failed connections.new))
         × Accepts (C.accepted connections.old) (C.accepted connections.new) passed
         × Logs (L.has_lost log.old) (L.has_lost log.new) (L.contents log.old)
         (L.contents log.new) (fault_lines 1 passed)
@@ -138,6 +142,8 @@ fn serve_until_close<D: Disk + Drop, C: Connections, L: Log>(
     ensures clean { IfOk result (λ left. AreClean D.Disk left.log left.db
         → AreClean D.Disk files.log files.db) }
     ensures served { (passed : List Transcript) × (length passed ≤ count)
+        × OnOk result (HasLifeCount (length passed) count (C.cannot_listen connections.new)
+        (C.has_failed connections.new))
         × Accepts (C.accepted connections.old) (C.accepted connections.new) passed
         × Logs (L.has_lost log.old) (L.has_lost log.new) (L.contents log.old)
         (L.contents log.new) (fault_lines 1 passed)

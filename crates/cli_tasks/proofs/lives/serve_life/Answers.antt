@@ -1,5 +1,6 @@
 use Rattle.std.proofs.Common.{[], ◌≡◌, OnErr, arith, refl, subst}
 use Rattle.cli_tasks.proofs.ConnectionLemmas.{logs-none}
+use Rattle.cli_tasks.proofs.LivesLemmas.{count_of_stop}
 use Rattle.cli_tasks.proofs.ServedFileLemmas.{accepts_none}
 use Rattle.cli_tasks.proofs.lives.serve_life.Goals as goal
 
@@ -8,8 +9,8 @@ returns-then-life-clause-served g c = rw c.if-life.true c.serve_until_close.ensu
 
 pub returns-in-Ok-clause-served : goal.returns-in-Ok-clause-served
 returns-in-Ok-clause-served g c =
-    let (passed, few, accepted, logged, serves) = c.in-Ok.ensures.served in
-    (passed, few, accepted, logged, rw c.if-life.false serves, tt)
+    let (passed, few, whole, accepted, logged, serves) = c.in-Ok.ensures.served in
+    (passed, few, count_of_stop whole, accepted, logged, rw c.if-life.false serves, tt)
 
 pub returns-in-Err-clause-served : goal.returns-in-Err-clause-served
 returns-in-Err-clause-served g c =
@@ -17,6 +18,7 @@ returns-in-Err-clause-served g c =
     × (c.serve_until_stop.new.log ≡ c.args.log.now))) c.in-Err.is c.serve_until_stop.ensures.unserved in (
       [],
       omega arith,
+      tt,
       rw same.0 (accepts_none _),
       rw same.1 (logs-none _ _),
       tt,

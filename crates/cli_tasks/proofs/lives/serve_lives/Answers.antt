@@ -13,7 +13,7 @@ loop-life-init g c =
 pub loop-life-preserved : goal.loop-life-preserved
 loop-life-preserved g c =
     let (served, counted, within, clean, accepted, logged, so_far) = c.loop-life.invariant in
-    let (passed, few, accepted_more, logged_more, serves, none) = c.in-Ok.ensures.served in
+    let (passed, few, whole, accepted_more, logged_more, serves, none) = c.in-Ok.ensures.served in
     let crashed : Files g.row.D.Denot = record { log = c.crash.new.self; db = c.crash-in-loop-life.new.self } in
     let crash_clean = both_clean _ _ _ _ c.crash.ensures.clean c.crash-in-loop-life.ensures.clean in (
       served ++ passed ∷ [],
@@ -35,7 +35,7 @@ returns-in-Err-clause-served g c =
     let (served, counted, within, clean, accepted, logged, so_far) = c.loop-life.invariant in
     let crashed : Files g.row.D.Denot = record { log = c.crash.new.self; db = c.crash-in-loop-life.new.self } in
     let crash_clean = both_clean _ _ _ _ c.crash.ensures.clean c.crash-in-loop-life.ensures.clean in
-    let (passed, few, accepted_more, logged_more, none, ends) = c.in-Err.ensures.served in (
+    let (passed, few, whole, accepted_more, logged_more, none, ends) = c.in-Err.ensures.served in (
       served ++ passed ∷ [],
       accepts_more _ _ _ served passed accepted accepted_more,
       logs_more _ _ _ _ _ _ served passed logged logged_more,
