@@ -5,6 +5,8 @@ use Rattle.std.proofs.lemmas.Bool.{false≢true}
 use Rattle.std.proofs.lemmas.List.{flat_map_more, take_more}
 use Rattle.std.proofs.lemmas.List.Elements.{All-nil}
 use Rattle.std.specs.List.{flat_map}
+use Rattle.std.specs.Prelude.{is_some}
+use Rattle.std.specs.declared.io.ErrorKind.{ErrorKind}
 use Rattle.sqlite.specs.Files.{image_of, over_files}
 use Rattle.sqlite.specs.declared.file.Leftover.TheVariants as left
 use Rattle.sqlite_disk.specs.declared.Disk.{Ghosts}
@@ -97,7 +99,7 @@ count_of_stop (inr (inr failed)) = inr (inr failed)
 
 -- how `serve` ended is how the life did
 module _ {D : Type 0} (g : Ghosts D) (stays : SeenMayStay g) (day count : ℕ) (files : Files D) (passed : List Transcript)
-    (cannot_listen not_accepted : Bool) where
+    (listen_error : Option ErrorKind) (not_accepted : Bool) where
   abbrev pub Closed : Files D → Type 0
   Closed left = AreClean g left.log left.db → FilesGoOn g (image_of g files) day passed left
 
@@ -109,13 +111,13 @@ module _ {D : Type 0} (g : Ghosts D) (stays : SeenMayStay g) (day count : ℕ) (
   abbrev pub Served : Result (Files D) (LifeFault D g) → Type 0
   Served end =
       (length passed ≤ count)
-      × OnOk end (HasLifeCount (length passed) count cannot_listen not_accepted)
+      × OnOk end (HasLifeCount (length passed) count (is_some listen_error) not_accepted)
       × IfOk end (λ left. AreClean g left.log left.db → AreClean g files.log files.db)
       × IfOk end (λ left. AreClean g left.log left.db → ServesLife g true day files passed left)
       × IfErr end (EndsLife g day files passed)
 
   closed_ends : (end : Result (Files D) (CloseFault D g)) → length passed ≤ count
-      → HasLifeCount (length passed) count cannot_listen not_accepted
+      → HasLifeCount (length passed) count (is_some listen_error) not_accepted
       → IfOk end (λ left. AreClean g left.log left.db → AreClean g files.log files.db)
       → IfErr end (λ fault. IsClean (view fault.store) → AreClean g files.log files.db)
       → IfOk end Closed → IfErr end Unclosed → Served (end_of_close end)
@@ -128,14 +130,14 @@ module _ {D : Type 0} (g : Ghosts D) (stays : SeenMayStay g) (day count : ℕ) (
       → IfClosed end (λ left. AreClean g left.log left.db → AreClean g files.log files.db)
       → IfUnclosed end (λ fault. IsClean (view fault.store) → AreClean g files.log files.db)
       → IsServedCount end (length passed) count
-      → IfClosed end Closed → IfUnclosed end Unclosed → IfErr end (IsCauseOf files cannot_listen not_accepted)
+      → IfClosed end Closed → IfUnclosed end Unclosed → IfErr end (IsCauseOf files listen_error not_accepted)
       → Served (end_of_serve end)
   serve_ends (Ok left) clean clean_store counted closed unclosed cause =
       (omega (arith, counted), inl counted, clean, (λ was. closes_life g stays day passed files left (closed was)), tt)
   serve_ends (Err (Open fault)) clean clean_store counted closed unclosed cause =
       (omega (arith, counted), tt, tt, tt, (none_served passed counted, cause.0, cause.2, cause.3))
   serve_ends (Err (Bind fault end)) clean clean_store counted closed unclosed cause =
-      closed_ends end (omega (arith, counted)) (inr (inl cause.0)) clean clean_store closed unclosed
+      closed_ends end (omega (arith, counted)) (inr (inl (ap is_some cause.1))) clean clean_store closed unclosed
   serve_ends (Err (Accept end)) clean clean_store counted closed unclosed cause =
       closed_ends end (omega (arith, counted)) (inr (inr cause)) clean clean_store closed unclosed
   serve_ends (Err (Close fault)) clean clean_store counted closed unclosed cause =

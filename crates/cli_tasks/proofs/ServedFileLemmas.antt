@@ -1,6 +1,7 @@
 -- What connections leave of the files of a desk.
 use Rattle.std.proofs.Common.{◌≡◌, ◌⊎◌, Bool, List, [], Option, Some, None, Result, Ok, Err, IfErr, ℕ, refl, subst, sym}
 use Rattle.std.proofs.lemmas.List.{append-nil}
+use Rattle.std.specs.declared.io.ErrorKind.{ErrorKind}
 use Rattle.sqlite.specs.Files.{over_files}
 use Rattle.sqlite_disk.specs.declared.Disk.{Ghosts}
 use Rattle.sqlite_disk.specs.declared.Files.{Files}
@@ -17,7 +18,7 @@ use Rattle.desk_files.specs.DeskFiles.{FilesHoldDesk, OpensFiles, ResumesFiles}
 use Rattle.desk_files.specs.Refused.{UnclosedLeaves}
 use Rattle.desk_files.specs.declared.file.CloseFault.{CloseFault}
 use Rattle.cli_tasks.specs.Connections.{Accepts}
-use Rattle.cli_tasks.specs.ServedFiles.{FailsToCloseAfter, FailsToCloseOver, IfClosed, IfNotBind, IfNotOpened, IfUnclosed, IsCauseOf, IsLateCause, FilesGoOn, LeavesStore, LeavesUnclosed}
+use Rattle.cli_tasks.specs.ServedFiles.{FailsToCloseAfter, FailsToCloseOver, IfClosed, IfServed, IfNotOpened, IfUnclosed, IsCauseOf, IsLateCause, FilesGoOn, LeavesStore, LeavesUnclosed}
 use Rattle.cli_tasks.specs.ServedHistories.{ConnectionLeads, HoldServed, LeavesInTurn}
 use Rattle.cli_tasks.specs.Serving.{AnswersInTurn, ServesInTurn, Transcript}
 use Rattle.cli_tasks.specs.declared.serve_desk.ServeFault.{ServeFault}
@@ -140,21 +141,21 @@ if_unclosed (Err (Close closing)) P Q R both p q = both closing p q
 -- ---- causes
 
 -- the later causes are causes
-pub late_cause : {D : Type 0} {g : Ghosts D} (files : Files D) (cannot_listen not_accepted : Bool) (fault : ServeFault D g)
-    → IsLateCause not_accepted fault → IsCauseOf files cannot_listen not_accepted fault
-late_cause files cannot_listen not_accepted (Open fault) late = absurd late
-late_cause files cannot_listen not_accepted (Bind fault closed) late = absurd late
-late_cause files cannot_listen not_accepted (Accept closed) late = late
-late_cause files cannot_listen not_accepted (Close closing) late = tt
+pub late_cause : {D : Type 0} {g : Ghosts D} (files : Files D) (listen_error : Option ErrorKind) (not_accepted : Bool)
+    (fault : ServeFault D g) → IsLateCause not_accepted fault → IsCauseOf files listen_error not_accepted fault
+late_cause files listen_error not_accepted (Open fault) late = absurd late
+late_cause files listen_error not_accepted (Bind fault closed) late = absurd late
+late_cause files listen_error not_accepted (Accept closed) late = late
+late_cause files listen_error not_accepted (Close closing) late = tt
 
--- and none of them is that listening failed
-pub late_not_bind : {D : Type 0} {g : Ghosts D} (not_accepted : Bool) (result : Result (Files D) (ServeFault D g)) (P : Type 0)
-    → IfErr result (IsLateCause not_accepted) → P → IfNotBind result P
-late_not_bind not_accepted (Ok files) P late holds = holds
-late_not_bind not_accepted (Err (Open fault)) P late holds = absurd late
-late_not_bind not_accepted (Err (Bind fault closed)) P late holds = absurd late
-late_not_bind not_accepted (Err (Accept closed)) P late holds = holds
-late_not_bind not_accepted (Err (Close closing)) P late holds = holds
+-- and with none of them the socket was not bound
+pub late_served : {D : Type 0} {g : Ghosts D} (not_accepted : Bool) (result : Result (Files D) (ServeFault D g)) (P : Type 0)
+    → IfErr result (IsLateCause not_accepted) → P → IfServed result P
+late_served not_accepted (Ok files) P late holds = holds
+late_served not_accepted (Err (Open fault)) P late holds = absurd late
+late_served not_accepted (Err (Bind fault closed)) P late holds = absurd late
+late_served not_accepted (Err (Accept closed)) P late holds = holds
+late_served not_accepted (Err (Close closing)) P late holds = holds
 
 -- and the desk was opened
 pub late_opened : {D : Type 0} {g : Ghosts D} (not_accepted : Bool) (result : Result (Files D) (ServeFault D g)) (P : Type 0)

@@ -1,5 +1,7 @@
 -- What `serve` leaves of the files of a desk, and why it ended early.
-use Rattle.std.specs.Prelude.{◌≡◌, ◌⊎◌, ◌<◌, ℕ, Bool, true, All, List, [], Result, Ok, Err, IfErr, IfOk, ⊤}
+use Rattle.std.specs.Prelude.{◌≡◌, ◌≢◌, ◌⊎◌, ◌<◌, ℕ, Bool, true, All, List, [], Option, Some, Result, Ok, Err, IfErr, IfOk, ⊤}
+use Rattle.std.specs.declared.io.ErrorKind.{ErrorKind}
+use Rattle.std.specs.declared.io.ErrorKind.TheVariants.{OutOfMemory}
 use Rattle.sqlite_disk.specs.declared.Disk.{Ghosts}
 use Rattle.sqlite_disk.specs.declared.Files.{Files}
 use Rattle.sqlite_wal.specs.Recovery.{Image}
@@ -106,15 +108,17 @@ pub record FailsToCloseOver {D : Type 0} {g : Ghosts D} (image : Image) (day : �
   pub fails : FailsToCloseAfter day desk passed fault
 
 -- Each fault with its cause: the desk in the files was not opened, which is not for its schema where they may be left of
--- a legal history, and leaves no more of them than before; listening failed; or the last connection could not be
--- accepted.
-abbrev pub IsCauseOf : {D : Type 0} {g : Ghosts D} → Files D → Bool → Bool → ServeFault D g → Type 0
-IsCauseOf {D} {g} files cannot_listen not_accepted (Open fault) =
+-- a legal history, and leaves no more of them than before; listening failed with an error of this kind, for want of memory
+-- or else at the socket; or the last connection could not be accepted.
+abbrev pub IsCauseOf : {D : Type 0} {g : Ghosts D} → Files D → Option ErrorKind → Bool → ServeFault D g → Type 0
+IsCauseOf {D} {g} files listen_error not_accepted (Open fault) =
     RefusesFiles (image_of g files) fault × RefusesNoLeft (image_of g files) fault × RefusesNoLegal files fault
     × RefusedLeaves files fault
-IsCauseOf files cannot_listen not_accepted (Bind fault closed) = (cannot_listen ≡ true) × ((fault ≡ Socket) ⊎ (fault ≡ Memory))
-IsCauseOf files cannot_listen not_accepted (Accept closed) = not_accepted ≡ true
-IsCauseOf files cannot_listen not_accepted (Close fault) = ⊤
+IsCauseOf files listen_error not_accepted (Bind fault closed) =
+    (kind : ErrorKind) × (listen_error ≡ Some kind)
+    × (kind ≡ OutOfMemory → fault ≡ Memory) × (kind ≢ OutOfMemory → fault ≡ Socket)
+IsCauseOf files listen_error not_accepted (Accept closed) = not_accepted ≡ true
+IsCauseOf files listen_error not_accepted (Close fault) = ⊤
 
 -- a cause that comes once the desk was opened and the socket bound
 abbrev pub IsLateCause : {D : Type 0} {g : Ghosts D} → Bool → ServeFault D g → Type 0
@@ -131,10 +135,10 @@ IfNotOpened (Err (Bind fault closed)) Holds = ⊤
 IfNotOpened (Err (Accept closed)) Holds = ⊤
 IfNotOpened (Err (Close fault)) Holds = ⊤
 
--- this holds, unless `serve` ended early because listening failed
-abbrev pub IfNotBind : {D : Type 0} {g : Ghosts D} → Result (Files D) (ServeFault D g) → Type 0 → Type 0
-IfNotBind (Ok files) Holds = Holds
-IfNotBind (Err (Open fault)) Holds = Holds
-IfNotBind (Err (Bind fault closed)) Holds = ⊤
-IfNotBind (Err (Accept closed)) Holds = Holds
-IfNotBind (Err (Close fault)) Holds = Holds
+-- this holds, where the desk was opened and the socket bound
+abbrev pub IfServed : {D : Type 0} {g : Ghosts D} → Result (Files D) (ServeFault D g) → Type 0 → Type 0
+IfServed (Ok files) Holds = Holds
+IfServed (Err (Open fault)) Holds = ⊤
+IfServed (Err (Bind fault closed)) Holds = ⊤
+IfServed (Err (Accept closed)) Holds = Holds
+IfServed (Err (Close fault)) Holds = Holds

@@ -1,6 +1,6 @@
 //! The lives of `serve` on files whose disk may crash.
 ghost use Rattle.std.specs.Prelude.{◌≡◌, ◌≤◌, List, length, IfErr, IfOk, IsTrue, OnErr, OnOk};
-ghost use Rattle.std.specs.Prelude.{false, true};
+ghost use Rattle.std.specs.Prelude.{false, is_some, true};
 ghost use Rattle.std.specs.List.{flat_map};
 ghost use Rattle.sqlite.specs.Files.{image_of};
 ghost use Rattle.sqlite_wal.specs.Reads.{AreClean};
@@ -92,8 +92,8 @@ pub fn serve_life<D: Disk + Drop, C: Connections, L: Log>(
     ensures clean { IfOk result (λ left. AreClean D.Disk left.log left.db
         → AreClean D.Disk files.log files.db) }
     ensures served { (passed : List Transcript) × (length passed ≤ life.count)
-        × OnOk result (HasLifeCount (length passed) life.count (C.cannot_listen connections.new)
-        (C.has_failed connections.new))
+        × OnOk result (HasLifeCount (length passed) life.count
+        (is_some (C.listen_error connections.new)) (C.has_failed connections.new))
         × Accepts (C.accepted connections.old) (C.accepted connections.new) passed
         × Logs (L.has_lost log.old) (L.has_lost log.new) (L.contents log.old)
         (L.contents log.new) (fault_lines 1 passed)
@@ -142,8 +142,8 @@ fn serve_until_close<D: Disk + Drop, C: Connections, L: Log>(
     ensures clean { IfOk result (λ left. AreClean D.Disk left.log left.db
         → AreClean D.Disk files.log files.db) }
     ensures served { (passed : List Transcript) × (length passed ≤ count)
-        × OnOk result (HasLifeCount (length passed) count (C.cannot_listen connections.new)
-        (C.has_failed connections.new))
+        × OnOk result (HasLifeCount (length passed) count
+        (is_some (C.listen_error connections.new)) (C.has_failed connections.new))
         × Accepts (C.accepted connections.old) (C.accepted connections.new) passed
         × Logs (L.has_lost log.old) (L.has_lost log.new) (L.contents log.old)
         (L.contents log.new) (fault_lines 1 passed)

@@ -48,7 +48,8 @@ pub fn serve_on<C: Connections, S: Alter, L: Log>(
         × Logs (L.has_lost log.old) (L.has_lost log.new) (L.contents log.old)
         (L.contents log.new) (fault_lines 1 passed) }
     ensures failed { OnErr result (C.has_failed connections.new ≡ true) }
-    ensures listens { C.cannot_listen connections.new ≡ C.cannot_listen connections.old }
+    ensures listens { (C.is_listening connections.new ≡ C.is_listening connections.old)
+        × (C.listen_error connections.new ≡ C.listen_error connections.old) }
     ensures later { IsLaterDesk S.Store desk.old desk.new }
 {
     // If there is no memory for them now, each connection tries to make its own.
@@ -77,7 +78,8 @@ pub fn answer_each<C: Connections, E: AnswerConnections, L: Log>(
         × Logs (L.has_lost log.old) (L.has_lost log.new) (L.contents log.old)
         (L.contents log.new) (fault_lines 1 passed) }
     ensures failed { OnErr result (C.has_failed connections.new ≡ true) }
-    ensures listens { C.cannot_listen connections.new ≡ C.cannot_listen connections.old }
+    ensures listens { (C.is_listening connections.new ≡ C.is_listening connections.old)
+        × (C.listen_error connections.new ≡ C.listen_error connections.old) }
 {
     let mut served = 0;
     while served < count {

@@ -1,5 +1,5 @@
 //! The task `serve`: from the files of a desk to the files that it leaves.
-ghost use Rattle.std.specs.Prelude.{◌≡◌, List, length, IfErr, IsTrue};
+ghost use Rattle.std.specs.Prelude.{◌≡◌, List, length, IfErr, IsTrue, true};
 ghost use Rattle.sqlite.specs.Files.{image_of, over_files};
 ghost use Rattle.sqlite_store.specs.FileStore.{view};
 ghost use Rattle.sqlite_trees.specs.View.{IsClean};
@@ -8,7 +8,7 @@ ghost use Rattle.registry.specs.History.{History};
 ghost use Rattle.registry.specs.declared.charter.Charter as shown;
 ghost use Rattle.desk.specs.Desk.{IsOnCleanDisk, Represents};
 ghost use Rattle.cli_tasks.specs.Connections.{Accepts, Logs};
-ghost use Rattle.cli_tasks.specs.ServedFiles.{FailsToCloseAfter, FailsToCloseOver, IfClosed, IfNotBind};
+ghost use Rattle.cli_tasks.specs.ServedFiles.{FailsToCloseAfter, FailsToCloseOver, IfClosed, IfServed};
 ghost use Rattle.cli_tasks.specs.ServedFiles.{IfNotOpened, IfUnclosed, IsCauseOf};
 ghost use Rattle.cli_tasks.specs.ServedFiles.{IsLateCause, IsServedCount, FilesGoOn, LeavesStore};
 ghost use Rattle.cli_tasks.specs.ServedFiles.{LeavesUnclosed};
@@ -71,9 +71,9 @@ pub fn serve_files<D: Disk + Drop, C: Connections, L: Log>(
         → FailsToCloseOver (image_of D.Disk files) day passed fault
         × LeavesUnclosed (image_of D.Disk files) day passed fault.store) }
     ensures err { IfErr result (IsCauseOf files
-        (C.cannot_listen connections.new) (C.has_failed connections.new)) }
-    ensures listens { IfNotBind result
-        (C.cannot_listen connections.new ≡ C.cannot_listen connections.old) }
+        (C.listen_error connections.new) (C.has_failed connections.new)) }
+    ensures listens { IfServed result ((C.is_listening connections.new ≡ true)
+        × (C.listen_error connections.new ≡ C.listen_error connections.old)) }
     // So the socket is not bound where the database is refused.
     ensures unbound { IfNotOpened result
         ((connections.new ≡ connections.old) × (log.new ≡ log.old)) }
@@ -116,7 +116,8 @@ pub fn serve_desk<D: Disk + Drop, C: Connections, L: Log>(
         → FailsToCloseAfter day desk passed fault
         × LeavesStore day desk passed fault.store) }
     ensures err { IfErr result (IsLateCause (C.has_failed connections.new)) }
-    ensures listens { C.cannot_listen connections.new ≡ C.cannot_listen connections.old }
+    ensures listens { (C.is_listening connections.new ≡ C.is_listening connections.old)
+        × (C.listen_error connections.new ≡ C.listen_error connections.old) }
 {
     match serve_on(alloc, connections, count, &mut desk, day, log) {
         Ok(()) => match close_desk(desk) {

@@ -1,5 +1,5 @@
 //! The lines on connections that failed.
-ghost use Rattle.std.specs.Prelude.{false, true};
+ghost use Rattle.std.specs.Prelude.{None, true};
 
 use crate::clients::{desk_in_memory, first_of_march};
 use addr::Day;
@@ -45,7 +45,7 @@ impl<'a> Clients<'a> {
 impl Connections for Clients<'_> {
     ghost is_listening = { λ _. true };
 
-    ghost cannot_listen = { λ _. false };
+    ghost listen_error = { λ _. None };
 
     ghost has_failed = { λ clients. clients.has_failed };
 

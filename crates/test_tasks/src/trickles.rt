@@ -1,5 +1,5 @@
 //! Peers that give and take a few bytes at a time.
-ghost use Rattle.std.specs.Prelude.{option_map};
+ghost use Rattle.std.specs.Prelude.{option_map, true};
 ghost use Rattle.std.specs.Duration.{as_nanos};
 ghost use Rattle.std.specs.Time.{instant_nanos};
 
@@ -60,6 +60,8 @@ impl Peer for Trickle<'_> {
     ghost read_timeout = { λ peer. option_map as_nanos peer.read_timeout };
 
     ghost write_timeout = { λ peer. option_map as_nanos peer.write_timeout };
+
+    ghost has_ended_writing = { λ _. true };
 
     fn began(&self) -> Option<Instant> {
         self.began

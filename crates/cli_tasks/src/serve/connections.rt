@@ -1,5 +1,7 @@
 //! Connections that are accepted and answered, one after the other.
-ghost use Rattle.std.specs.Prelude.{◌≡◌, ◌<◌, ◌≤◌, ◌∷◌, ℕ, Bool, List, [], Option, None, is_some, false, true, length, IfOk, OnErr, OnOk};
+ghost use Rattle.std.specs.Prelude.{◌≡◌, ◌<◌, ◌≤◌, ◌∷◌, ℕ, Bool, List, [], Option, None, Some, is_some, false, true, length, IfErr, IfOk, OnErr, OnOk};
+ghost use Rattle.std.specs.IoError.{error_kind};
+ghost use Rattle.std.specs.declared.io.ErrorKind.{ErrorKind as Kind};
 ghost use Rattle.http_messages.specs.Input.{Gives, HasNoMore};
 ghost use Rattle.cli_tasks.specs.ConnectionTime.{discard_limit};
 ghost use Rattle.cli_tasks.specs.Connections.{Accepts, Passes};
@@ -95,8 +97,8 @@ pub trait Connections {
     // Whether it listens.
     ghost is_listening: { Self → Bool };
 
-    // Whether listening has failed.
-    ghost cannot_listen: { Self → Bool };
+    // Of which kind the error was with which listening failed last, if it has failed.
+    ghost listen_error: { Self → Option Kind };
 
     // Whether the last one could not be accepted.
     ghost has_failed: { Self → Bool };
@@ -104,9 +106,9 @@ pub trait Connections {
     /// Binds the socket, so that clients can connect.
     fn listen(&mut self) -> io::Result<()>
         ensures none { Accepts (accepted self.old) (accepted self.new) [] }
-        ensures bound { OnOk result (is_listening self.new ≡ true) }
-        ensures listens { OnOk result (cannot_listen self.new ≡ cannot_listen self.old) }
-        ensures failed { OnErr result (cannot_listen self.new ≡ true) };
+        ensures listens { OnOk result ((is_listening self.new ≡ true)
+            × (listen_error self.new ≡ listen_error self.old)) }
+        ensures failed { IfErr result (λ error. listen_error self.new ≡ Some (error_kind error)) };
 
     /// Accepts a connection and has it answered. The connection has ended when the call returns.
     fn answer_next<E: AnswerConnections>(
@@ -122,7 +124,8 @@ pub trait Connections {
         ensures err { OnErr result (engine.new ≡ engine.old) }
         ensures not_accepted { OnErr result (Accepts (accepted self.old) (accepted self.new) []) }
         ensures failed { OnErr result (has_failed self.new ≡ true) }
-        ensures listens { cannot_listen self.new ≡ cannot_listen self.old };
+        ensures listens { (is_listening self.new ≡ is_listening self.old)
+            × (listen_error self.new ≡ listen_error self.old) };
 }
 
 /// Binds a socket to an address.
@@ -138,7 +141,7 @@ pub struct Incoming<'a, R, N> {
     address: &'a str,
     listener: Option<TcpListener>,
     // Both are kept for proofs.
-    cannot_listen: bool,
+    listen_error: Option<ErrorKind>,
     has_failed: bool,
 }
 
@@ -150,14 +153,14 @@ impl<'a, R: Clock, N: Network> Incoming<'a, R, N> {
             × (result.network.now ≡ network.old) }
         ensures address { result.address ≡ address.entry }
         ensures unbound { result.listener ≡ None }
-        ensures flawless { (result.cannot_listen ≡ false) × (result.has_failed ≡ false) }
+        ensures flawless { (result.listen_error ≡ None) × (result.has_failed ≡ false) }
     {
         Incoming {
             clock,
             network,
             address,
             listener: None,
-            cannot_listen: false,
+            listen_error: None,
             has_failed: false,
         }
     }
@@ -166,7 +169,7 @@ impl<'a, R: Clock, N: Network> Incoming<'a, R, N> {
 impl<R: Clock, N: Network> Connections for Incoming<'_, R, N> {
     ghost is_listening = { λ incoming. is_some incoming.listener };
 
-    ghost cannot_listen = { λ incoming. incoming.cannot_listen };
+    ghost listen_error = { λ incoming. incoming.listen_error };
 
     ghost has_failed = { λ incoming. incoming.has_failed };
 
@@ -177,7 +180,7 @@ impl<R: Clock, N: Network> Connections for Incoming<'_, R, N> {
                 Ok(())
             }
             Err(error) => {
-                self.cannot_listen = true;
+                self.listen_error = Some(error.kind());
                 Err(error)
             }
         }
@@ -216,9 +219,10 @@ fn answer_and_end<P: Peer, Q: Peer, E: AnswerConnections>(
     day: Day,
 ) -> Result<Extent, WebFault>
     requires { Q.began to.old ≡ P.began from.old }
-    ensures { (passed : Transcript) × (after : Q) × (passed.ended ≡ result)
+    ensures passed { (passed : Transcript) × (after : Q) × (passed.ended ≡ result)
         × Passes (P.remaining from.old) (Q.contents to.old) passed (Q.contents after)
         × E.answers day engine.old passed engine.new }
+    ensures arrives { IfOk result (λ read. read ≡ Extent.Part → Q.has_ended_writing to.new ≡ true) }
 {
     let ended = answer_in_time(alloc, routes, from, to, engine, day);
     if let Ok(Extent::Part) = ended {
@@ -229,7 +233,9 @@ fn answer_and_end<P: Peer, Q: Peer, E: AnswerConnections>(
 
 /// Ends the response, and discards what the client still sends of its request: a stream that is
 /// closed with bytes unread is reset, and the client may lose the response.
-fn let_response_arrive<P: Peer, Q: Peer>(from: &mut P, to: &mut Q) {
+fn let_response_arrive<P: Peer, Q: Peer>(from: &mut P, to: &mut Q)
+    ensures { Q.has_ended_writing to.new ≡ true }
+{
     if to.end_writing().is_ok() {
         discard(&mut Device::new(Timed::new(from)));
     }

@@ -1,5 +1,5 @@
 //! The other end of a connection, with the clock that its calls are held to.
-ghost use Rattle.std.specs.Prelude.{◌≡◌, ℕ, List, Option, Some, None, IfOk, OnErr, OnOk, option_map};
+ghost use Rattle.std.specs.Prelude.{◌≡◌, ℕ, Bool, List, Option, Some, None, IfOk, OnErr, OnOk, option_map, false, true};
 ghost use Rattle.std.specs.Duration.{as_nanos};
 ghost use Rattle.std.specs.Io.{ReadsAtMost, WritesAtMost};
 ghost use Rattle.std.specs.Io.KnownBytes.{Keeps, ReadConsumes, WriteAppends};
@@ -29,6 +29,9 @@ pub trait Peer {
     ghost read_timeout: { Self → Option ℕ };
 
     ghost write_timeout: { Self → Option ℕ };
+
+    // Whether the other end was to be told that no more is written.
+    ghost has_ended_writing: { Self → Bool };
 
     /// When the connection began; `None` if the clock failed then.
     fn began(&self) -> Option<Instant>
@@ -66,6 +69,7 @@ pub trait Peer {
 
     /// Tells the other end that no more is written. It does not wait.
     fn end_writing(&mut self) -> io::Result<()>
+        ensures ended { has_ended_writing self.new ≡ true }
         ensures began { began self.new ≡ began self.old }
         ensures remaining { Keeps (remaining self.old) (remaining self.new) }
         ensures contents { Keeps (contents self.old) (contents self.new) };
@@ -80,7 +84,7 @@ pub trait Peer {
         ensures waited { last_seen self.new ≡ None };
 }
 
-/// A socket as a peer. Its times are kept for proofs.
+/// A socket as a peer. Its times, and whether writing has ended, are kept for proofs.
 #[derive(Drop)]
 pub struct Socket<'a, R> {
     clock: &'a R,
@@ -89,6 +93,7 @@ pub struct Socket<'a, R> {
     last_seen: Option<Instant>,
     read_timeout: Option<Duration>,
     write_timeout: Option<Duration>,
+    has_ended_writing: bool,
 }
 
 impl<'a, R: Clock> Socket<'a, R> {
@@ -99,6 +104,7 @@ impl<'a, R: Clock> Socket<'a, R> {
         ensures began { result.began ≡ began }
         ensures unread { result.last_seen ≡ None }
         ensures unset { (result.read_timeout ≡ None) × (result.write_timeout ≡ None) }
+        ensures open { result.has_ended_writing ≡ false }
     {
         Socket {
             clock,
@@ -107,6 +113,7 @@ impl<'a, R: Clock> Socket<'a, R> {
             last_seen: None,
             read_timeout: None,
             write_timeout: None,
+            has_ended_writing: false,
         }
     }
 }
@@ -119,6 +126,8 @@ impl<R: Clock> Peer for Socket<'_, R> {
     ghost read_timeout = { λ socket. option_map as_nanos socket.read_timeout };
 
     ghost write_timeout = { λ socket. option_map as_nanos socket.write_timeout };
+
+    ghost has_ended_writing = { λ socket. socket.has_ended_writing };
 
     fn began(&self) -> Option<Instant> {
         self.began
@@ -150,6 +159,7 @@ impl<R: Clock> Peer for Socket<'_, R> {
     }
 
     fn end_writing(&mut self) -> io::Result<()> {
+        self.has_ended_writing = true;
         self.stream.shutdown(Shutdown::Write)
     }
 

@@ -6,11 +6,12 @@ use Rattle.cli_tasks.proofs.serve.answer_each.Goals as goal
 
 pub loop-served-preserved : goal.loop-served-preserved
 loop-served-preserved g c =
-    let (few, listens, passed, counted, accepted, in_turn, logged) = c.loop-served.invariant in
+    let (few, listens, flawless, passed, counted, accepted, in_turn, logged) = c.loop-served.invariant in
     let (one, ended, accepted_one, answered) = c.in-Ok.ensures.ok in
     let below : c.loop-served.served + 1 ≤ c.args.count = omega (arith, c.loop-served-test.true) in (
       below,
-      c.answer_next.ensures.listens ∙ listens,
+      c.answer_next.ensures.listens.0 ∙ listens,
+      c.answer_next.ensures.listens.1 ∙ flawless,
       passed ++ one ∷ [],
       length-then passed one ∙ ap (λ n. n + 1) counted,
       accepts-then _ _ _ passed (one ∷ []) accepted accepted_one,

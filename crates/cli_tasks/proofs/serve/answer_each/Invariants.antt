@@ -5,7 +5,8 @@ use Rattle.cli_tasks.proofs.serve.answer_each.Given as goal
 
 abbrev pub invariant-loop-served : goal.invariant-loop-served
 invariant-loop-served g l = (l.served ≤ l.fn.count)
-    × (g.C.Connections.cannot_listen l.connections ≡ g.C.Connections.cannot_listen l.fn.connections)
+    × (g.C.Connections.is_listening l.connections ≡ g.C.Connections.is_listening l.fn.connections)
+    × (g.C.Connections.listen_error l.connections ≡ g.C.Connections.listen_error l.fn.connections)
     × (passed : List Transcript) × (length passed ≡ l.served)
     × Accepts (g.C.Connections.accepted l.fn.connections) (g.C.Connections.accepted l.connections) passed
     × AnswersInTurn (AnswersReady (g.E.AnswerConnections.answers l.fn.day) (g.E.AnswerConnections.tells_ready l.fn.day)

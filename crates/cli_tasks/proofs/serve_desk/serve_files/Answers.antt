@@ -1,9 +1,9 @@
-use Rattle.std.proofs.Common.{◌≡◌, ◌∙◌, inr, [], OnOk, refl, subst}
+use Rattle.std.proofs.Common.{◌≡◌, ◌∙◌, inr, [], OnOk, refl, subst, true}
 use Rattle.std.proofs.lemmas.Result.{IfErr-weaker}
 use Rattle.sqlite.specs.Files.{image_of}
 use Rattle.cli_tasks.proofs.ConnectionLemmas.{accepts-then, logs-none}
 use Rattle.cli_tasks.proofs.HistoryLemmas.{if_ok_both}
-use Rattle.cli_tasks.proofs.ServedFileLemmas.{if_closed, if_unclosed, keep_unserved, keeps_files, late_cause, late_not_bind, late_opened, leaves_none, not_closed, not_closed_over}
+use Rattle.cli_tasks.proofs.ServedFileLemmas.{if_closed, if_unclosed, keep_unserved, keeps_files, late_cause, late_opened, late_served, leaves_none, not_closed, not_closed_over}
 use Rattle.cli_tasks.proofs.serve_desk.serve_files.Goals as goal
 
 pub returns-in-Ok-listen-clause-clean : goal.returns-in-Ok-listen-clause-clean
@@ -67,10 +67,11 @@ returns-in-Ok-listen-clause-err g c =
 
 pub returns-in-Ok-listen-clause-listens : goal.returns-in-Ok-listen-clause-listens
 returns-in-Ok-listen-clause-listens g c =
-    let before = g.C.Connections.cannot_listen c.args.connections.now in
-    late_not_bind _ c.serve_desk.result _ c.serve_desk.ensures.err
-    (c.serve_desk.ensures.listens
-    ∙ subst (λ r. OnOk r (g.C.Connections.cannot_listen c.listen.new.self ≡ before)) c.in-Ok-listen.is c.listen.ensures.listens)
+    let bound = subst (λ r. OnOk r ((g.C.Connections.is_listening c.listen.new.self ≡ true)
+    × (g.C.Connections.listen_error c.listen.new.self ≡ g.C.Connections.listen_error c.args.connections.now)))
+    c.in-Ok-listen.is c.listen.ensures.listens in
+    late_served _ c.serve_desk.result _ c.serve_desk.ensures.err
+    (c.serve_desk.ensures.listens.0 ∙ bound.0, c.serve_desk.ensures.listens.1 ∙ bound.1)
 
 pub returns-in-Ok-listen-clause-unbound : goal.returns-in-Ok-listen-clause-unbound
 returns-in-Ok-listen-clause-unbound g c = late_opened _ c.serve_desk.result _ c.serve_desk.ensures.err
