@@ -13,7 +13,7 @@
 #
 # Needs the built program, which PROGRAM may name and which is run as ./roadesk, and git. A block marked `sh needs
 # COMMAND..` is not run without these commands. `netfilter` means the command nft and the right to make a network
-# namespace with rules of nftables, which root has.
+# namespace with rules of nftables, which root has, and `rtrlib` the module of FRR that speaks RTR.
 #
 # Exit status: 0 if all blocks ran and did as the documents say; 1 if one did otherwise or something else failed; 77,
 # after what is missing, if not all of them could be run.
@@ -85,6 +85,7 @@ printf 'silent\nshow-error\n' >"$work/.curlrc"
 is_there() {
     case $1 in
         netfilter) unshare -n nft add table inet roadesk 2>/dev/null ;;
+        rtrlib) compgen -G '/usr/lib/*/frr/modules/bgpd_rpki.so' >/dev/null ;;
         *) command -v "$1" >/dev/null ;;
     esac
 }
@@ -104,6 +105,7 @@ tell_missing() {
     while read -r tool; do
         case $tool in
             netfilter) what='no right to make a network namespace with rules of nftables, or no nft (Debian: nftables)' ;;
+            rtrlib) what='no module rpki of FRR (Debian: frr-rpki-rtrlib)' ;;
             *) what=$(without "$tool") ;;
         esac
         lines=$(for block in $(seq "$blocks"); do
