@@ -283,7 +283,7 @@ front() {
         $(block 'openssl rand -hex 16')" >"$work/front"
     password=$(tail -n 1 "$work/front")
     expect 'front: the first holder, by the guide' "$(shell "password=$password
-        $(block 'nginx -t' | sed 's/^curl /&-s /')" | grep -v 'test is successful\|syntax is ok')" '{"done":null}'
+        $(block 'nginx -t' | sed 's/^curl /&-s --retry 9 --retry-delay 1 --retry-connrefused /')" | grep -v 'test is successful\|syntax is ok')" '{"done":null}'
     through="curl -s --cacert /etc/roadesk/cert.pem -u reg:$password"
     expect 'front: a create' "$(shell "through='$through'"'
         one=https://localhost:8443/holders/alpha
