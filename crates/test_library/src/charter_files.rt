@@ -1,11 +1,12 @@
 //! Charter files: what they spell, and the line of the fault of each that is refused.
-use crate::rows::{Row, table_rows};
-use addr::{Name, Prefix};
+use crate::parsing::parse_prefix;
+use crate::tables::{assert_output, assert_same, rows_of};
+use addr::Name;
 use cli_texts::charter_from;
 use policy::Charter;
-use std::alloc::{AllocError, Global};
+use std::alloc::Global;
+use std::fmt::Write;
 use std::process::Abort;
-use std::test::Fail;
 
 /// Files with a semicolon for each line feed, and the lines of their faults.
 const FAULTS: &str = r#"
@@ -68,103 +69,62 @@ const COUNTS: [(u8, u8, &str, &str); 7] = [
 ];
 
 /// The line of the file's fault, or an empty one.
-fn line(alloc: Global, text: &str) -> Result<String, AllocError> {
-    match charter_from(alloc, text.as_bytes()) {
-        Ok(_) => format!(in alloc; ""),
-        Err(fault) => format!(in alloc; "{}", fault.line().as_str()),
-    }
-}
-
-fn push_operators(alloc: Global, text: &mut String, count: u8) -> Result<(), AllocError> {
-    for number in 0..count {
-        text.push_str(&format!(in alloc; "operator,op-{number}\n")?)?;
-    }
-    Ok(())
-}
-
-fn push_prefixes(alloc: Global, text: &mut String, count: u8) -> Result<(), AllocError> {
-    for number in 0..count {
-        text.push_str(&format!(in alloc; "pool,198.51.{number}.0/24\n")?)?;
-    }
-    Ok(())
+fn line(rt: &impl Abort, alloc: Global, text: &str) -> String {
+    let line = match charter_from(alloc, text.as_bytes()).err() {
+        None => String::from_str(alloc, ""),
+        Some(fault) => String::from_str(alloc, fault.line().as_str()),
+    };
+    line.expect(rt, "a text")
 }
 
 /// A file with so many operators and so many prefixes, and a row after them.
-fn charter_file(
-    alloc: Global,
-    operators: u8,
-    prefixes: u8,
-    last: &str,
-) -> Result<String, AllocError> {
-    let mut text = String::from_str(alloc, "kind,value\n")?;
-    push_operators(alloc, &mut text, operators)?;
-    push_prefixes(alloc, &mut text, prefixes)?;
-    text.push_str(last)?;
-    Ok(text)
+fn charter_file(rt: &impl Abort, alloc: Global, operators: u8, prefixes: u8, last: &str) -> String {
+    let mut text = String::from_str(alloc, "kind,value\n").expect(rt, "a text");
+    for number in 0..operators {
+        write!(text, "operator,op-{number}\n").expect(rt, "a text");
+    }
+    for number in 0..prefixes {
+        write!(text, "pool,198.51.{number}.0/24\n").expect(rt, "a text");
+    }
+    text.push_str(last).expect(rt, "a text");
+    text
 }
 
-fn assert_operators(rt: &impl Abort, charter: &Charter) -> Result<(), Fail> {
-    assert_eq!(rt; charter.operators().len(), 2);
-    assert!(rt; charter.is_operator(&Name::read(b"reg").ok_or("a name")?));
-    assert!(rt; charter.is_operator(&Name::read(b"alpha").ok_or("a name")?));
-    Ok(())
-}
-
-fn assert_pool(rt: &impl Abort, charter: &Charter) -> Result<(), Fail> {
-    let pool = [
-        Prefix::read(b"192.0.2.0/24")?,
-        Prefix::read(b"2001:db8::/32")?,
-    ];
-    assert_eq!(rt; charter.pool(), pool.as_slice());
-    Ok(())
+fn is_operator(rt: &impl Abort, charter: &Charter, name: &[u8]) -> bool {
+    charter.is_operator(&Name::read(name).expect(rt, "a name"))
 }
 
 #[test]
-fn charter_of_rows(rt: HostRuntime) -> Result<(), Fail> {
+fn charter_of_rows(rt: HostRuntime) {
     let text =
         b"kind,value\r\npool,2001:db8::/32\r\n\"operator\",reg\r\n\r\npool,\"192.0.2.0/24\"\r\noperator,alpha";
-    let Ok(charter) = charter_from(rt.alloc(), text) else {
-        return Err("refused".into());
-    };
-    assert_operators(&rt, &charter)?;
-    assert_pool(&rt, &charter)
-}
-
-fn assert_fault(rt: &impl Abort, alloc: Global, row: &Row<'_>) -> Result<(), AllocError> {
-    let text = row.input.replace(alloc, ';', "\n")?;
-    let fault = line(alloc, &text)?;
-    assert_eq!(rt; fault.as_str(), row.output, "{}: {:?}", row.name, row.input);
-    Ok(())
+    let charter = charter_from(rt.alloc(), text).expect(&rt, "a charter");
+    assert_same(&rt, charter.operators().len(), 2, "operators");
+    assert!(rt; is_operator(&rt, &charter, b"reg") && is_operator(&rt, &charter, b"alpha"));
+    let pool = [
+        parse_prefix(&rt, "192.0.2.0/24"),
+        parse_prefix(&rt, "2001:db8::/32"),
+    ];
+    assert_same(&rt, charter.pool(), pool.as_slice(), "pool");
 }
 
 #[test]
-fn faults(rt: HostRuntime) -> Result<(), Fail> {
-    for row in &table_rows(rt.alloc(), FAULTS)? {
-        assert_fault(&rt, rt.alloc(), row)?;
+fn faults(rt: HostRuntime) {
+    for row in &rows_of(&rt, rt.alloc(), FAULTS) {
+        let text = row
+            .input
+            .replace(rt.alloc(), ';', "\n")
+            .expect(&rt, "a text");
+        let fault = line(&rt, rt.alloc(), &text);
+        assert_output(&rt, fault.as_str(), row);
     }
-    Ok(())
-}
-
-fn assert_count(
-    rt: &impl Abort,
-    alloc: Global,
-    count: &(u8, u8, &str, &str),
-) -> Result<(), AllocError> {
-    let (operators, prefixes, last, expected) = *count;
-    let text = charter_file(alloc, operators, prefixes, last)?;
-    let fault = line(alloc, &text)?;
-    assert_eq!(rt;
-        fault.as_str(),
-        expected,
-        "{operators} operators and {prefixes} prefixes"
-    );
-    Ok(())
 }
 
 #[test]
-fn counts(rt: HostRuntime) -> Result<(), Fail> {
-    for count in &COUNTS {
-        assert_count(&rt, rt.alloc(), count)?;
+fn counts(rt: HostRuntime) {
+    for (operators, prefixes, last, expected) in COUNTS {
+        let text = charter_file(&rt, rt.alloc(), operators, prefixes, last);
+        let fault = line(&rt, rt.alloc(), &text);
+        assert_same(&rt, fault.as_str(), expected, (operators, prefixes));
     }
-    Ok(())
 }

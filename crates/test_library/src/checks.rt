@@ -1,10 +1,10 @@
 //! Checks of routes on VRPs: the lines of two files, and the line of the fault where one is refused.
-use crate::rows::{Row, table_rows};
 use crate::sheet::Sheet;
+use crate::tables::{assert_same, rows_of};
 use cli_texts::{ProgramFault, check_on};
-use std::alloc::{AllocError, Global};
+use std::alloc::Global;
+use std::fmt::Write;
 use std::process::Abort;
-use std::test::Fail;
 use streams::Device;
 
 /// VRPs out of order, one of them twice.
@@ -137,20 +137,20 @@ fn checked(alloc: Global, payloads: &[u8], routes: &[u8], room: usize) -> Ended 
 
 fn assert_prints(rt: &impl Abort, alloc: Global, payloads: &str, routes: &str, lines: &str) {
     let ended = checked(alloc, payloads.as_bytes(), routes.as_bytes(), 1000);
-    assert_eq!(rt; ended.result, Ok(()), "{routes:?}");
-    assert_eq!(rt; ended.written.as_slice(), lines.as_bytes(), "{routes:?}");
+    assert_same(rt, ended.result, Ok(()), routes);
+    assert_same(rt, ended.written.as_slice(), lines.as_bytes(), routes);
 }
 
 fn assert_fault(rt: &impl Abort, ended: &Ended, line: &str, status: u8) {
     let fault = ended.result.expect_err(rt, "a fault");
-    assert_eq!(rt; fault.line().as_str(), line);
-    assert_eq!(rt; fault.status(), status, "{line}");
+    assert_same(rt, fault.line().as_str(), line, line);
+    assert_same(rt, fault.status(), status, line);
 }
 
 fn assert_refuses(rt: &impl Abort, alloc: Global, payloads: &[u8], routes: &[u8], line: &str) {
     let ended = checked(alloc, payloads, routes, 1000);
     assert_fault(rt, &ended, line, 5);
-    assert_eq!(rt; ended.written.len(), 0, "{line}");
+    assert_same(rt, ended.written.len(), 0, line);
 }
 
 #[test]
@@ -201,25 +201,24 @@ fn check_payload_order_and_repeats(rt: HostRuntime) {
 }
 
 /// A payload file of the ASes from 1 to this one.
-fn payloads_to(alloc: Global, last: u32) -> Result<String, AllocError> {
-    let mut payloads = String::from_str(alloc, "asn,prefix,maxlength\n")?;
+fn payloads_to(rt: &impl Abort, alloc: Global, last: u32) -> String {
+    let mut payloads = String::from_str(alloc, "asn,prefix,maxlength\n").expect(rt, "a text");
     for asn in 1..=last {
-        payloads.push_str(&format!(in alloc; "AS{asn},192.0.2.0/24,24\n")?)?;
+        write!(payloads, "AS{asn},192.0.2.0/24,24\n").expect(rt, "a text");
     }
-    Ok(payloads)
+    payloads
 }
 
 /// More VRPs than a round limit, of which a route is judged on the last.
 #[test]
-fn check_takes_100_001_payloads(rt: HostRuntime) -> Result<(), Fail> {
+fn check_takes_100_001_payloads(rt: HostRuntime) {
     assert_prints(
         &rt,
         rt.alloc(),
-        &payloads_to(rt.alloc(), 100_001)?,
+        &payloads_to(&rt, rt.alloc(), 100_001),
         "prefix,origin\n192.0.2.0/24,AS100001\n192.0.2.0/24,AS100002\n",
         "192.0.2.0/24,AS100001,Valid\n192.0.2.0/24,AS100002,Invalid\n",
     );
-    Ok(())
 }
 
 #[test]
@@ -240,48 +239,27 @@ fn check_takes_headers_alone_and_each_form_of_csv(rt: HostRuntime) {
     }
 }
 
-fn assert_refuses_payloads(
-    rt: &impl Abort,
-    alloc: Global,
-    row: &Row<'_>,
-) -> Result<(), AllocError> {
-    let payloads = row.input.replace(alloc, ';', "\n")?;
-    assert_refuses(rt, alloc, payloads.as_bytes(), ROUTE.as_bytes(), row.output);
-    Ok(())
-}
-
-fn assert_bad_payloads(rt: &impl Abort, alloc: Global) -> Result<(), Fail> {
-    for row in &table_rows(alloc, BAD_PAYLOADS)? {
-        assert_refuses_payloads(rt, alloc, row)?;
+fn assert_refuses_payloads(rt: &impl Abort, alloc: Global) {
+    for row in &rows_of(rt, alloc, BAD_PAYLOADS) {
+        let payloads = row.input.replace(alloc, ';', "\n").expect(rt, "a text");
+        assert_refuses(rt, alloc, payloads.as_bytes(), ROUTE.as_bytes(), row.output);
     }
-    Ok(())
 }
 
-fn assert_refuses_routes(rt: &impl Abort, alloc: Global, row: &Row<'_>) -> Result<(), AllocError> {
-    let routes = row.input.replace(alloc, ';', "\n")?;
-    assert_refuses(rt, alloc, VRPS.as_bytes(), routes.as_bytes(), row.output);
-    Ok(())
-}
-
-fn assert_bad_routes(rt: &impl Abort, alloc: Global) -> Result<(), Fail> {
-    for row in &table_rows(alloc, BAD_ROUTES)? {
-        assert_refuses_routes(rt, alloc, row)?;
+fn assert_refuses_routes(rt: &impl Abort, alloc: Global) {
+    for row in &rows_of(rt, alloc, BAD_ROUTES) {
+        let routes = row.input.replace(alloc, ';', "\n").expect(rt, "a text");
+        assert_refuses(rt, alloc, VRPS.as_bytes(), routes.as_bytes(), row.output);
     }
-    Ok(())
-}
-
-fn assert_refuses_what_is_no_text(rt: &impl Abort, alloc: Global) {
-    let no_text = b"asn,prefix,maxlength\nAS64496,198.51.100.\xff/22,24\n";
-    let prefix_fault = "roadesk: payloads row 1: prefix 1";
-    assert_refuses(rt, alloc, no_text, ROUTE.as_bytes(), prefix_fault);
 }
 
 #[test]
-fn check_refuses_bad_files(rt: HostRuntime) -> Result<(), Fail> {
-    assert_bad_payloads(&rt, rt.alloc())?;
-    assert_bad_routes(&rt, rt.alloc())?;
-    assert_refuses_what_is_no_text(&rt, rt.alloc());
-    Ok(())
+fn check_refuses_bad_files(rt: HostRuntime) {
+    assert_refuses_payloads(&rt, rt.alloc());
+    assert_refuses_routes(&rt, rt.alloc());
+    let no_text = b"asn,prefix,maxlength\nAS64496,198.51.100.\xff/22,24\n";
+    let prefix_fault = "roadesk: payloads row 1: prefix 1";
+    assert_refuses(&rt, rt.alloc(), no_text, ROUTE.as_bytes(), prefix_fault);
 }
 
 #[test]
@@ -305,7 +283,7 @@ fn assert_drain_fails(rt: &impl Abort, alloc: Global, bytes: &[u8]) {
     let room = bytes.len();
     let ended = checked(alloc, VRPS.as_bytes(), TWO_ROUTES.as_bytes(), room);
     assert_fault(rt, &ended, "roadesk: stream", 3);
-    assert_eq!(rt; ended.written.as_slice(), bytes, "after {room} bytes");
+    assert_same(rt, ended.written.as_slice(), bytes, room);
 }
 
 #[test]

@@ -1,10 +1,10 @@
 //! ROA contents as hex text, both ways, and octets that are none.
-use crate::rows::{Row, table_rows};
-use addr::{Asn, Family, Prefix};
-use roa::{Content, ContentFault, DecodeFault, Entry, decode, encode};
+use crate::parsing::{host_entries, parse_asn, parse_entries, split_word};
+use crate::tables::{assert_output, assert_same, rows_of};
+use addr::Asn;
+use roa::{Content, ContentFault, DecodeFault, decode, encode};
 use std::alloc::Global;
 use std::process::Abort;
-use std::test::Fail;
 
 /// Contents by their AS and entries, which need not rise, and their octets.
 const VECTORS: &str = r#"
@@ -53,135 +53,80 @@ two equal entries => 301f020300fbf0301830160402000130103006030400c00002300603040
 entries that fall => 301f020300fbf0301830160402000130103006030400c000033006030400c00002
 "#;
 
-fn parse_octets(alloc: Global, hex: &str) -> Result<Vec<u8>, Fail> {
-    Ok(hex::decode(alloc, hex)?)
+fn parse_octets(rt: &impl Abort, alloc: Global, hex: &str) -> Vec<u8> {
+    hex::decode(alloc, hex).expect(rt, hex)
 }
 
 fn is_refused(alloc: Global, octets: &[u8]) -> bool {
-    matches!(decode(alloc, octets), Err(DecodeFault::NotContent))
-}
-
-/// An entry by its prefix and maxLength.
-fn parse_entry(text: &str) -> Result<Entry, Fail> {
-    let (prefix, max) = text.split_once(' ').ok_or("no maxLength")?;
-    Ok(Entry {
-        prefix: Prefix::read(prefix.as_bytes())?,
-        max: max.parse()?,
-    })
+    decode(alloc, octets).err() == Some(DecodeFault::NotContent)
 }
 
 /// A content by its AS, and its entries with commas between them.
-fn parse_content(alloc: Global, text: &str) -> Result<Content, Fail> {
-    let (asn, terms) = text.split_once(' ').ok_or("no entries")?;
-    let asn = Asn::from_text(asn.as_bytes()).ok_or("no AS number")?;
-    let mut entries = Vec::new(alloc);
-    for term in terms.split(',') {
-        entries.push(parse_entry(term.trim())?)?;
-    }
-    Ok(Content::make(asn, entries)?)
-}
-
-/// So many prefixes from 192.0.2.0/32 on.
-pub(crate) fn host_prefixes(alloc: Global, count: u8) -> Result<Vec<Entry>, Fail> {
-    let mut entries = Vec::new(alloc);
-    for i in 0..count {
-        let address = 0xc000_0200 + u128::from(i);
-        let prefix = Prefix::from_parts(Family::V4, address, 32).ok_or("an address")?;
-        entries.push(Entry { prefix, max: 32 })?;
-    }
-    Ok(entries)
-}
-
-fn assert_decodes(
-    rt: &impl Abort,
-    alloc: Global,
-    octets: &[u8],
-    content: &Content,
-    name: &str,
-) -> Result<(), DecodeFault> {
-    let decoded = decode(alloc, octets)?;
-    assert_eq!(rt; decoded.asn(), content.asn(), "{name}");
-    assert_eq!(rt; decoded.entries(), content.entries(), "{name}");
-    Ok(())
+fn parse_content(rt: &impl Abort, alloc: Global, text: &str) -> Content {
+    let (asn, entries) = split_word(rt, text);
+    let entries = parse_entries(rt, alloc, entries);
+    Content::make(parse_asn(rt, asn), entries).expect(rt, text)
 }
 
 /// The content in hex, which is decoded to the same content.
-fn encoded(rt: &impl Abort, alloc: Global, content: &Content, name: &str) -> Result<String, Fail> {
-    let octets = encode(alloc, content)?;
-    assert_decodes(rt, alloc, &octets, content, name)?;
-    Ok(hex::encode(alloc, octets.as_slice())?)
-}
-
-fn assert_vector(rt: &impl Abort, alloc: Global, row: &Row<'_>) -> Result<(), Fail> {
-    let content = parse_content(alloc, row.input)?;
-    let hex = encoded(rt, alloc, &content, row.name)?;
-    assert_eq!(rt; hex.as_str(), row.output, "{}", row.name);
-    Ok(())
+fn encoded(rt: &impl Abort, alloc: Global, content: &Content, name: &str) -> String {
+    let octets = encode(alloc, content).expect(rt, name);
+    let decoded = decode(alloc, octets.as_slice()).expect(rt, name);
+    assert_same(rt, decoded.asn(), content.asn(), name);
+    assert_same(rt, decoded.entries(), content.entries(), name);
+    hex::encode(alloc, octets.as_slice()).expect(rt, name)
 }
 
 #[test]
-fn vectors_are_encoded_and_decoded(rt: HostRuntime) -> Result<(), Fail> {
-    for row in &table_rows(rt.alloc(), VECTORS)? {
-        assert_vector(&rt, rt.alloc(), row)?;
+fn vectors_are_encoded_and_decoded(rt: HostRuntime) {
+    for row in &rows_of(&rt, rt.alloc(), VECTORS) {
+        let content = parse_content(&rt, rt.alloc(), row.input);
+        let hex = encoded(&rt, rt.alloc(), &content, row.name);
+        assert_output(&rt, hex.as_str(), row);
     }
-    Ok(())
 }
 
 /// The content of so many host prefixes has so many octets, which begin so.
-fn assert_host_prefixes(
-    rt: &impl Abort,
-    alloc: Global,
-    count: u8,
-    length: usize,
-    beginning: &str,
-) -> Result<(), Fail> {
-    let content = Content::make(Asn(64496), host_prefixes(alloc, count)?)?;
-    let hex = encoded(rt, alloc, &content, "a content of host prefixes")?;
-    assert_eq!(rt; hex.len() / 2, length, "{count} prefixes");
+fn assert_host_prefixes(rt: &impl Abort, alloc: Global, count: u8, length: usize, beginning: &str) {
+    let content = Content::make(Asn(64496), host_entries(rt, alloc, count)).expect(rt, "a content");
+    let hex = encoded(rt, alloc, &content, "a content of host prefixes");
+    assert_same(rt, hex.len() / 2, length, count);
     assert!(rt; hex.starts_with(beginning), "{count} prefixes");
-    Ok(())
 }
 
 /// The lengths in the content take two octets.
 #[test]
-fn content_of_fourteen_prefixes(rt: HostRuntime) -> Result<(), Fail> {
+fn content_of_fourteen_prefixes(rt: HostRuntime) {
     let beginning = "30818f020300fbf030818730818404020001307e3007030500c0000200";
-    assert_host_prefixes(&rt, rt.alloc(), 14, 146, beginning)
+    assert_host_prefixes(&rt, rt.alloc(), 14, 146, beginning);
 }
 
 /// The lengths in the content take three octets.
 #[test]
-fn content_of_sixty_four_prefixes(rt: HostRuntime) -> Result<(), Fail> {
+fn content_of_sixty_four_prefixes(rt: HostRuntime) {
     let beginning = "30820255020300fbf03082024c3082024804020001308202403007030500c0000200";
-    assert_host_prefixes(&rt, rt.alloc(), 64, 601, beginning)
+    assert_host_prefixes(&rt, rt.alloc(), 64, 601, beginning);
 }
 
 #[test]
-fn content_of_sixty_five_prefixes_is_refused(rt: HostRuntime) -> Result<(), Fail> {
-    let made = Content::make(Asn(64496), host_prefixes(rt.alloc(), 65)?);
-    assert!(rt; matches!(made, Err(ContentFault::TooMany)));
-    Ok(())
-}
-
-fn assert_refused(rt: &impl Abort, alloc: Global, row: &Row<'_>) -> Result<(), Fail> {
-    let octets = parse_octets(alloc, row.output)?;
-    assert!(rt; is_refused(alloc, octets.as_slice()), "{}", row.input);
-    Ok(())
+fn content_of_sixty_five_prefixes_is_refused(rt: HostRuntime) {
+    let made = Content::make(Asn(64496), host_entries(&rt, rt.alloc(), 65));
+    assert_same(&rt, made.err(), Some(ContentFault::TooMany), "65 prefixes");
 }
 
 #[test]
-fn decode_refuses_other_spellings(rt: HostRuntime) -> Result<(), Fail> {
-    for row in &table_rows(rt.alloc(), REFUSED)? {
-        assert_refused(&rt, rt.alloc(), row)?;
+fn decode_refuses_other_spellings(rt: HostRuntime) {
+    for row in &rows_of(&rt, rt.alloc(), REFUSED) {
+        let octets = parse_octets(&rt, rt.alloc(), row.output);
+        assert!(rt; is_refused(rt.alloc(), octets.as_slice()), "{}", row.input);
     }
-    Ok(())
 }
 
 /// And every proper beginning of a content, no octets among them.
 #[test]
-fn decode_refuses_cut_negative_and_set_unused_bit(rt: HostRuntime) -> Result<(), Fail> {
-    for row in &table_rows(rt.alloc(), VECTORS)? {
-        let octets = parse_octets(rt.alloc(), row.output)?;
+fn decode_refuses_cut_negative_and_set_unused_bit(rt: HostRuntime) {
+    for row in &rows_of(&rt, rt.alloc(), VECTORS) {
+        let octets = parse_octets(&rt, rt.alloc(), row.output);
         for end in 0..octets.len() {
             assert!(rt;
                 is_refused(rt.alloc(), &octets.as_slice()[..end]),
@@ -189,5 +134,4 @@ fn decode_refuses_cut_negative_and_set_unused_bit(rt: HostRuntime) -> Result<(),
             );
         }
     }
-    Ok(())
 }

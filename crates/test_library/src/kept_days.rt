@@ -1,16 +1,16 @@
 //! A day that is kept: which VRPs it has where authorizations begin and end on it, by RFC 8416
 //! section 4: what a filter matches is not among them, and an assertion always is.
-use crate::listing::listed;
-use crate::rows::{Row, table_rows};
-use crate::vrps::{parse_asn, parse_vrp, vrps_of};
-use addr::{Asn, Day, Prefix};
+use crate::parsing::{parse_asn, parse_prefix, parse_vrp, parse_vrps, split_word};
+use crate::rows::Row;
+use crate::tables::rows_of;
+use crate::vrps::visited;
+use addr::{Asn, Day};
 use daily_vrps::DailyVrps;
 use payload::{ListIndex, PayloadIndex};
 use registry::{Auth, Edit, RoaPrefixes};
 use slurm::Filter;
 use std::alloc::Global;
 use std::process::Abort;
-use std::test::Fail;
 
 const DAY: &str = "2026-06-15";
 
@@ -123,177 +123,156 @@ hold 6 => as_before
 revoke 3 => as_before
 "#;
 
-fn parse_day(text: &str) -> Result<Day, Fail> {
-    Ok(Day::read(text.as_bytes()).ok_or("no day")?)
+fn parse_day(rt: &impl Abort, text: &str) -> Day {
+    Day::read(text.as_bytes()).expect(rt, text)
+}
+
+fn parse_number(rt: &impl Abort, text: &str) -> u32 {
+    text.parse::<u32>().expect(rt, text)
 }
 
 /// An authorization by its AS, prefix, maxLength, first and last day.
-fn parse_auth(alloc: Global, number: u32, text: &str) -> Result<Auth, Fail> {
-    let (asn, rest) = text.split_once(' ').ok_or("no prefix")?;
-    let (prefix, rest) = rest.split_once(' ').ok_or("no maxLength")?;
-    let (max, days) = rest.split_once(' ').ok_or("no first day")?;
-    let (from, until) = days.split_once(' ').ok_or("no last day")?;
-    let (from, until) = (parse_day(from)?, parse_day(until)?);
-    Ok(Auth {
+fn parse_auth(rt: &impl Abort, alloc: Global, number: u32, text: &str) -> Auth {
+    let (asn, rest) = split_word(rt, text);
+    let (prefix, rest) = split_word(rt, rest);
+    let (max, days) = split_word(rt, rest);
+    let (from, until) = split_word(rt, days);
+    let max = max.parse::<u8>().expect(rt, max);
+    Auth {
         number,
-        asn: parse_asn(asn)?,
-        entries: RoaPrefixes::one(alloc, Prefix::read(prefix.as_bytes())?, max.parse()?)?,
-        from,
-        until,
-    })
+        asn: parse_asn(rt, asn),
+        entries: RoaPrefixes::one(alloc, parse_prefix(rt, prefix), max).expect(rt, "memory"),
+        from: parse_day(rt, from),
+        until: parse_day(rt, until),
+    }
 }
 
 /// The day before anything begins or ends on it.
-fn kept_day(alloc: Global) -> Result<DailyVrps, Fail> {
-    let filtered = Prefix::read(b"198.51.100.0/24")?;
-    let filters = vec![in alloc; Filter::Under(filtered), Filter::By(Asn(64511))]?;
-    let given = vrps_of(alloc, GIVEN)?;
-    let asserted = vrps_of(alloc, ASSERTED)?;
-    Ok(DailyVrps::of(alloc, parse_day(DAY)?, given, filters, asserted)?)
+fn kept_day(rt: &impl Abort, alloc: Global) -> DailyVrps {
+    let filtered = parse_prefix(rt, "198.51.100.0/24");
+    let filters = vec![in alloc; Filter::Under(filtered), Filter::By(Asn(64511))];
+    let filters = filters.expect(rt, "memory");
+    let given = parse_vrps(rt, alloc, GIVEN);
+    let asserted = parse_vrps(rt, alloc, ASSERTED);
+    DailyVrps::of(alloc, parse_day(rt, DAY), given, filters, asserted).expect(rt, "memory")
 }
 
-fn follow_event(alloc: Global, kept: &mut DailyVrps, event: &str) -> Result<(), Fail> {
-    let (what, auth) = event.split_once(' ').ok_or("no authorization")?;
-    let auth = parse_auth(alloc, 1, auth)?;
-    match what {
-        "begin" => kept.begin(&auth)?,
-        "end" => kept.end(&auth),
-        _ => return Err("no event".into()),
-    }
-    Ok(())
-}
-
-fn follow(alloc: Global, kept: &mut DailyVrps, events: &str) -> Result<(), Fail> {
+/// Begins or ends the authorizations that these words say.
+fn follow(rt: &impl Abort, alloc: Global, kept: &mut DailyVrps, events: &str) {
     for event in events.split(';') {
-        follow_event(alloc, kept, event)?;
+        let (what, auth) = split_word(rt, event);
+        let auth = parse_auth(rt, alloc, 1, auth);
+        match what {
+            "begin" => kept.begin(&auth).expect(rt, "memory"),
+            "end" => kept.end(&auth),
+            _ => rt.panic(event),
+        }
     }
-    Ok(())
 }
 
 /// Authorizations with this between them, of the numbers from `first` on.
-fn auths_from(alloc: Global, first: u32, texts: &str, between: char) -> Result<Vec<Auth>, Fail> {
+fn parse_auths(
+    rt: &impl Abort,
+    alloc: Global,
+    first: u32,
+    texts: &str,
+    between: char,
+) -> Vec<Auth> {
     let mut auths = Vec::new(alloc);
     let mut number = first;
     for text in texts.split(between) {
-        auths.push(parse_auth(alloc, number, text)?)?;
+        auths
+            .push(parse_auth(rt, alloc, number, text))
+            .expect(rt, "memory");
         number = number.saturating_add(1);
     }
-    Ok(auths)
+    auths
 }
 
-fn numbers_of(alloc: Global, texts: &str) -> Result<Vec<u32>, Fail> {
+fn parse_numbers(rt: &impl Abort, alloc: Global, texts: &str) -> Vec<u32> {
     let mut numbers = Vec::new(alloc);
     for text in texts.split(';') {
-        numbers.push(text.parse()?)?;
+        numbers.push(parse_number(rt, text)).expect(rt, "memory");
     }
-    Ok(numbers)
+    numbers
 }
 
 /// The edit of these words. What it creates has the number after those of the holder.
-fn parse_edit(alloc: Global, words: &str) -> Result<Edit, Fail> {
-    let (what, rest) = words.split_once(' ').ok_or("no edit")?;
+fn parse_edit(rt: &impl Abort, alloc: Global, words: &str) -> Edit {
+    let (what, rest) = split_word(rt, words);
     match what {
-        "create" => Ok(Edit::Create(parse_auth(alloc, 6, rest)?)),
-        "import" => Ok(Edit::Import {
-            auths: auths_from(alloc, 6, rest, ';')?,
+        "create" => Edit::Create(parse_auth(rt, alloc, 6, rest)),
+        "import" => Edit::Import {
+            auths: parse_auths(rt, alloc, 6, rest, ';'),
             created: 7,
-        }),
+        },
         "amend" => {
-            let (number, auth) = rest.split_once(' ').ok_or("no authorization")?;
-            Ok(Edit::Amend(parse_auth(alloc, number.parse()?, auth)?))
+            let (number, auth) = split_word(rt, rest);
+            Edit::Amend(parse_auth(rt, alloc, parse_number(rt, number), auth))
         }
-        "withdraw" => Ok(Edit::Withdraw(rest.parse()?)),
-        "hold" => Ok(Edit::Hold {
-            ended: numbers_of(alloc, rest)?,
+        "withdraw" => Edit::Withdraw(parse_number(rt, rest)),
+        "hold" => Edit::Hold {
+            ended: parse_numbers(rt, alloc, rest),
             removed: Vec::new(alloc),
             added: Vec::new(alloc),
-        }),
-        "revoke" => Ok(Edit::Revoke(rest.parse()?)),
-        _ => Err("no edit".into()),
+        },
+        "revoke" => Edit::Revoke(parse_number(rt, rest)),
+        _ => rt.panic(words),
     }
 }
 
 /// Puts in or takes out the VRP that these words say.
-fn change_vrp(vrps: &mut ListIndex, change: &str) -> Result<(), Fail> {
-    let (how, vrp) = change.split_once(' ').ok_or("no VRP")?;
-    let vrp = parse_vrp(vrp)?;
+fn change_vrp(rt: &impl Abort, vrps: &mut ListIndex, change: &str) {
+    let (how, vrp) = split_word(rt, change);
+    let vrp = parse_vrp(rt, vrp);
     let has_changed = match how {
-        "with" => vrps.insert(vrp)?,
+        "with" => vrps.insert(vrp).expect(rt, "memory"),
         "without" => vrps.remove(&vrp),
         _ => false,
     };
-    if has_changed {
-        Ok(())
-    } else {
-        Err("no change".into())
-    }
+    assert!(rt; has_changed, "{change}");
 }
 
 /// The VRPs that differ as these words say from those before.
-fn changed(alloc: Global, words: &str) -> Result<ListIndex, Fail> {
-    let mut vrps = ListIndex::from(vrps_of(alloc, BEFORE)?);
+fn changed(rt: &impl Abort, alloc: Global, words: &str) -> ListIndex {
+    let mut vrps = ListIndex::from(parse_vrps(rt, alloc, BEFORE));
     if words != "as_before" {
         for change in words.split(';') {
-            change_vrp(&mut vrps, change)?;
+            change_vrp(rt, &mut vrps, change);
         }
     }
-    Ok(vrps)
+    vrps
 }
 
 /// What is kept are the VRPs of `BEFORE` with these changes.
-fn assert_vrps(
-    rt: &impl Abort,
-    alloc: Global,
-    kept: &DailyVrps,
-    changes: &str,
-) -> Result<(), Fail> {
-    let vrps = changed(alloc, changes)?;
-    assert!(rt;
-        listed(alloc, kept.vrps())? == listed(alloc, &vrps)?,
-        "{changes}"
-    );
-    Ok(())
+fn assert_vrps(rt: &impl Abort, alloc: Global, kept: &DailyVrps, changes: &str) {
+    let expected = visited(rt, alloc, &changed(rt, alloc, changes));
+    assert!(rt; visited(rt, alloc, kept.vrps()) == expected, "{changes}");
 }
 
 /// The day as it was, with the VRPs that a row says.
-fn assert_row(rt: &impl Abort, alloc: Global, kept: &DailyVrps, row: Row<'_>) -> Result<(), Fail> {
-    assert_vrps(rt, alloc, kept, row.output)?;
-    assert!(rt; kept.day() == parse_day(DAY)?, "{}", row.input);
-    Ok(())
-}
-
-fn assert_follows(rt: &impl Abort, alloc: Global, row: Row<'_>) -> Result<(), Fail> {
-    let mut kept = kept_day(alloc)?;
-    assert_vrps(rt, alloc, &kept, "as_before")?;
-    follow(alloc, &mut kept, row.input)?;
-    assert_row(rt, alloc, &kept, row)
+fn assert_row(rt: &impl Abort, alloc: Global, kept: &DailyVrps, row: &Row<'_>) {
+    assert_vrps(rt, alloc, kept, row.output);
+    assert!(rt; kept.day() == parse_day(rt, DAY), "{}", row.input);
 }
 
 #[test]
-fn vrps_follow_what_begins_and_ends(rt: HostRuntime) -> Result<(), Fail> {
-    for row in &table_rows(rt.alloc(), EVENTS)? {
-        assert_follows(&rt, rt.alloc(), *row)?;
+fn vrps_follow_what_begins_and_ends(rt: HostRuntime) {
+    for row in &rows_of(&rt, rt.alloc(), EVENTS) {
+        let mut kept = kept_day(&rt, rt.alloc());
+        assert_vrps(&rt, rt.alloc(), &kept, "as_before");
+        follow(&rt, rt.alloc(), &mut kept, row.input);
+        assert_row(&rt, rt.alloc(), &kept, row);
     }
-    Ok(())
-}
-
-fn assert_follows_edit(
-    rt: &impl Abort,
-    alloc: Global,
-    auths: &[Auth],
-    row: Row<'_>,
-) -> Result<(), Fail> {
-    let mut kept = kept_day(alloc)?;
-    let edit = parse_edit(alloc, row.input)?;
-    kept.follow(&edit, auths)?;
-    assert_row(rt, alloc, &kept, row)
 }
 
 #[test]
-fn vrps_follow_edits(rt: HostRuntime) -> Result<(), Fail> {
-    let auths = auths_from(rt.alloc(), 1, AUTHS.trim(), '\n')?;
-    for row in &table_rows(rt.alloc(), EDITS)? {
-        assert_follows_edit(&rt, rt.alloc(), &auths, *row)?;
+fn vrps_follow_edits(rt: HostRuntime) {
+    let auths = parse_auths(&rt, rt.alloc(), 1, AUTHS.trim(), '\n');
+    for row in &rows_of(&rt, rt.alloc(), EDITS) {
+        let mut kept = kept_day(&rt, rt.alloc());
+        let edit = parse_edit(&rt, rt.alloc(), row.input);
+        kept.follow(&edit, &auths).expect(&rt, "memory");
+        assert_row(&rt, rt.alloc(), &kept, row);
     }
-    Ok(())
 }

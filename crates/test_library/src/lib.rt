@@ -15,6 +15,8 @@ pub mod listing;
 #[cfg(test)]
 mod memory;
 #[cfg(test)]
+mod parsing;
+#[cfg(test)]
 mod prefixes;
 #[cfg(test)]
 mod program_faults;
@@ -29,6 +31,8 @@ mod slurm_files;
 pub mod slurm_sample;
 #[cfg(test)]
 mod slurm_sets;
+#[cfg(test)]
+mod tables;
 #[cfg(test)]
 mod tries;
 #[cfg(test)]

@@ -1,10 +1,9 @@
 //! Texts of prefixes: their faults, and the spellings of another program.
-use crate::rows::split_row;
-use addr::{Family, Prefix};
+use crate::tables::{assert_same, row_of};
+use addr::{Family, Prefix, digits};
 use arrayvec::ArrayString;
 use hex::FromHex;
 use std::process::Abort;
-use std::test::Fail;
 
 /// Each text, and the number of its fault, or 0 where it spells a prefix.
 const TEXTS: &str = r#" => 1
@@ -100,50 +99,44 @@ ffffffffffffffffffffffffffffffff => ffff:ffff:ffff:ffff:ffff:ffff:ffff:ffff/128
 fn assert_written(rt: &impl Abort, prefix: &Prefix, text: &str) {
     let mut written = ArrayString::new();
     prefix.write_to(&mut written);
-    assert_eq!(rt; written.as_str(), text);
+    assert_same(rt, written.as_str(), text, text);
 }
 
 #[test]
-fn prefix_text_faults(rt: HostRuntime) -> Result<(), Fail> {
+fn prefix_text_faults(rt: HostRuntime) {
     for row in TEXTS.lines() {
-        let (text, fault) = split_row(row)?;
+        let (text, fault) = row_of(&rt, row);
         match Prefix::read(text.as_bytes()) {
             Ok(prefix) => {
                 assert_written(&rt, &prefix, text);
-                assert_eq!(rt; "0", fault, "{text:?}");
+                assert_same(&rt, "0", fault, text);
             }
             Err(found) => {
-                let number = found.number().to_string(rt.alloc())?;
-                assert_eq!(rt; number.as_str(), fault, "{text:?}");
+                let number = digits(u64::from(found.number()));
+                assert_same(&rt, number.as_str(), fault, text);
             }
         }
     }
-    Ok(())
 }
 
 /// The prefix of an address alone, of IPv4 where it has eight hex digits.
-fn address(digits: &str) -> Result<Prefix, Fail> {
+fn address(rt: &impl Abort, digits: &str) -> Prefix {
     let (family, first) = if digits.len() == 8 {
-        (
-            Family::V4,
-            u128::from(u32::from_be_bytes(<[u8; 4]>::from_hex(digits)?)),
-        )
+        let octets = <[u8; 4]>::from_hex(digits).expect(rt, digits);
+        (Family::V4, u128::from(u32::from_be_bytes(octets)))
     } else {
-        (
-            Family::V6,
-            u128::from_be_bytes(<[u8; 16]>::from_hex(digits)?),
-        )
+        let octets = <[u8; 16]>::from_hex(digits).expect(rt, digits);
+        (Family::V6, u128::from_be_bytes(octets))
     };
-    Ok(Prefix::from_parts(family, first, family.width()).ok_or("no address")?)
+    Prefix::from_parts(family, first, family.width()).expect(rt, digits)
 }
 
 #[test]
-fn spells_addresses_as_another_program_does(rt: HostRuntime) -> Result<(), Fail> {
+fn spells_addresses_as_another_program_does(rt: HostRuntime) {
     for row in ADDRESSES.lines() {
-        let (digits, text) = split_row(row)?;
-        let prefix = address(digits)?;
+        let (digits, text) = row_of(&rt, row);
+        let prefix = address(&rt, digits);
         assert_written(&rt, &prefix, text);
-        assert_eq!(rt; Prefix::read(text.as_bytes()), Ok(prefix), "{text}");
+        assert_same(&rt, Prefix::read(text.as_bytes()), Ok(prefix), text);
     }
-    Ok(())
 }

@@ -1,4 +1,5 @@
 //! The lines and the statuses of the program's faults.
+use crate::tables::assert_same;
 use addr::PrefixFault;
 use cli_texts::{FileFault, InputFile, ProgramFault, RowFault, WordsFault};
 use std::process::Abort;
@@ -59,8 +60,8 @@ const PAYLOAD_ROWS: [(RowFault, &str); 5] = [
 ];
 
 fn assert_fault(rt: &impl Abort, fault: ProgramFault, line: &str, status: u8) {
-    assert_eq!(rt; fault.line().as_str(), line);
-    assert_eq!(rt; fault.status(), status);
+    assert_same(rt, fault.line().as_str(), line, line);
+    assert_same(rt, fault.status(), status, line);
 }
 
 fn assert_row(rt: &impl Abort, file: InputFile, row: u64, fault: RowFault, line: &str) {

@@ -2,15 +2,15 @@
 //! the same call is good the next time. The tests' own allocations are those of steps that are
 //! tried twice, so they hold whichever it is.
 use crate::listing::FirstVrps;
+use crate::parsing::{parse_prefix, parse_vrp};
 use crate::slurm_sample::SAMPLE;
-use crate::vrps::parse_vrp;
+use crate::tables::assert_same;
 use addr::{Asn, Family, Holdings, Prefix, Vrp};
 use payload::{ListIndex, PayloadIndex, Trie};
 use roa::{Content, DecodeFault, Entry, decode, encode};
 use slurm::{Slurm, SlurmFault};
 use std::alloc::{AllocError, Global};
 use std::process::Abort;
-use std::test::Fail;
 
 /// What is done with a prefix of `STEPS`.
 #[derive(Clone, Copy)]
@@ -59,16 +59,16 @@ const INSERTED: [&str; 6] = [
 /// The filters and the assertions of `SAMPLE`.
 const SAMPLE_COUNTS: (usize, usize) = (3, 2);
 
-fn has_runs(holdings: &Holdings, prefixes: &str) -> Result<bool, Fail> {
+fn has_runs(rt: &impl Abort, holdings: &Holdings, prefixes: &str) -> bool {
     let mut count: usize = 0;
     for line in prefixes.lines() {
-        let prefix = Prefix::read(line.as_bytes())?;
-        if holdings.spans().get(count) != Some(&prefix.span()) {
-            return Ok(false);
+        let span = parse_prefix(rt, line).span();
+        if holdings.spans().get(count) != Some(&span) {
+            return false;
         }
         count = count.saturating_add(1);
     }
-    Ok(count == holdings.spans().len())
+    count == holdings.spans().len()
 }
 
 fn add_or_take(holdings: &mut Holdings, step: Step, prefix: &Prefix) -> Result<(), AllocError> {
@@ -79,30 +79,23 @@ fn add_or_take(holdings: &mut Holdings, step: Step, prefix: &Prefix) -> Result<(
 }
 
 /// The step leaves the runs that it names; where it is refused at first, those before it stay.
-fn assert_step(
-    rt: &impl Abort,
-    holdings: &mut Holdings,
-    before: &str,
-    step: &(Step, &str, &str),
-) -> Result<(), Fail> {
+fn assert_step(rt: &impl Abort, holdings: &mut Holdings, before: &str, step: &(Step, &str, &str)) {
     let (step, text, after) = *step;
-    let prefix = Prefix::read(text.as_bytes())?;
+    let prefix = parse_prefix(rt, text);
     if add_or_take(holdings, step, &prefix).is_err() {
-        assert!(rt; has_runs(holdings, before)?, "{text} was refused");
-        add_or_take(holdings, step, &prefix)?;
+        assert!(rt; has_runs(rt, holdings, before), "{text} was refused");
+        add_or_take(holdings, step, &prefix).expect(rt, text);
     }
-    assert!(rt; has_runs(holdings, after)?, "{text}");
-    Ok(())
+    assert!(rt; has_runs(rt, holdings, after), "{text}");
 }
 
-fn assert_holdings(rt: &impl Abort, alloc: Global) -> Result<(), Fail> {
+fn assert_holdings(rt: &impl Abort, alloc: Global) {
     let mut holdings = Holdings::new(alloc);
     let mut before = "";
     for step in &STEPS {
-        assert_step(rt, &mut holdings, before, step)?;
+        assert_step(rt, &mut holdings, before, step);
         before = step.2;
     }
-    Ok(())
 }
 
 fn try_list<I: PayloadIndex>(alloc: Global, index: &I) -> Option<Vec<Vrp>> {
@@ -117,25 +110,19 @@ fn try_list<I: PayloadIndex>(alloc: Global, index: &I) -> Option<Vec<Vrp>> {
     Some(all.vrps)
 }
 
-fn list_of<I: PayloadIndex>(alloc: Global, index: &I) -> Result<Vec<Vrp>, Fail> {
-    if let Some(vrps) = try_list(alloc, index) {
-        return Ok(vrps);
+fn list_of<I: PayloadIndex>(rt: &impl Abort, alloc: Global, index: &I) -> Vec<Vrp> {
+    match try_list(alloc, index) {
+        Some(vrps) => vrps,
+        None => try_list(alloc, index).expect(rt, "a list"),
     }
-    Ok(try_list(alloc, index).ok_or("no list")?)
 }
 
 /// The index is the set of the first VRPs of the table.
-fn assert_first<I: PayloadIndex>(
-    rt: &impl Abort,
-    alloc: Global,
-    index: &I,
-    count: usize,
-) -> Result<(), Fail> {
-    assert_eq!(rt; list_of(alloc, index)?.len(), count);
+fn assert_first<I: PayloadIndex>(rt: &impl Abort, alloc: Global, index: &I, count: usize) {
+    assert_same(rt, list_of(rt, alloc, index).len(), count, "VRPs");
     for text in INSERTED.iter().take(count) {
-        assert!(rt; index.contains(&parse_vrp(text)?), "{text}");
+        assert!(rt; index.contains(&parse_vrp(rt, text)), "{text}");
     }
-    Ok(())
 }
 
 /// Inserts a VRP into the set of so many before it, which stays where it is refused at first.
@@ -145,29 +132,24 @@ fn insert_next<I: PayloadIndex>(
     index: &mut I,
     count: usize,
     vrp: Vrp,
-) -> Result<bool, Fail> {
+) -> bool {
     match index.insert(vrp) {
-        Ok(is_new) => Ok(is_new),
+        Ok(is_new) => is_new,
         Err(_) => {
-            assert_first(rt, alloc, index, count)?;
-            Ok(index.insert(vrp)?)
+            assert_first(rt, alloc, index, count);
+            index.insert(vrp).expect(rt, "memory")
         }
     }
 }
 
-fn assert_inserts<I: PayloadIndex>(
-    rt: &impl Abort,
-    alloc: Global,
-    index: &mut I,
-) -> Result<(), Fail> {
+fn assert_inserts<I: PayloadIndex>(rt: &impl Abort, alloc: Global, index: &mut I) {
     let mut count: usize = 0;
     for text in INSERTED {
-        let is_new = insert_next(rt, alloc, index, count, parse_vrp(text)?)?;
-        assert!(rt; is_new, "{text}");
+        let vrp = parse_vrp(rt, text);
+        assert!(rt; insert_next(rt, alloc, index, count, vrp), "{text}");
         count = count.saturating_add(1);
-        assert_first(rt, alloc, index, count)?;
+        assert_first(rt, alloc, index, count);
     }
-    Ok(())
 }
 
 /// 64 entries, the most.
@@ -181,81 +163,65 @@ fn try_entries(alloc: Global) -> Option<Vec<Entry>> {
     Some(entries)
 }
 
-fn entries_of(alloc: Global) -> Result<Vec<Entry>, Fail> {
-    if let Some(entries) = try_entries(alloc) {
-        return Ok(entries);
+fn entries_of(rt: &impl Abort, alloc: Global) -> Vec<Entry> {
+    match try_entries(alloc) {
+        Some(entries) => entries,
+        None => try_entries(alloc).expect(rt, "entries"),
     }
-    Ok(try_entries(alloc).ok_or("no entries")?)
 }
 
 fn assert_is(rt: &impl Abort, content: &Content, entries: &[Entry]) {
-    assert_eq!(rt; content.asn(), Asn(64496));
-    assert_eq!(rt; content.entries(), entries);
+    assert_same(rt, content.asn(), Asn(64496), "the AS");
+    assert_same(rt, content.entries(), entries, "the entries");
 }
 
 /// The octets of the content, which stays as it was where they are refused at first.
-fn octets_of(
-    rt: &impl Abort,
-    alloc: Global,
-    content: &Content,
-    entries: &[Entry],
-) -> Result<Vec<u8>, AllocError> {
+fn octets_of(rt: &impl Abort, alloc: Global, content: &Content, entries: &[Entry]) -> Vec<u8> {
     match encode(alloc, content) {
-        Ok(octets) => Ok(octets),
+        Ok(octets) => octets,
         Err(_) => {
             assert_is(rt, content, entries);
-            encode(alloc, content)
+            encode(alloc, content).expect(rt, "octets")
         }
     }
 }
 
-fn decoded(rt: &impl Abort, alloc: Global, octets: &[u8]) -> Result<Content, DecodeFault> {
+fn decoded(rt: &impl Abort, alloc: Global, octets: &[u8]) -> Content {
     match decode(alloc, octets) {
-        Ok(content) => Ok(content),
+        Ok(content) => content,
         Err(fault) => {
-            assert_eq!(rt; fault, DecodeFault::Memory);
-            decode(alloc, octets)
+            assert_same(rt, fault, DecodeFault::Memory, "the fault");
+            decode(alloc, octets).expect(rt, "a content")
         }
     }
 }
 
-fn assert_encodes(
-    rt: &impl Abort,
-    alloc: Global,
-    content: &Content,
-    entries: &[Entry],
-) -> Result<(), Fail> {
-    let octets = octets_of(rt, alloc, content, entries)?;
-    assert_eq!(rt; octets.len(), 601);
-    assert_is(rt, &decoded(rt, alloc, &octets)?, entries);
-    Ok(())
+fn assert_content(rt: &impl Abort, alloc: Global) {
+    let entries = entries_of(rt, alloc);
+    let content = Content::make(Asn(64496), entries_of(rt, alloc)).expect(rt, "a content");
+    let octets = octets_of(rt, alloc, &content, &entries);
+    assert_same(rt, octets.len(), 601, "octets");
+    assert_is(rt, &decoded(rt, alloc, &octets), &entries);
 }
 
-fn assert_content(rt: &impl Abort, alloc: Global) -> Result<(), Fail> {
-    let entries = entries_of(alloc)?;
-    let content = Content::make(Asn(64496), entries_of(alloc)?)?;
-    assert_encodes(rt, alloc, &content, &entries)
-}
-
-fn assert_slurm(rt: &impl Abort, alloc: Global) -> Result<(), Fail> {
-    let slurm = match Slurm::read(alloc, SAMPLE.as_bytes()) {
+fn sample(rt: &impl Abort, alloc: Global) -> Slurm {
+    match Slurm::read(alloc, SAMPLE.as_bytes()) {
         Ok(slurm) => slurm,
         Err(fault) => {
-            assert_eq!(rt; fault, SlurmFault::Memory);
-            Slurm::read(alloc, SAMPLE.as_bytes())?
+            assert_same(rt, fault, SlurmFault::Memory, "the fault");
+            Slurm::read(alloc, SAMPLE.as_bytes()).expect(rt, "a file")
         }
-    };
-    let counts = (slurm.filters().len(), slurm.assertions().len());
-    assert!(rt; counts == SAMPLE_COUNTS);
-    Ok(())
+    }
 }
 
 #[test]
-fn refused_call_is_good_the_next_time(rt: HostRuntime) -> Result<(), Fail> {
+fn refused_call_is_good_the_next_time(rt: HostRuntime) {
     let alloc = rt.alloc();
-    assert_holdings(&rt, alloc)?;
-    assert_inserts(&rt, alloc, &mut ListIndex::new(alloc))?;
-    assert_inserts(&rt, alloc, &mut Trie::new(alloc))?;
-    assert_content(&rt, alloc)?;
-    assert_slurm(&rt, alloc)
+    assert_holdings(&rt, alloc);
+    assert_inserts(&rt, alloc, &mut ListIndex::new(alloc));
+    assert_inserts(&rt, alloc, &mut Trie::new(alloc));
+    assert_content(&rt, alloc);
+    let slurm = sample(&rt, alloc);
+    let counts = (slurm.filters().len(), slurm.assertions().len());
+    assert!(rt; counts == SAMPLE_COUNTS);
 }

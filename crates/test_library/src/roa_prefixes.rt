@@ -1,10 +1,11 @@
 //! Entries of an authorization, in any order: how they are kept, and lists that are none.
-use crate::rows::{Row, table_rows};
-use addr::{Family, Prefix, RoaPrefix};
+use crate::parsing::{host_entries, parse_entries, parse_prefix};
+use crate::rows::Row;
+use crate::tables::{assert_output, assert_same, rows_of};
+use addr::RoaPrefix;
 use registry::{RoaPrefixes, RoaPrefixesFault};
-use std::alloc::{AllocError, Global};
+use std::alloc::Global;
 use std::process::Abort;
-use std::test::Fail;
 
 /// Entries by prefix and maxLength as they are given, and as they are kept, or why they are not.
 const LISTS: &str = r#"
@@ -32,112 +33,56 @@ const COUNTS: [(&str, u8, Option<RoaPrefixesFault>); 4] = [
     ("one more", 65, Some(RoaPrefixesFault::Count)),
 ];
 
-/// The entries, with commas between them.
-fn parse_entries(alloc: Global, text: &str) -> Result<Vec<RoaPrefix>, Fail> {
-    let mut entries = Vec::new(alloc);
-    for entry in text.split(", ") {
-        if let Some((prefix, max)) = entry.split_once(' ') {
-            entries.push(RoaPrefix {
-                prefix: Prefix::read(prefix.as_bytes())?,
-                max: max.parse()?,
-            })?;
+fn assert_list(rt: &impl Abort, alloc: Global, row: &Row<'_>) {
+    match RoaPrefixes::make(parse_entries(rt, alloc, row.input)) {
+        Ok(made) => {
+            let expected = parse_entries(rt, alloc, row.output);
+            assert_same(rt, made.as_slice(), expected.as_slice(), row.name);
         }
-    }
-    Ok(entries)
-}
-
-/// The host prefix at this place from 192.0.2.0/32 on.
-fn host_entry(place: u8) -> Result<RoaPrefix, Fail> {
-    let address = 0xc000_0200 + u128::from(place);
-    let prefix = Prefix::from_parts(Family::V4, address, 32).ok_or("an address")?;
-    Ok(RoaPrefix { prefix, max: 32 })
-}
-
-fn assert_kept(
-    rt: &impl Abort,
-    alloc: Global,
-    made: &RoaPrefixes,
-    row: &Row<'_>,
-) -> Result<(), Fail> {
-    let expected = parse_entries(alloc, row.output)?;
-    assert_eq!(rt; made.as_slice(), expected.as_slice(), "{}", row.name);
-    Ok(())
-}
-
-fn assert_refused(
-    rt: &impl Abort,
-    alloc: Global,
-    fault: RoaPrefixesFault,
-    row: &Row<'_>,
-) -> Result<(), AllocError> {
-    let text = fault.to_string(alloc)?;
-    assert_eq!(rt; text.as_str(), row.output, "{}", row.name);
-    Ok(())
-}
-
-fn assert_list(rt: &impl Abort, alloc: Global, row: &Row<'_>) -> Result<(), Fail> {
-    match RoaPrefixes::make(parse_entries(alloc, row.input)?) {
-        Ok(made) => assert_kept(rt, alloc, &made, row),
-        Err(fault) => Ok(assert_refused(rt, alloc, fault, row)?),
+        Err(fault) => {
+            let text = fault.to_string(alloc).expect(rt, "a text");
+            assert_output(rt, text.as_str(), row);
+        }
     }
 }
 
 #[test]
-fn entries_are_kept_rising(rt: HostRuntime) -> Result<(), Fail> {
-    for row in &table_rows(rt.alloc(), LISTS)? {
-        assert_list(&rt, rt.alloc(), row)?;
+fn entries_are_kept_rising(rt: HostRuntime) {
+    for row in &rows_of(&rt, rt.alloc(), LISTS) {
+        assert_list(&rt, rt.alloc(), row);
     }
-    Ok(())
 }
 
-/// So many host prefixes, rising.
-fn host_entries(alloc: Global, count: u8) -> Result<Vec<RoaPrefix>, Fail> {
-    let mut entries = Vec::new(alloc);
-    for place in 0..count {
-        entries.push(host_entry(place)?)?;
-    }
-    Ok(entries)
-}
-
-fn made_of_falling(
-    alloc: Global,
-    rising: &[RoaPrefix],
-) -> Result<Result<RoaPrefixes, RoaPrefixesFault>, AllocError> {
-    let mut falling = Vec::from_slice(alloc, rising)?;
-    falling.reverse();
-    Ok(RoaPrefixes::make(falling))
-}
-
-fn assert_count(
-    rt: &impl Abort,
-    alloc: Global,
-    count: &(&str, u8, Option<RoaPrefixesFault>),
-) -> Result<(), Fail> {
+fn assert_count(rt: &impl Abort, alloc: Global, count: &(&str, u8, Option<RoaPrefixesFault>)) {
     let (name, count, fault) = *count;
-    let rising = host_entries(alloc, count)?;
-    match made_of_falling(alloc, &rising)? {
+    let rising = host_entries(rt, alloc, count);
+    let mut falling = host_entries(rt, alloc, count);
+    falling.reverse();
+    match RoaPrefixes::make(falling) {
         Ok(made) => {
-            assert!(rt; fault.is_none(), "{name}");
-            assert_eq!(rt; made.as_slice(), rising.as_slice(), "{name}");
+            assert_same(rt, None, fault, name);
+            assert_same(rt, made.as_slice(), rising.as_slice(), name);
         }
-        Err(found) => assert_eq!(rt; Some(found), fault, "{name}"),
+        Err(found) => assert_same(rt, Some(found), fault, name),
     }
-    Ok(())
 }
 
 /// The host prefixes fall, and are kept rising.
 #[test]
-fn one_to_sixty_four_entries(rt: HostRuntime) -> Result<(), Fail> {
+fn one_to_sixty_four_entries(rt: HostRuntime) {
     for count in &COUNTS {
-        assert_count(&rt, rt.alloc(), count)?;
+        assert_count(&rt, rt.alloc(), count);
     }
-    Ok(())
 }
 
 #[test]
-fn one_is_the_list_of_one_entry(rt: HostRuntime) -> Result<(), Fail> {
-    let entry = host_entry(0)?;
-    let made = RoaPrefixes::one(rt.alloc(), entry.prefix, entry.max)?;
-    assert!(rt; made.as_slice() == [entry].as_slice());
-    Ok(())
+fn one_is_the_list_of_one_entry(rt: HostRuntime) {
+    let prefix = parse_prefix(&rt, "192.0.2.0/32");
+    let made = RoaPrefixes::one(rt.alloc(), prefix, 32).expect(&rt, "memory");
+    assert_same(
+        &rt,
+        made.as_slice(),
+        [RoaPrefix { prefix, max: 32 }].as_slice(),
+        "one",
+    );
 }

@@ -1,13 +1,13 @@
 //! SLURM files: the lowest fault of each text, and what a file filters and asserts.
-use crate::rows::{Row, nested, table_rows};
+use crate::parsing::{parse_prefix, parse_vrp};
+use crate::rows::{Row, nested};
 use crate::slurm_sample::SAMPLE;
-use crate::vrps::parse_vrp;
-use addr::{Asn, Prefix, digits};
+use crate::tables::{assert_output, assert_same, rows_of};
+use addr::{Asn, digits};
 use serde_json::Value;
 use slurm::{Filter, Slurm, SlurmFault};
-use std::alloc::{AllocError, Global};
+use std::alloc::Global;
 use std::process::Abort;
-use std::test::Fail;
 
 /// The parts of a file, of which the last ones may be missing, and the number of its fault, 0 where
 /// there is none: `slurmVersion`, the prefix filters, the prefix assertions, and what follows in the
@@ -128,158 +128,145 @@ const FILTERINGS: &str = r#"
 
 /// The number of the fault, 0 where the text is a file.
 fn fault(alloc: Global, text: &str) -> u8 {
-    match Slurm::read(alloc, text.as_bytes()) {
-        Ok(_) => 0,
-        Err(fault) => fault.number(),
+    match Slurm::read(alloc, text.as_bytes()).err() {
+        None => 0,
+        Some(fault) => fault.number(),
     }
 }
 
 /// A file of these entries; `more` follows the other members of the outermost object.
 pub(crate) fn file(
+    rt: &impl Abort,
     alloc: Global,
     version: &str,
     filters: &str,
     assertions: &str,
     more: &str,
-) -> Result<String, AllocError> {
-    format!(in alloc;
+) -> String {
+    let text = format!(in alloc;
         "{{\"slurmVersion\":{version},\
         \"validationOutputFilters\":{{\"prefixFilters\":[{filters}],\"bgpsecFilters\":[]}},\
         \"locallyAddedAssertions\":{{\"prefixAssertions\":[{assertions}],\"bgpsecAssertions\":[]}}{more}}}"
-    )
+    );
+    text.expect(rt, "a text")
 }
 
 /// A file by its parts, which ` | ` parts.
-fn file_from_parts(alloc: Global, parts: &str) -> Result<String, AllocError> {
+fn file_from_parts(rt: &impl Abort, alloc: Global, parts: &str) -> String {
     let mut parts = parts.split('|');
     let version = parts.next().unwrap_or("").trim();
     let filters = parts.next().unwrap_or("").trim();
     let assertions = parts.next().unwrap_or("").trim();
     let more = parts.next().unwrap_or("").trim();
-    file(alloc, version, filters, assertions, more)
+    file(rt, alloc, version, filters, assertions, more)
 }
 
 fn assert_fault(rt: &impl Abort, alloc: Global, text: &str, row: &Row<'_>) {
     let number = digits(u64::from(fault(alloc, text)));
-    assert_eq!(rt; number.as_str(), row.output, "{}: {}", row.name, row.input);
-}
-
-fn assert_fault_of_parts(rt: &impl Abort, alloc: Global, row: &Row<'_>) -> Result<(), AllocError> {
-    let text = file_from_parts(alloc, row.input)?;
-    assert_fault(rt, alloc, &text, row);
-    Ok(())
+    assert_output(rt, number.as_str(), row);
 }
 
 #[test]
-fn lowest_fault_of_parts_is_reported(rt: HostRuntime) -> Result<(), Fail> {
-    for row in &table_rows(rt.alloc(), PARTS)? {
-        assert_fault_of_parts(&rt, rt.alloc(), row)?;
+fn lowest_fault_of_parts_is_reported(rt: HostRuntime) {
+    for row in &rows_of(&rt, rt.alloc(), PARTS) {
+        let text = file_from_parts(&rt, rt.alloc(), row.input);
+        assert_fault(&rt, rt.alloc(), &text, row);
     }
-    Ok(())
 }
 
 #[test]
-fn lowest_fault_of_texts_is_reported(rt: HostRuntime) -> Result<(), Fail> {
-    for row in &table_rows(rt.alloc(), TEXTS)? {
+fn lowest_fault_of_texts_is_reported(rt: HostRuntime) {
+    for row in &rows_of(&rt, rt.alloc(), TEXTS) {
         assert_fault(&rt, rt.alloc(), row.input, row);
     }
-    Ok(())
 }
 
 #[test]
-fn text_that_is_marked_or_not_utf_8_is_not_json(rt: HostRuntime) -> Result<(), Fail> {
-    let marked = format!(in rt.alloc(); "\u{feff}{SAMPLE}")?;
-    assert_eq!(rt; fault(rt.alloc(), &marked), 1, "a byte order mark");
-    assert!(rt;
-        matches!(
-            Slurm::read(rt.alloc(), b"\"\xff\""),
-            Err(SlurmFault::NotJson)
-        )
-    );
-    Ok(())
+fn text_that_is_marked_or_not_utf_8_is_not_json(rt: HostRuntime) {
+    let marked = format!(in rt.alloc(); "\u{feff}{SAMPLE}").expect(&rt, "a text");
+    assert_same(&rt, fault(rt.alloc(), &marked), 1, "a byte order mark");
+    let found = Slurm::read(rt.alloc(), b"\"\xff\"").err();
+    assert_same(&rt, found, Some(SlurmFault::NotJson), "not UTF-8");
 }
 
-/// Whether each VRP that the file asserts is filtered by it, with a space before each answer.
-fn filterings(alloc: Global, slurm: &Slurm) -> Result<String, AllocError> {
+/// Whether each VRP that the file asserts is filtered by it.
+fn assert_filterings(rt: &impl Abort, alloc: Global, row: &Row<'_>) {
+    let text = file_from_parts(rt, alloc, row.input);
+    let slurm = Slurm::read(alloc, text.as_bytes()).expect(rt, row.input);
     let mut answers = String::new(alloc);
     for vrp in slurm.assertions() {
-        answers.push_str(if slurm.filtered(vrp) { " yes" } else { " no" })?;
+        let answer = if slurm.filtered(vrp) { " yes" } else { " no" };
+        answers.push_str(answer).expect(rt, "memory");
     }
-    Ok(answers)
-}
-
-fn assert_filterings(rt: &impl Abort, alloc: Global, row: &Row<'_>) -> Result<(), Fail> {
-    let text = file_from_parts(alloc, row.input)?;
-    let answers = filterings(alloc, &Slurm::read(alloc, text.as_bytes())?)?;
-    assert_eq!(rt; answers.trim(), row.output, "{}: {}", row.name, row.input);
-    Ok(())
+    assert_output(rt, answers.trim(), row);
 }
 
 #[test]
-fn filters_match_vrps(rt: HostRuntime) -> Result<(), Fail> {
-    for row in &table_rows(rt.alloc(), FILTERINGS)? {
-        assert_filterings(&rt, rt.alloc(), row)?;
+fn filters_match_vrps(rt: HostRuntime) {
+    for row in &rows_of(&rt, rt.alloc(), FILTERINGS) {
+        assert_filterings(&rt, rt.alloc(), row);
     }
-    Ok(())
 }
 
-fn assert_sample_filters(rt: &impl Abort, slurm: &Slurm) -> Result<(), Fail> {
+fn assert_sample(rt: &impl Abort, slurm: &Slurm) {
     let filters = [
-        Filter::Under(Prefix::read(b"192.0.2.0/24")?),
+        Filter::Under(parse_prefix(rt, "192.0.2.0/24")),
         Filter::By(Asn(64496)),
-        Filter::Both(Prefix::read(b"198.51.100.0/24")?, Asn(64497)),
+        Filter::Both(parse_prefix(rt, "198.51.100.0/24"), Asn(64497)),
     ];
-    assert_eq!(rt; slurm.filters(), filters.as_slice());
-    Ok(())
-}
-
-fn assert_sample(rt: &impl Abort, slurm: &Slurm) -> Result<(), Fail> {
-    assert_sample_filters(rt, slurm)?;
+    assert_same(rt, slurm.filters(), filters.as_slice(), "filters");
     let assertions = [
-        parse_vrp("AS64496 198.51.100.0/24 24")?,
-        parse_vrp("AS64496 2001:db8::/32 48")?,
+        parse_vrp(rt, "AS64496 198.51.100.0/24 24"),
+        parse_vrp(rt, "AS64496 2001:db8::/32 48"),
     ];
-    assert_eq!(rt; slurm.assertions(), assertions.as_slice());
-    Ok(())
+    assert_same(rt, slurm.assertions(), assertions.as_slice(), "assertions");
 }
 
 #[test]
-fn sample_has_its_filters_and_assertions(rt: HostRuntime) -> Result<(), Fail> {
-    assert_sample(&rt, &Slurm::read(rt.alloc(), SAMPLE.as_bytes())?)
+fn sample_has_its_filters_and_assertions(rt: HostRuntime) {
+    let slurm = Slurm::read(rt.alloc(), SAMPLE.as_bytes()).expect(&rt, "a file");
+    assert_sample(&rt, &slurm);
 }
 
 #[test]
-fn sample_as_a_value_has_its_filters_and_assertions(rt: HostRuntime) -> Result<(), Fail> {
-    let value = Value::from_str(rt.alloc(), SAMPLE)?;
-    assert_sample(&rt, &Slurm::of(rt.alloc(), &value)?)
+fn sample_as_a_value_has_its_filters_and_assertions(rt: HostRuntime) {
+    let value = Value::from_str(rt.alloc(), SAMPLE).expect(&rt, "a value");
+    let slurm = Slurm::of(rt.alloc(), &value).expect(&rt, "a file");
+    assert_sample(&rt, &slurm);
 }
 
 // 127 levels are JSON, which is then no file, and 128 are none.
 #[test]
-fn nesting_limit(rt: HostRuntime) -> Result<(), Fail> {
+fn nesting_limit(rt: HostRuntime) {
     for (depth, number) in [(127, 2), (128, 1)] {
-        let text = nested(rt.alloc(), depth)?;
-        assert_eq!(rt; fault(rt.alloc(), &text), number, "{depth} levels");
+        let text = nested(rt.alloc(), depth).expect(&rt, "a text");
+        assert_same(&rt, fault(rt.alloc(), &text), number, depth);
     }
-    Ok(())
 }
 
 /// So many filters and then this one, after one assertion.
-fn file_of_filters(alloc: Global, count: u32, last: &str) -> Result<String, AllocError> {
+fn file_of_filters(rt: &impl Abort, alloc: Global, count: u32, last: &str) -> String {
     let mut filters = String::new(alloc);
     for _ in 0..count {
-        filters.push_str("{\"asn\":1},")?;
+        filters.push_str("{\"asn\":1},").expect(rt, "memory");
     }
-    filters.push_str(last)?;
-    file(alloc, "1", &filters, "{\"prefix\":\"::/8\",\"asn\":1}", "")
+    filters.push_str(last).expect(rt, "memory");
+    file(
+        rt,
+        alloc,
+        "1",
+        &filters,
+        "{\"prefix\":\"::/8\",\"asn\":1}",
+        "",
+    )
 }
 
 /// How many entries the file has as a value, 0 where it is none.
-fn entries_read(alloc: Global, text: &str) -> Result<usize, Fail> {
-    let value = Value::from_str(alloc, text)?;
+fn entries_read(rt: &impl Abort, alloc: Global, text: &str) -> usize {
+    let value = Value::from_str(alloc, text).expect(rt, "a value");
     match Slurm::of(alloc, &value) {
-        Ok(slurm) => Ok(slurm.filters().len() + slurm.assertions().len()),
-        Err(_) => Ok(0),
+        Ok(slurm) => slurm.filters().len() + slurm.assertions().len(),
+        Err(_) => 0,
     }
 }
 
@@ -290,42 +277,30 @@ const LIMITS: [(u32, &str, u8, usize); 3] = [
     (4096, "{\"asn\":1,\"comment\":0}", 10, 0),
 ];
 
-fn assert_limit(
-    rt: &impl Abort,
-    alloc: Global,
-    limit: &(u32, &str, u8, usize),
-) -> Result<(), Fail> {
-    let (before, last, number, entries) = *limit;
-    let text = file_of_filters(alloc, before, last)?;
-    assert_eq!(rt; fault(alloc, &text), number, "{before} and {last}");
-    assert_eq!(rt; entries_read(alloc, &text)?, entries, "{before} and {last}");
-    Ok(())
-}
-
 /// A fault in the last of too many entries is the lower one.
 #[test]
-fn limit_of_entries(rt: HostRuntime) -> Result<(), Fail> {
-    for limit in &LIMITS {
-        assert_limit(&rt, rt.alloc(), limit)?;
+fn limit_of_entries(rt: HostRuntime) {
+    for (before, last, number, entries) in LIMITS {
+        let text = file_of_filters(&rt, rt.alloc(), before, last);
+        let found = (
+            fault(rt.alloc(), &text),
+            entries_read(&rt, rt.alloc(), &text),
+        );
+        assert_same(&rt, found, (number, entries), before);
     }
-    Ok(())
-}
-
-fn fault_of_made(alloc: Global, count: usize) -> Result<Option<SlurmFault>, AllocError> {
-    let filters = vec![in alloc; Filter::By(Asn(1)); count]?;
-    Ok(Slurm::make(filters, Vec::new(alloc)).err())
 }
 
 #[test]
-fn limit_of_made_files(rt: HostRuntime) -> Result<(), Fail> {
+fn limit_of_made_files(rt: HostRuntime) {
     for (count, fault) in [(4096, None), (4097, Some(SlurmFault::TooMany))] {
-        assert_eq!(rt; fault_of_made(rt.alloc(), count)?, fault, "{count} filters");
+        let filters = vec![in rt.alloc(); Filter::By(Asn(1)); count].expect(&rt, "memory");
+        let made = Slurm::make(filters, Vec::new(rt.alloc()));
+        assert_same(&rt, made.err(), fault, count);
     }
-    Ok(())
 }
 
 #[test]
-fn prints_slurm_faults(rt: HostRuntime) -> Result<(), Fail> {
+fn prints_slurm_faults(rt: HostRuntime) {
     for (fault, text) in [
         (SlurmFault::NotJson, "the text is not JSON"),
         (
@@ -334,7 +309,7 @@ fn prints_slurm_faults(rt: HostRuntime) -> Result<(), Fail> {
         ),
         (SlurmFault::Memory, "out of memory"),
     ] {
-        assert_eq!(rt; format!(in rt.alloc(); "{fault}")?.as_str(), text);
+        let printed = fault.to_string(rt.alloc()).expect(&rt, "a text");
+        assert_same(&rt, printed.as_str(), text, fault);
     }
-    Ok(())
 }

@@ -1,12 +1,13 @@
 //! Sets of SLURM files: which files overlap (RFC 8416 section 4.2), and how many files a set has and
 //! under which names.
-use crate::rows::{Row, table_rows};
+use crate::rows::Row;
 use crate::slurm_files::file;
+use crate::tables::{assert_output, rows_of};
 use addr::{Name, digits};
-use slurm::{NamedSlurm, Slurm, SlurmFault, SlurmSet};
-use std::alloc::{AllocError, Global};
+use slurm::{NamedSlurm, Slurm, SlurmSet};
+use std::alloc::Global;
+use std::fmt::Write;
 use std::process::Abort;
-use std::test::Fail;
 
 /// Two files, ` | ` between them and `;` between the filters and the assertions of each, and whether
 /// they overlap.
@@ -78,131 +79,99 @@ p o n m l k j i h g f e d c b p => two files have one name
 p p o n m l k j i h g f e d c b a => there are more than 16 files
 "#;
 
-fn named(name: &str, file: Slurm) -> Result<NamedSlurm, Fail> {
-    let name = Name::read(name.as_bytes()).ok_or("no name")?;
-    Ok(NamedSlurm { name, file })
+fn named(rt: &impl Abort, name: &str, file: Slurm) -> NamedSlurm {
+    let name = Name::read(name.as_bytes()).expect(rt, name);
+    NamedSlurm { name, file }
 }
 
 /// The file of these filters and, after `;`, assertions.
-fn slurm_of(alloc: Global, entries: &str) -> Result<Slurm, Fail> {
-    let (filters, assertions) = entries.split_once(';').ok_or("no assertions")?;
-    let text = file(alloc, "1", filters, assertions, "")?;
-    Ok(Slurm::read(alloc, text.as_bytes())?)
+fn slurm_of(rt: &impl Abort, alloc: Global, entries: &str) -> Slurm {
+    let (filters, assertions) = entries.split_once(';').expect(rt, entries);
+    let text = file(rt, alloc, "1", filters, assertions, "");
+    Slurm::read(alloc, text.as_bytes()).expect(rt, entries)
 }
 
 /// The files of a row, which are named by their places.
-fn files_of(alloc: Global, row: &str) -> Result<Vec<NamedSlurm>, Fail> {
+fn files_of(rt: &impl Abort, alloc: Global, row: &str) -> Vec<NamedSlurm> {
     let mut files = Vec::new(alloc);
     for entries in row.split(" | ") {
-        let name = digits(files.len() as u64);
-        files.push(named(&name, slurm_of(alloc, entries)?)?)?;
+        let place = digits(files.len() as u64);
+        let slurm = slurm_of(rt, alloc, entries);
+        files.push(named(rt, &place, slurm)).expect(rt, "memory");
     }
-    Ok(files)
-}
-
-fn empty_file(alloc: Global) -> Result<Slurm, SlurmFault> {
-    Slurm::make(Vec::new(alloc), Vec::new(alloc))
+    files
 }
 
 /// Empty files of these names.
-fn files_of_names(alloc: Global, names: &str) -> Result<Vec<NamedSlurm>, Fail> {
+fn files_of_names(rt: &impl Abort, alloc: Global, names: &str) -> Vec<NamedSlurm> {
     let mut files = Vec::new(alloc);
     for name in names.split_whitespace() {
-        files.push(named(name, empty_file(alloc)?)?)?;
+        let empty = Slurm::make(Vec::new(alloc), Vec::new(alloc)).expect(rt, "a file");
+        files.push(named(rt, name, empty)).expect(rt, "memory");
     }
-    Ok(files)
+    files
+}
+
+fn answer(is_so: bool) -> &'static str {
+    if is_so { "yes" } else { "no" }
+}
+
+fn assert_pair(rt: &impl Abort, alloc: Global, row: &Row<'_>) {
+    let files = files_of(rt, alloc, row.input);
+    let [one, other] = files.as_slice() else {
+        rt.panic(row.input)
+    };
+    assert_output(rt, answer(one.file.overlaps(&other.file)), row);
+    assert_output(rt, answer(other.file.overlaps(&one.file)), row);
+}
+
+#[test]
+fn slurm_files_overlap_either_way(rt: HostRuntime) {
+    for row in &rows_of(&rt, rt.alloc(), PAIRS) {
+        assert_pair(&rt, rt.alloc(), row);
+    }
+}
+
+fn assert_sets(rt: &impl Abort, alloc: Global, table: &str) {
+    for row in &rows_of(rt, alloc, table) {
+        let set = SlurmSet::make(files_of(rt, alloc, row.input)).expect(rt, row.input);
+        assert_output(rt, answer(set.has_overlap(alloc)), row);
+    }
+}
+
+#[test]
+fn slurm_sets_have_an_overlap(rt: HostRuntime) {
+    assert_sets(&rt, rt.alloc(), PAIRS);
+    assert_sets(&rt, rt.alloc(), SETS);
+}
+
+#[test]
+fn set_of_no_file_has_no_overlap(rt: HostRuntime) {
+    let set = SlurmSet::make(Vec::new(rt.alloc())).expect(&rt, "a set");
+    assert!(rt; !set.has_overlap(rt.alloc()));
 }
 
 /// How many files the set has, and their names.
-fn shown(alloc: Global, set: &SlurmSet) -> Result<String, AllocError> {
-    let mut text = set.files().len().to_string(alloc)?;
+fn shown(rt: &impl Abort, alloc: Global, set: &SlurmSet) -> String {
+    let mut text = set.files().len().to_string(alloc).expect(rt, "a text");
     for named in set.files() {
-        text.push(' ')?;
-        text.push_str(named.name.as_str())?;
+        write!(text, " {}", named.name).expect(rt, "a text");
     }
-    Ok(text)
-}
-
-fn assert_overlaps(rt: &impl Abort, one: &Slurm, other: &Slurm, row: &Row<'_>) {
-    let expected = row.output == "yes";
-    assert!(rt;
-        one.overlaps(other) == expected,
-        "{}: {}",
-        row.name,
-        row.input
-    );
-    assert!(rt;
-        other.overlaps(one) == expected,
-        "{}: {}",
-        row.name,
-        row.input
-    );
-}
-
-fn assert_pair(rt: &impl Abort, alloc: Global, row: &Row<'_>) -> Result<(), Fail> {
-    let files = files_of(alloc, row.input)?;
-    let [one, other] = files.as_slice() else {
-        return Err("not two files".into());
-    };
-    assert_overlaps(rt, &one.file, &other.file, row);
-    Ok(())
-}
-
-#[test]
-fn slurm_files_overlap_either_way(rt: HostRuntime) -> Result<(), Fail> {
-    for row in &table_rows(rt.alloc(), PAIRS)? {
-        assert_pair(&rt, rt.alloc(), row)?;
-    }
-    Ok(())
-}
-
-fn assert_set(rt: &impl Abort, alloc: Global, row: &Row<'_>) -> Result<(), Fail> {
-    let set = SlurmSet::make(files_of(alloc, row.input)?)?;
-    let expected = row.output == "yes";
-    assert!(rt;
-        set.has_overlap(alloc) == expected,
-        "{}: {}",
-        row.name,
-        row.input
-    );
-    Ok(())
-}
-
-#[test]
-fn slurm_sets_have_an_overlap(rt: HostRuntime) -> Result<(), Fail> {
-    for table in [PAIRS, SETS] {
-        for row in &table_rows(rt.alloc(), table)? {
-            assert_set(&rt, rt.alloc(), row)?;
-        }
-    }
-    Ok(())
-}
-
-#[test]
-fn set_of_no_file_has_no_overlap(rt: HostRuntime) -> Result<(), Fail> {
-    let set = SlurmSet::make(Vec::new(rt.alloc()))?;
-    assert!(rt; !set.has_overlap(rt.alloc()));
-    Ok(())
+    text
 }
 
 /// The set of empty files of these names, or why they are none.
-fn set_of_names(alloc: Global, names: &str) -> Result<String, Fail> {
-    match SlurmSet::make(files_of_names(alloc, names)?) {
-        Ok(set) => Ok(shown(alloc, &set)?),
-        Err(fault) => Ok(fault.to_string(alloc)?),
+fn set_of_names(rt: &impl Abort, alloc: Global, names: &str) -> String {
+    match SlurmSet::make(files_of_names(rt, alloc, names)) {
+        Ok(set) => shown(rt, alloc, &set),
+        Err(fault) => fault.to_string(alloc).expect(rt, "a text"),
     }
-}
-
-fn assert_names(rt: &impl Abort, alloc: Global, row: &Row<'_>) -> Result<(), Fail> {
-    let found = set_of_names(alloc, row.input)?;
-    assert_eq!(rt; found.as_str(), row.output, "{}: {}", row.name, row.input);
-    Ok(())
 }
 
 #[test]
-fn slurm_sets_have_few_files_and_each_name_once(rt: HostRuntime) -> Result<(), Fail> {
-    for row in &table_rows(rt.alloc(), NAMES)? {
-        assert_names(&rt, rt.alloc(), row)?;
+fn slurm_sets_have_few_files_and_each_name_once(rt: HostRuntime) {
+    for row in &rows_of(&rt, rt.alloc(), NAMES) {
+        let found = set_of_names(&rt, rt.alloc(), row.input);
+        assert_output(&rt, found.as_str(), row);
     }
-    Ok(())
 }

@@ -2,14 +2,14 @@
 //! that are judged over a part of one.
 ghost use Rattle.std.specs.Prelude.{not, ◌==◌};
 
-use crate::listing::listed;
-use crate::rows::{Row, table_rows};
-use crate::vrps::{fill, parse_asn, parse_route, vrps_of};
+use crate::parsing::{parse_asn, parse_prefix, parse_route, parse_vrps, split_word};
+use crate::rows::Row;
+use crate::tables::{assert_output, assert_same, rows_of};
+use crate::vrps::{fill, visited};
 use addr::{Asn, Family, Prefix, Vrp};
 use payload::{ListIndex, PayloadIndex, Trie, Validity, VrpTest};
 use std::alloc::Global;
 use std::process::Abort;
-use std::test::Fail;
 
 /// VRPs, one of them twice, and routes with their state and the number of lengths at which a search
 /// of these VRPs has something to look at.
@@ -162,50 +162,48 @@ AS64511 198.51.103.0/24 AS64496 => Valid
 /// What is said when nothing is left.
 const EMPTY_ROUTES: &str = "\n198.51.100.0/24 AS64496 => NotFound 1";
 
-fn assert_row(rt: &impl Abort, list: &ListIndex, trie: &Trie, row: &Row<'_>) -> Result<(), Fail> {
-    let (state, count) = row.output.split_once(' ').ok_or("no count")?;
-    let route = parse_route(row.input)?;
+fn assert_row(rt: &impl Abort, list: &ListIndex, trie: &Trie, row: &Row<'_>) {
+    let (state, count) = split_word(rt, row.output);
+    let count = count.parse::<u32>().expect(rt, count);
+    let route = parse_route(rt, row.input);
     let (counted, lengths) = trie.validity_counted(&route);
-    assert_eq!(rt; list.validity(&route).as_str(), state, "{}", row.input);
-    assert_eq!(rt; trie.validity(&route).as_str(), state, "{}", row.input);
-    assert_eq!(rt; counted.as_str(), state, "{}", row.input);
-    assert_eq!(rt; lengths, count.parse::<u32>()?, "{}", row.input);
-    Ok(())
+    assert_same(rt, list.validity(&route).as_str(), state, row.input);
+    assert_same(rt, trie.validity(&route).as_str(), state, row.input);
+    assert_same(rt, (counted.as_str(), lengths), (state, count), row.input);
 }
 
-fn assert_rows(
-    rt: &impl Abort,
-    alloc: Global,
-    list: &ListIndex,
-    trie: &Trie,
-    routes: &str,
-) -> Result<(), Fail> {
-    for row in &table_rows(alloc, routes)? {
-        assert_row(rt, list, trie, row)?;
+fn assert_rows(rt: &impl Abort, alloc: Global, list: &ListIndex, trie: &Trie, routes: &str) {
+    for row in &rows_of(rt, alloc, routes) {
+        assert_row(rt, list, trie, row);
     }
-    Ok(())
+}
+
+/// The trie hands out these VRPs.
+fn assert_lists(rt: &impl Abort, alloc: Global, trie: &Trie, vrps: &[Vrp]) {
+    let found = visited(rt, alloc, trie);
+    assert!(rt; found.as_slice() == vrps);
 }
 
 /// A trie and a list of these VRPs judge the routes as the rows say, and hand out the same.
-fn assert_set(rt: &impl Abort, alloc: Global, vrps: &[Vrp], routes: &str) -> Result<(), Fail> {
+fn assert_set(rt: &impl Abort, alloc: Global, vrps: &[Vrp], routes: &str) {
     let mut list = ListIndex::new(alloc);
     let mut trie = Trie::new(alloc);
-    assert_eq!(rt; fill(&mut trie, vrps)?, fill(&mut list, vrps)?, "{routes}");
-    assert_rows(rt, alloc, &list, &trie, routes)?;
-    assert_same(rt, alloc, &list, &trie)
-}
-
-fn assert_same(rt: &impl Abort, alloc: Global, list: &ListIndex, trie: &Trie) -> Result<(), Fail> {
-    assert_lists(rt, alloc, trie, &listed(alloc, list)?)
+    assert_same(
+        rt,
+        fill(rt, &mut trie, vrps),
+        fill(rt, &mut list, vrps),
+        routes,
+    );
+    assert_rows(rt, alloc, &list, &trie, routes);
+    assert_lists(rt, alloc, &trie, &visited(rt, alloc, &list));
 }
 
 #[test]
-fn search_depths_of_nested_prefixes(rt: HostRuntime) -> Result<(), Fail> {
+fn search_depths_of_nested_prefixes(rt: HostRuntime) {
     for (lines, routes) in SETS {
-        let vrps = vrps_of(rt.alloc(), lines)?;
-        assert_set(&rt, rt.alloc(), &vrps, routes)?;
+        let vrps = parse_vrps(&rt, rt.alloc(), lines);
+        assert_set(&rt, rt.alloc(), &vrps, routes);
     }
-    Ok(())
 }
 
 /// Passes the VRPs of all other ASes.
@@ -222,143 +220,102 @@ impl VrpTest for OfOthers {
     }
 }
 
-fn assert_judges_rest(rt: &impl Abort, trie: &Trie, row: &str, state: &str) -> Result<(), Fail> {
-    let (asn, route) = row.split_once(' ').ok_or("no route")?;
-    let asn = parse_asn(asn)?;
-    let judged = trie.validity_among(&parse_route(route)?, &OfOthers { asn });
-    assert_eq!(rt; judged.as_str(), state, "{row}");
-    Ok(())
+fn assert_judges_rest(rt: &impl Abort, trie: &Trie, row: &Row<'_>) {
+    let (asn, route) = split_word(rt, row.input);
+    let asn = parse_asn(rt, asn);
+    let judged = trie.validity_among(&parse_route(rt, route), &OfOthers { asn });
+    assert_output(rt, judged.as_str(), row);
 }
 
 #[test]
-fn route_over_the_vrps_of_other_ases(rt: HostRuntime) -> Result<(), Fail> {
-    let trie = Trie::of(rt.alloc(), &vrps_of(rt.alloc(), NESTED)?)?;
-    for row in &table_rows(rt.alloc(), WITHOUT_AN_AS)? {
-        assert_judges_rest(&rt, &trie, row.input, row.output)?;
+fn route_over_the_vrps_of_other_ases(rt: HostRuntime) {
+    let vrps = parse_vrps(&rt, rt.alloc(), NESTED);
+    let trie = Trie::of(rt.alloc(), &vrps).expect(&rt, "memory");
+    for row in &rows_of(&rt, rt.alloc(), WITHOUT_AN_AS) {
+        assert_judges_rest(&rt, &trie, row);
     }
-    Ok(())
 }
 
-/// The first three VRPs are removed, each once.
-fn assert_removes(rt: &impl Abort, trie: &mut Trie, vrps: &[Vrp]) {
+/// The first three VRPs are removed, each once. Then the trie hands out nothing, and has an answer
+/// for no route.
+#[test]
+fn pruned_trie_is_empty(rt: HostRuntime) {
+    let vrps = parse_vrps(&rt, rt.alloc(), NESTED);
+    let mut trie = Trie::new(rt.alloc());
+    fill(&rt, &mut trie, &vrps);
     for vrp in vrps.iter().take(3) {
         assert!(rt; trie.remove(vrp) && !trie.remove(vrp));
     }
-}
-
-/// The trie hands out nothing, and has an answer for no route.
-fn assert_is_empty(rt: &impl Abort, alloc: Global, trie: &Trie) -> Result<(), Fail> {
-    assert!(rt; listed(alloc, trie)?.is_empty());
-    assert_rows(rt, alloc, &ListIndex::new(alloc), trie, EMPTY_ROUTES)
-}
-
-#[test]
-fn pruned_trie_is_empty(rt: HostRuntime) -> Result<(), Fail> {
-    let vrps = vrps_of(rt.alloc(), NESTED)?;
-    let mut trie = Trie::new(rt.alloc());
-    fill(&mut trie, &vrps)?;
-    assert_removes(&rt, &mut trie, &vrps);
-    assert_is_empty(&rt, rt.alloc(), &trie)
+    assert_lists(&rt, rt.alloc(), &trie, &[]);
+    let list = ListIndex::new(rt.alloc());
+    assert_rows(&rt, rt.alloc(), &list, &trie, EMPTY_ROUTES);
 }
 
 /// The VRPs of the first prefix of each length of IPv6.
-fn chain(alloc: Global) -> Result<Vec<Vrp>, Fail> {
+fn chain(rt: &impl Abort, alloc: Global) -> Vec<Vrp> {
     let mut vrps = Vec::new(alloc);
     for length in 0..129 {
-        let prefix = Prefix::from_parts(Family::V6, 0, length).ok_or("a prefix")?;
-        vrps.push(Vrp::from_parts(prefix, 128, Asn(64496)).ok_or("a VRP")?)?;
+        let prefix = Prefix::from_parts(Family::V6, 0, length).expect(rt, "a prefix");
+        let vrp = Vrp::from_parts(prefix, 128, Asn(64496)).expect(rt, "a VRP");
+        vrps.push(vrp).expect(rt, "memory");
     }
-    Ok(vrps)
+    vrps
 }
 
-/// The VRPs are inserted, the last first.
-fn assert_inserts(rt: &impl Abort, trie: &mut Trie, vrps: &[Vrp]) -> Result<(), Fail> {
-    for vrp in vrps.iter().rev() {
-        assert!(rt; trie.insert(*vrp)?);
-    }
-    Ok(())
+/// The state of the route, and the number of nodes that a search looks at.
+fn assert_counted(rt: &impl Abort, trie: &Trie, route: &str, expected: (Validity, u32)) {
+    let counted = trie.validity_counted(&parse_route(rt, route));
+    assert_same(rt, counted, expected, route);
 }
 
 /// The host is found at a node more after each VRP is removed, and nowhere after the last.
-fn assert_each_is_found(rt: &impl Abort, trie: &mut Trie, vrps: &[Vrp]) -> Result<(), Fail> {
-    let host = parse_route("::/128 AS64496")?;
+fn assert_each_is_found(rt: &impl Abort, trie: &mut Trie, vrps: &[Vrp]) {
+    let host = "::/128 AS64496";
     let mut nodes = 0u32;
     for vrp in vrps {
         nodes = nodes.saturating_add(1);
-        assert_eq!(rt; trie.validity_counted(&host), (Validity::Valid, nodes));
+        assert_counted(rt, trie, host, (Validity::Valid, nodes));
         assert!(rt; trie.remove(vrp));
     }
-    assert_eq!(rt; trie.validity_counted(&host), (Validity::NotFound, 1));
-    Ok(())
+    assert_counted(rt, trie, host, (Validity::NotFound, 1));
 }
 
-/// Another AS is looked for at each node.
-fn assert_is_deep(rt: &impl Abort, trie: &Trie) -> Result<(), Fail> {
-    let other = parse_route("::/128 AS64497")?;
-    assert_eq!(rt; trie.validity_counted(&other), (Validity::Invalid, 129));
-    Ok(())
-}
-
-fn assert_lists(rt: &impl Abort, alloc: Global, trie: &Trie, vrps: &[Vrp]) -> Result<(), Fail> {
-    let found = listed(alloc, trie)?;
-    assert!(rt; found.as_slice() == vrps);
-    Ok(())
-}
-
-fn assert_chain(rt: &impl Abort, alloc: Global, trie: &mut Trie, vrps: &[Vrp]) -> Result<(), Fail> {
-    assert_inserts(rt, trie, vrps)?;
-    assert_lists(rt, alloc, trie, vrps)?;
-    assert_is_deep(rt, trie)?;
-    assert_each_is_found(rt, trie, vrps)
-}
-
+/// The VRPs are inserted, the last first. Another AS is looked for at each node.
 #[test]
-fn chain_of_nested_prefixes(rt: HostRuntime) -> Result<(), Fail> {
-    let vrps = chain(rt.alloc())?;
-    assert_chain(&rt, rt.alloc(), &mut Trie::new(rt.alloc()), &vrps)
+fn chain_of_nested_prefixes(rt: HostRuntime) {
+    let vrps = chain(&rt, rt.alloc());
+    let mut trie = Trie::new(rt.alloc());
+    for vrp in vrps.iter().rev() {
+        assert!(rt; trie.insert(*vrp).expect(&rt, "memory"));
+    }
+    assert_lists(&rt, rt.alloc(), &trie, &vrps);
+    assert_counted(&rt, &trie, "::/128 AS64497", (Validity::Invalid, 129));
+    assert_each_is_found(&rt, &mut trie, &vrps);
 }
 
 /// The VRP of a prefix that has a thousand.
-fn vrp_of(asn: u32) -> Result<Vrp, Fail> {
-    let prefix = Prefix::read(b"192.0.2.0/24")?;
-    Ok(Vrp::from_parts(prefix, 24, Asn(asn)).ok_or("a VRP")?)
+fn vrp_of(rt: &impl Abort, asn: u32) -> Vrp {
+    let prefix = parse_prefix(rt, "192.0.2.0/24");
+    Vrp::from_parts(prefix, 24, Asn(asn)).expect(rt, "a VRP")
 }
 
-fn assert_is_new_once(rt: &impl Abort, trie: &mut Trie, vrp: Vrp) -> Result<(), Fail> {
-    assert!(rt; trie.insert(vrp)?);
-    assert!(rt; !trie.insert(vrp)?);
-    Ok(())
-}
-
-fn insert_a_thousand(rt: &impl Abort, trie: &mut Trie) -> Result<(), Fail> {
+/// Each is new once.
+fn insert_a_thousand(rt: &impl Abort, trie: &mut Trie) {
     for asn in (1..1001).rev() {
-        assert_is_new_once(rt, trie, vrp_of(asn)?)?;
+        let vrp = vrp_of(rt, asn);
+        assert!(rt; trie.insert(vrp).expect(rt, "memory"), "AS{asn}");
+        assert!(rt; !trie.insert(vrp).expect(rt, "memory"), "AS{asn}");
     }
-    Ok(())
-}
-
-fn remove_all_but_the_last(rt: &impl Abort, trie: &mut Trie) -> Result<(), Fail> {
-    for asn in 1..1000 {
-        assert!(rt; trie.remove(&vrp_of(asn)?));
-    }
-    Ok(())
-}
-
-fn assert_judges(rt: &impl Abort, trie: &Trie, route: &str, state: Validity) -> Result<(), Fail> {
-    let counted = trie.validity_counted(&parse_route(route)?);
-    assert_eq!(rt; counted, (state, 25), "{route}");
-    Ok(())
-}
-
-fn assert_thousand(rt: &impl Abort, alloc: Global, trie: &mut Trie) -> Result<(), Fail> {
-    insert_a_thousand(rt, trie)?;
-    assert_judges(rt, trie, "192.0.2.0/24 AS1000", Validity::Valid)?;
-    assert_judges(rt, trie, "192.0.2.0/24 AS1001", Validity::Invalid)?;
-    remove_all_but_the_last(rt, trie)?;
-    assert_lists(rt, alloc, trie, &[vrp_of(1000)?])
 }
 
 #[test]
-fn thousand_vrps_of_one_prefix(rt: HostRuntime) -> Result<(), Fail> {
-    assert_thousand(&rt, rt.alloc(), &mut Trie::new(rt.alloc()))
+fn thousand_vrps_of_one_prefix(rt: HostRuntime) {
+    let mut trie = Trie::new(rt.alloc());
+    insert_a_thousand(&rt, &mut trie);
+    assert_counted(&rt, &trie, "192.0.2.0/24 AS1000", (Validity::Valid, 25));
+    assert_counted(&rt, &trie, "192.0.2.0/24 AS1001", (Validity::Invalid, 25));
+    for asn in 1..1000 {
+        assert!(rt; trie.remove(&vrp_of(&rt, asn)));
+    }
+    assert_lists(&rt, rt.alloc(), &trie, &[vrp_of(&rt, 1000)]);
 }

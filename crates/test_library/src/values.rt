@@ -1,11 +1,9 @@
 //! Names, days, AS numbers, plain numbers, holdings and charters.
-use crate::rows::split_row;
+use crate::tables::{assert_same, row_of};
 use addr::{Asn, Day, Family, Holdings, Name, Prefix, PrefixFault, Span, digits, number_from_text};
 use arrayvec::ArrayString;
 use policy::{Charter, CharterFault};
-use std::alloc::Global;
 use std::process::Abort;
-use std::test::Fail;
 
 /// Each text, and the name that it is.
 const NAMES: &str = r#" => none
@@ -83,84 +81,69 @@ const CHARTERS: [(usize, usize, CharterFault); 6] = [
 ];
 
 #[test]
-fn reads_names_alone(rt: HostRuntime) -> Result<(), Fail> {
+fn reads_names_alone(rt: HostRuntime) {
     for row in NAMES.lines() {
-        let (text, expected) = split_row(row)?;
+        let (text, expected) = row_of(&rt, row);
         match Name::read(text.as_bytes()) {
-            Some(name) => assert_eq!(rt; name.as_str(), expected, "{text:?}"),
-            None => assert_eq!(rt; "none", expected, "{text:?}"),
+            Some(name) => assert_same(&rt, name.as_str(), expected, text),
+            None => assert_same(&rt, "none", expected, text),
         }
     }
-    Ok(())
+}
+
+/// The number that a text gives is the expected one, or it gives none as is expected.
+fn assert_number(rt: &impl Abort, number: Option<u64>, expected: &str, text: &str) {
+    match number {
+        Some(number) => assert_same(rt, digits(number).as_str(), expected, text),
+        None => assert_same(rt, "none", expected, text),
+    }
 }
 
 fn assert_written(rt: &impl Abort, day: &Day, text: &str) {
     let mut written = ArrayString::new();
     day.write_to(&mut written);
-    assert_eq!(rt; written.as_str(), text);
+    assert_same(rt, written.as_str(), text, text);
 }
 
 /// Each day is written as it was read.
 #[test]
-fn reads_days_alone(rt: HostRuntime) -> Result<(), Fail> {
+fn reads_days_alone(rt: HostRuntime) {
     for row in DAYS.lines() {
-        let (text, expected) = split_row(row)?;
-        match Day::read(text.as_bytes()) {
-            Some(day) => {
-                assert_written(&rt, &day, text);
-                assert_eq!(rt;
-                    digits(u64::from(day.number())).as_str(),
-                    expected,
-                    "{text:?}"
-                );
-            }
-            None => assert_eq!(rt; "none", expected, "{text:?}"),
+        let (text, expected) = row_of(&rt, row);
+        let day = Day::read(text.as_bytes());
+        if let Some(day) = &day {
+            assert_written(&rt, day, text);
         }
+        assert_number(&rt, day.map(|day| u64::from(day.number())), expected, text);
     }
-    Ok(())
 }
 
 #[test]
-fn reads_as_numbers_alone(rt: HostRuntime) -> Result<(), Fail> {
+fn reads_as_numbers_alone(rt: HostRuntime) {
     for row in AS_TEXTS.lines() {
-        let (text, expected) = split_row(row)?;
-        match Asn::from_text(text.as_bytes()) {
-            Some(asn) => assert_eq!(rt; digits(u64::from(asn.0)).as_str(), expected, "{text:?}"),
-            None => assert_eq!(rt; "none", expected, "{text:?}"),
-        }
+        let (text, expected) = row_of(&rt, row);
+        let asn = Asn::from_text(text.as_bytes());
+        assert_number(&rt, asn.map(|asn| u64::from(asn.0)), expected, text);
     }
-    Ok(())
 }
 
 /// Each number is written as it was read.
 #[test]
-fn reads_plain_numbers_alone(rt: HostRuntime) -> Result<(), Fail> {
+fn reads_plain_numbers_alone(rt: HostRuntime) {
     for row in NUMBERS.lines() {
-        let (text, expected) = split_row(row)?;
-        match number_from_text(text.as_bytes()) {
-            Some(number) => assert_eq!(rt; digits(number).as_str(), expected, "{text:?}"),
-            None => assert_eq!(rt; "none", expected, "{text:?}"),
-        }
+        let (text, expected) = row_of(&rt, row);
+        assert_number(&rt, number_from_text(text.as_bytes()), expected, text);
     }
-    Ok(())
 }
 
 #[test]
-fn prints_values(rt: HostRuntime) -> Result<(), Fail> {
-    let alloc = rt.alloc();
-    let name = Name::read(b"acme-2").ok_or("a name")?;
-    assert_eq!(rt;
-        format!(in alloc; "{name} {name:?}")?.as_str(),
-        "acme-2 \"acme-2\""
-    );
+fn prints_values(rt: HostRuntime) {
+    let name = Name::read(b"acme-2").expect(&rt, "a name");
     let asn = Asn(64496);
-    assert_eq!(rt; format!(in alloc; "{asn}")?.as_str(), "AS64496");
-    let day = Day::read(b"2000-02-29").ok_or("a day")?;
-    assert_eq!(rt;
-        format!(in alloc; "{day:?}")?.as_str(),
-        "Day { number: 11016 }"
-    );
-    Ok(())
+    let day = Day::read(b"2000-02-29").expect(&rt, "a day");
+    let printed = format!(in rt.alloc(); "{name} {name:?} {asn} {day:?}").expect(&rt, "a text");
+    let expected = "acme-2 \"acme-2\" AS64496 Day { number: 11016 }";
+    assert_same(&rt, printed.as_str(), expected, "values");
 }
 
 const PREFIX_FAULTS: [(PrefixFault, &str); 4] = [
@@ -177,16 +160,16 @@ const PREFIX_FAULTS: [(PrefixFault, &str); 4] = [
 ];
 
 #[test]
-fn prints_prefix_faults(rt: HostRuntime) -> Result<(), Fail> {
+fn prints_prefix_faults(rt: HostRuntime) {
     for (fault, text) in PREFIX_FAULTS {
-        assert_eq!(rt; format!(in rt.alloc(); "{fault}")?.as_str(), text);
+        let printed = fault.to_string(rt.alloc()).expect(&rt, "a text");
+        assert_same(&rt, printed.as_str(), text, fault);
     }
-    Ok(())
 }
 
 /// The prefix of IPv6 with this first address and length.
-fn v6(first: u128, length: u8) -> Result<Prefix, Fail> {
-    Ok(Prefix::from_parts(Family::V6, first, length).ok_or("a prefix of IPv6")?)
+fn v6(rt: &impl Abort, first: u128, length: u8) -> Prefix {
+    Prefix::from_parts(Family::V6, first, length).expect(rt, "a prefix of IPv6")
 }
 
 /// What is done with a prefix of IPv6, and the last address that is then held from `::` on.
@@ -203,59 +186,39 @@ const STEPS: [(Step, u128); 4] = [
     (Step::Take(u128::MAX, 128), u128::MAX - 1),
 ];
 
-fn do_step(holdings: &mut Holdings, step: Step) -> Result<(), Fail> {
-    match step {
-        Step::Add(first, length) => holdings.add(&v6(first, length)?)?,
-        Step::Take(first, length) => holdings.take(&v6(first, length)?)?,
-    }
-    Ok(())
+fn do_step(rt: &impl Abort, holdings: &mut Holdings, step: Step) {
+    let done = match step {
+        Step::Add(first, length) => holdings.add(&v6(rt, first, length)),
+        Step::Take(first, length) => holdings.take(&v6(rt, first, length)),
+    };
+    done.expect(rt, "memory");
 }
 
-fn assert_held_to(rt: &impl Abort, holdings: &Holdings, last: u128) -> Result<(), Fail> {
-    let span = Span::from_parts(Family::V6, 0, last).ok_or("a span of IPv6")?;
-    assert!(rt; holdings.spans() == [span].as_slice(), "to {last}");
-    assert_eq!(rt; holdings.holds(&v6(0, 0)?), last == u128::MAX);
-    let whole_v4 = Prefix::from_parts(Family::V4, 0, 0).ok_or("0.0.0.0/0")?;
+fn assert_held_to(rt: &impl Abort, holdings: &Holdings, last: u128) {
+    let span = Span::from_parts(Family::V6, 0, last).expect(rt, "a span of IPv6");
+    assert_same(rt, holdings.spans(), [span].as_slice(), last);
+    assert_same(rt, holdings.holds(&v6(rt, 0, 0)), last == u128::MAX, last);
+    let whole_v4 = Prefix::from_parts(Family::V4, 0, 0).expect(rt, "0.0.0.0/0");
     assert!(rt; !holdings.touches(&whole_v4));
-    Ok(())
-}
-
-fn assert_step(
-    rt: &impl Abort,
-    holdings: &mut Holdings,
-    step: Step,
-    last: u128,
-) -> Result<(), Fail> {
-    do_step(holdings, step)?;
-    assert_held_to(rt, holdings, last)
 }
 
 #[test]
-fn holdings_reach_the_last_ipv6_address(rt: HostRuntime) -> Result<(), Fail> {
+fn holdings_reach_the_last_ipv6_address(rt: HostRuntime) {
     let mut holdings = Holdings::new(rt.alloc());
     for (step, last) in STEPS {
-        assert_step(&rt, &mut holdings, step, last)?;
+        do_step(&rt, &mut holdings, step);
+        assert_held_to(&rt, &holdings, last);
     }
-    Ok(())
-}
-
-/// A charter of that many equal operators and pool prefixes.
-fn charter_of_equals(
-    alloc: Global,
-    operators: usize,
-    pool: usize,
-) -> Result<Result<Charter, CharterFault>, Fail> {
-    let name = Name::read(b"reg").ok_or("a name")?;
-    let whole = v6(0, 0)?;
-    let names = vec![in alloc; name; operators]?;
-    Ok(Charter::make(names, vec![in alloc; whole; pool]?))
 }
 
 #[test]
-fn charters_of_wrong_counts_or_repeats(rt: HostRuntime) -> Result<(), Fail> {
+fn charters_of_wrong_counts_or_repeats(rt: HostRuntime) {
+    let name = Name::read(b"reg").expect(&rt, "a name");
+    let whole = v6(&rt, 0, 0);
     for (operators, pool, fault) in CHARTERS {
-        let made = charter_of_equals(rt.alloc(), operators, pool)?;
-        assert_eq!(rt; made.err(), Some(fault), "{operators} and {pool}");
+        let names = vec![in rt.alloc(); name; operators].expect(&rt, "memory");
+        let prefixes = vec![in rt.alloc(); whole; pool].expect(&rt, "memory");
+        let made = Charter::make(names, prefixes);
+        assert_same(&rt, made.err(), Some(fault), (operators, pool));
     }
-    Ok(())
 }

@@ -1,11 +1,11 @@
 //! Sets of VRPs, and the validation states of routes on them.
-use crate::listing::FirstVrps;
-use crate::rows::{Row, table_rows};
-use addr::{Asn, Origin, Prefix, Route, Vrp};
+use crate::listing::{FirstVrps, listed};
+use crate::parsing::{parse_route, parse_vrp, parse_vrps};
+use crate::tables::{assert_output, assert_same, rows_of};
+use addr::Vrp;
 use payload::{ListIndex, PayloadIndex, Stop};
-use std::alloc::{AllocError, Global};
+use std::alloc::Global;
 use std::process::Abort;
-use std::test::Fail;
 
 /// VRPs for a /22 and for a /24 in it.
 pub(crate) const WIDE: &str = "AS64496 198.51.100.0/22 24";
@@ -50,88 +50,45 @@ const VISITS: [(usize, usize, Result<(), Stop>); 3] = [
     (0, 0, Err(Stop)),
 ];
 
-pub(crate) fn parse_asn(text: &str) -> Result<Asn, Fail> {
-    Ok(Asn::from_text(text.as_bytes()).ok_or("no AS number")?)
-}
-
-/// A VRP by its AS, prefix and maxLength.
-pub(crate) fn parse_vrp(text: &str) -> Result<Vrp, Fail> {
-    let (asn, terms) = text.split_once(' ').ok_or("no prefix")?;
-    let (prefix, max) = terms.split_once(' ').ok_or("no maxLength")?;
-    let prefix = Prefix::read(prefix.as_bytes())?;
-    Ok(Vrp::from_parts(prefix, max.parse()?, parse_asn(asn)?).ok_or("a VRP")?)
-}
-
-/// The VRPs of the lines.
-pub(crate) fn vrps_of(alloc: Global, lines: &str) -> Result<Vec<Vrp>, Fail> {
-    let mut vrps = Vec::new(alloc);
-    for line in lines.trim().lines() {
-        vrps.push(parse_vrp(line)?)?;
-    }
-    Ok(vrps)
-}
-
-/// Takes out a VRP and puts it in again.
-fn replace<I: PayloadIndex>(index: &mut I, vrp: &Vrp) -> Result<(), AllocError> {
-    if index.remove(vrp) && !index.contains(vrp) {
-        index.insert(*vrp)?;
-    }
-    Ok(())
-}
-
-/// How many of the calls for each VRP put one in.
-fn insert_each<I: PayloadIndex>(index: &mut I, vrps: &[Vrp]) -> Result<usize, AllocError> {
-    let mut count: usize = 0;
-    for vrp in vrps {
-        count = count.saturating_add(usize::from(index.insert(*vrp)?));
-    }
-    Ok(count)
-}
-
 /// A set by one call for each VRP, of which the last is taken out and put in again, and how many
 /// calls put one in.
-pub(crate) fn fill<I: PayloadIndex>(index: &mut I, vrps: &[Vrp]) -> Result<usize, AllocError> {
-    let count = insert_each(index, vrps)?;
+pub(crate) fn fill<I: PayloadIndex>(rt: &impl Abort, index: &mut I, vrps: &[Vrp]) -> usize {
+    let mut count: usize = 0;
+    for vrp in vrps {
+        let is_new = index.insert(*vrp).expect(rt, "memory");
+        count = count.saturating_add(usize::from(is_new));
+    }
     if let Some(last) = vrps.last() {
-        replace(index, last)?;
+        assert!(rt; index.remove(last) && !index.contains(last));
+        assert!(rt; index.insert(*last).expect(rt, "memory"));
     }
-    Ok(count)
+    count
 }
 
-/// A route by its prefix and origin.
-pub(crate) fn parse_route(text: &str) -> Result<Route, Fail> {
-    let (prefix, origin) = text.split_once(' ').ok_or("no origin")?;
-    Ok(Route {
-        prefix: Prefix::read(prefix.as_bytes())?,
-        origin: match origin {
-            "none" => Origin::None,
-            asn => Origin::As(parse_asn(asn)?),
-        },
-    })
-}
-
-fn assert_state(rt: &impl Abort, index: &ListIndex, row: &Row<'_>) -> Result<(), Fail> {
-    let state = index.validity(&parse_route(row.input)?);
-    assert_eq!(rt; state.as_str(), row.output, "{}", row.input);
-    Ok(())
-}
-
-fn assert_states(rt: &impl Abort, alloc: Global, vrps: &str, states: &str) -> Result<(), Fail> {
-    let index = ListIndex::from(vrps_of(alloc, vrps)?);
-    for row in &table_rows(alloc, states)? {
-        assert_state(rt, &index, row)?;
+/// What a visit hands out.
+pub(crate) fn visited<I: PayloadIndex>(rt: &impl Abort, alloc: Global, index: &I) -> Vec<Vrp> {
+    match listed(alloc, index) {
+        Ok(vrps) => vrps,
+        Err(_) => rt.panic("a visit stopped"),
     }
-    Ok(())
+}
+
+fn assert_states(rt: &impl Abort, alloc: Global, vrps: &str, states: &str) {
+    let index = ListIndex::from(parse_vrps(rt, alloc, vrps));
+    for row in &rows_of(rt, alloc, states) {
+        let state = index.validity(&parse_route(rt, row.input));
+        assert_output(rt, state.as_str(), row);
+    }
 }
 
 #[test]
-fn states_of_routes(rt: HostRuntime) -> Result<(), Fail> {
+fn states_of_routes(rt: HostRuntime) {
     let alloc = rt.alloc();
-    assert_states(&rt, alloc, NESTED, NESTED_STATES)?;
-    assert_states(&rt, alloc, BOTH_FAMILIES, STATES_OF_BOTH_FAMILIES)?;
+    assert_states(&rt, alloc, NESTED, NESTED_STATES);
+    assert_states(&rt, alloc, BOTH_FAMILIES, STATES_OF_BOTH_FAMILIES);
     let as_zero = "\n255.255.255.255/32 AS0 => Invalid";
-    assert_states(&rt, alloc, "AS0 0.0.0.0/0 32", as_zero)?;
-    assert_states(&rt, alloc, "", "\n0.0.0.0/0 AS64496 => NotFound")
+    assert_states(&rt, alloc, "AS0 0.0.0.0/0 32", as_zero);
+    assert_states(&rt, alloc, "", "\n0.0.0.0/0 AS64496 => NotFound");
 }
 
 /// The sink has the first of these VRPs when the visit ends.
@@ -148,17 +105,16 @@ fn assert_visit(
         most,
         refused: None,
     };
-    assert_eq!(rt; index.visit(&mut first), answer);
-    assert_eq!(rt; first.vrps.len(), kept);
+    assert_same(rt, index.visit(&mut first), answer, most);
+    assert_same(rt, first.vrps.len(), kept, most);
     assert!(rt; rising.starts_with(&first.vrps), "{kept} kept");
 }
 
 #[test]
-fn visits_rise_and_stop(rt: HostRuntime) -> Result<(), Fail> {
-    let index = ListIndex::from(vrps_of(rt.alloc(), NESTED)?);
-    let rising = [parse_vrp(WIDE)?, parse_vrp(NARROW)?];
+fn visits_rise_and_stop(rt: HostRuntime) {
+    let index = ListIndex::from(parse_vrps(&rt, rt.alloc(), NESTED));
+    let rising = [parse_vrp(&rt, WIDE), parse_vrp(&rt, NARROW)];
     for visit in &VISITS {
         assert_visit(&rt, rt.alloc(), &index, &rising, visit);
     }
-    Ok(())
 }

@@ -1,9 +1,7 @@
 //! The words after the program's name, and the tasks that they name.
-use crate::rows::{Row, table_rows};
+use crate::tables::{assert_output, assert_same, rows_of};
 use cli_texts::{Task, WordsFault, read_words};
 use std::alloc::{AllocError, Global};
-use std::process::Abort;
-use std::test::Fail;
 
 /// The words of a line, which a space parts, and the task that they name.
 const LINES: &str = r#"
@@ -41,42 +39,36 @@ help check => words
  => words
 "#;
 
-fn named(alloc: Global, line: &str) -> Result<String, AllocError> {
-    let words = line.split(' ').collect::<Vec<_>>(alloc)?;
-    match read_words(&words) {
-        Ok(task) => shown(alloc, &task),
-        Err(WordsFault::Words) => format!(in alloc; "words"),
-        Err(WordsFault::Day) => format!(in alloc; "day"),
+fn shown(alloc: Global, read: &Result<Task<'_>, WordsFault>) -> Result<String, AllocError> {
+    match read {
+        Ok(Task::Script { charter }) => format!(in alloc; "script {charter}"),
+        Ok(Task::Init { database, charter }) => format!(in alloc; "init {database} {charter}"),
+        Ok(
+            Task::Serve {
+                database,
+                address,
+                count,
+                day,
+            },
+        ) => format!(in alloc; "serve {database} {address} {count} {}", day.number()),
+        Ok(Task::Check { payloads, routes }) => format!(in alloc; "check {payloads} {routes}"),
+        Ok(Task::Help) => String::from_str(alloc, "help"),
+        Err(WordsFault::Words) => String::from_str(alloc, "words"),
+        Err(WordsFault::Day) => String::from_str(alloc, "day"),
     }
-}
-
-fn shown(alloc: Global, task: &Task<'_>) -> Result<String, AllocError> {
-    match task {
-        Task::Script { charter } => format!(in alloc; "script {charter}"),
-        Task::Init { database, charter } => format!(in alloc; "init {database} {charter}"),
-        Task::Serve {
-            database,
-            address,
-            count,
-            day,
-        } => format!(in alloc; "serve {database} {address} {count} {}", day.number()),
-        Task::Check { payloads, routes } => format!(in alloc; "check {payloads} {routes}"),
-        Task::Help => format!(in alloc; "help"),
-    }
-}
-
-fn assert_task(rt: &impl Abort, alloc: Global, row: &Row<'_>) -> Result<(), AllocError> {
-    let task = named(alloc, row.input)?;
-    assert_eq!(rt; task.as_str(), row.output, "{}: {:?}", row.name, row.input);
-    Ok(())
 }
 
 #[test]
-fn words_of_each_task(rt: HostRuntime) -> Result<(), Fail> {
-    for row in &table_rows(rt.alloc(), LINES)? {
-        assert_task(&rt, rt.alloc(), row)?;
+fn words_of_each_task(rt: HostRuntime) {
+    for row in &rows_of(&rt, rt.alloc(), LINES) {
+        let words = row
+            .input
+            .split(' ')
+            .collect::<Vec<_>>(rt.alloc())
+            .expect(&rt, "memory");
+        let task = shown(rt.alloc(), &read_words(&words)).expect(&rt, "a text");
+        assert_output(&rt, task.as_str(), row);
     }
-    Ok(())
 }
 
 #[test]
@@ -86,6 +78,6 @@ fn no_word(rt: HostRuntime) {
 
 #[test]
 fn numbers_of_faults(rt: HostRuntime) {
-    assert_eq!(rt; WordsFault::Words.number(), 1);
-    assert_eq!(rt; WordsFault::Day.number(), 2);
+    assert_same(&rt, WordsFault::Words.number(), 1, "words");
+    assert_same(&rt, WordsFault::Day.number(), 2, "day");
 }
