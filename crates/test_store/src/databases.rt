@@ -1,5 +1,6 @@
 //! Databases that were made by SQL, and what opening them as a store answers: `ok`, or the fault.
 //! The statements and the answers follow from the formats of the tables.
+use crate::comparison::assert_same;
 use crate::example_database::{TABLES, made, made_old};
 use sqlite::{Alter, Connection, MemStore};
 use sqlite_disk::{Disk, Files, Memory};
@@ -283,23 +284,40 @@ fn answer_of<S: Alter + Drop>(alloc: Global, conn: Connection<S>) -> &'static st
     }
 }
 
+/// The example with these tables.
+pub(crate) fn database(rt: &impl Abort, alloc: Global, tables: &str) -> Connection<MemStore> {
+    match made(alloc, tables) {
+        Ok(conn) => conn,
+        Err(_fail) => rt.panic("no database"),
+    }
+}
+
+/// The example of schema 1.
+fn old_database(rt: &impl Abort, alloc: Global) -> Connection<MemStore> {
+    match made_old(alloc) {
+        Ok(conn) => conn,
+        Err(_fail) => rt.panic("no database of schema 1"),
+    }
+}
+
 /// What the opening answers once these statements ran.
 fn answer_after(
+    rt: &impl Abort,
     alloc: Global,
     mut conn: Connection<MemStore>,
     statements: &str,
-) -> Result<&'static str, Fail> {
-    conn.execute_batch(statements)?;
-    Ok(answer_of(alloc, conn))
+) -> &'static str {
+    conn.execute_batch(statements).expect(rt, statements);
+    answer_of(alloc, conn)
 }
 
 fn assert_answer(rt: &impl Abort, answer: &str, row: &Row<'_>) {
-    assert_eq!(rt; answer, row.output, "{}: {}", row.name, row.input);
+    assert_same(rt, answer, row.output, (row.name, row.input));
 }
 
 fn assert_answers(rt: &impl Abort, alloc: Global, rows: &str) -> Result<(), Fail> {
     for row in &table_rows(alloc, rows)? {
-        let answer = answer_after(alloc, made(alloc, TABLES)?, row.input)?;
+        let answer = answer_after(rt, alloc, database(rt, alloc, TABLES), row.input);
         assert_answer(rt, answer, row);
     }
     Ok(())
@@ -328,110 +346,97 @@ fn opening_asks_each_exception(rt: HostRuntime) -> Result<(), Fail> {
 #[test]
 fn opening_moves_the_tables_of_schema_1(rt: HostRuntime) -> Result<(), Fail> {
     for row in &table_rows(rt.alloc(), OLD_ROWS)? {
-        let answer = answer_after(rt.alloc(), made_old(rt.alloc())?, row.input)?;
+        let conn = old_database(&rt, rt.alloc());
+        let answer = answer_after(&rt, rt.alloc(), conn, row.input);
         assert_answer(&rt, answer, row);
     }
     Ok(())
 }
 
-pub(crate) fn opened(alloc: Global, conn: Connection<MemStore>) -> Result<Store<MemStore>, Fail> {
-    match Store::open_from(alloc, conn) {
-        Ok(store) => Ok(store),
-        Err(_) => Err("not opened".into()),
-    }
-}
-
-/// A database of schema 1 after it was opened.
-fn moved(alloc: Global) -> Result<Connection<MemStore>, Fail> {
-    Ok(opened(alloc, made_old(alloc)?)?.close())
+pub(crate) fn opened(
+    rt: &impl Abort,
+    alloc: Global,
+    conn: Connection<MemStore>,
+) -> Store<MemStore> {
+    Store::open_from(alloc, conn).expect(rt, "an open store")
 }
 
 /// How many rows are in `meta`, `claim`, `entry` and `auth`.
-fn count_rows(conn: &mut Connection<MemStore>) -> Result<usize, Fail> {
+fn count_rows(rt: &impl Abort, conn: &mut Connection<MemStore>) -> usize {
     let rows = conn.query_all(
         "SELECT value FROM meta UNION ALL SELECT number FROM claim UNION ALL SELECT max FROM entry UNION ALL SELECT number FROM auth",
         &[],
-    )?;
-    Ok(rows.len())
+    );
+    rows.expect(rt, "rows").len()
 }
 
 /// What was moved is a desk of this schema, with its index.
 #[test]
-fn moved_database_is_opened_again(rt: HostRuntime) -> Result<(), Fail> {
-    let mut conn = moved(rt.alloc())?;
-    assert_eq!(rt; count_rows(&mut conn)?, 3);
-    let answer = answer_after(rt.alloc(), conn, "DROP INDEX holding_of")?;
-    assert_eq!(rt; answer, "ok");
-    Ok(())
+fn moved_database_is_opened_again(rt: HostRuntime) {
+    let moved = opened(&rt, rt.alloc(), old_database(&rt, rt.alloc()));
+    let mut conn = moved.close();
+    assert_same(&rt, count_rows(&rt, &mut conn), 3, "rows");
+    let answer = answer_after(&rt, rt.alloc(), conn, "DROP INDEX holding_of");
+    assert_same(&rt, answer, "ok", "opened again");
 }
 
-/// The statements of the tables with a part of them replaced.
-fn other_tables(alloc: Global, parts: &str) -> Result<String, Fail> {
-    let (old, new) = parts.split_once(" | ").ok_or("two parts")?;
-    let (before, after) = TABLES.split_once(old).ok_or("a part of the statements")?;
-    Ok(format!(in alloc; "{before}{new}{after}")?)
-}
-
-fn answer_of_tables(alloc: Global, parts: &str) -> Result<&'static str, Fail> {
-    let tables = other_tables(alloc, parts)?;
-    Ok(answer_of(alloc, made(alloc, &tables)?))
+/// What the opening answers where a part of the statements of the tables is replaced.
+fn answer_of_tables(rt: &impl Abort, alloc: Global, parts: &str) -> &'static str {
+    let (old, new) = parts.split_once(" | ").expect(rt, parts);
+    let (before, after) = TABLES.split_once(old).expect(rt, parts);
+    let tables = format!(in alloc; "{before}{new}{after}").expect(rt, "statements");
+    answer_of(alloc, database(rt, alloc, &tables))
 }
 
 #[test]
 fn opening_asks_the_tables(rt: HostRuntime) -> Result<(), Fail> {
     for row in &table_rows(rt.alloc(), OTHER_TABLES)? {
-        let answer = answer_of_tables(rt.alloc(), row.input)?;
+        let answer = answer_of_tables(&rt, rt.alloc(), row.input);
         assert_answer(&rt, answer, row);
     }
     Ok(())
 }
 
-/// The example without its index after it was opened.
-fn opened_without_index(alloc: Global) -> Result<Connection<MemStore>, Fail> {
-    let mut conn = made(alloc, TABLES)?;
-    conn.execute_batch("DROP INDEX holding_of")?;
-    Ok(opened(alloc, conn)?.close())
-}
-
 /// A desk without its index stays so: what has no index of this name makes one.
 #[test]
-fn opening_makes_no_index(rt: HostRuntime) -> Result<(), Fail> {
-    let mut conn = opened_without_index(rt.alloc())?;
-    conn.execute_batch("CREATE INDEX holding_of ON holding (holder)")?;
-    Ok(())
+fn opening_makes_no_index(rt: HostRuntime) {
+    let mut conn = database(&rt, rt.alloc(), TABLES);
+    conn.execute_batch("DROP INDEX holding_of")
+        .expect(&rt, "an index");
+    let mut conn = opened(&rt, rt.alloc(), conn).close();
+    conn.execute_batch("CREATE INDEX holding_of ON holding (holder)")
+        .expect(&rt, "no index of this name");
 }
 
 #[test]
-fn connection_in_a_transaction_is_refused(rt: HostRuntime) -> Result<(), Fail> {
-    let answer = answer_after(rt.alloc(), made(rt.alloc(), TABLES)?, "BEGIN")?;
-    assert_eq!(rt; answer, "database");
-    Ok(())
+fn connection_in_a_transaction_is_refused(rt: HostRuntime) {
+    let conn = database(&rt, rt.alloc(), TABLES);
+    let answer = answer_after(&rt, rt.alloc(), conn, "BEGIN");
+    assert_same(&rt, answer, "database", "in a transaction");
 }
 
 #[test]
-fn limit_of_steps_is_lifted(rt: HostRuntime) -> Result<(), Fail> {
-    let mut conn = made(rt.alloc(), TABLES)?;
+fn limit_of_steps_is_lifted(rt: HostRuntime) {
+    let mut conn = database(&rt, rt.alloc(), TABLES);
     conn.set_step_limit(Some(1));
-    assert_eq!(rt; answer_of(rt.alloc(), conn), "ok");
-    Ok(())
+    assert_same(&rt, answer_of(rt.alloc(), conn), "ok", "limit of steps");
 }
 
 /// What opening a file of these bytes answers; `refused` where the database refuses it.
-fn answer_of_file(alloc: Global, bytes: &[u8]) -> Result<&'static str, Fail> {
+fn answer_of_file(rt: &impl Abort, alloc: Global, bytes: &[u8]) -> &'static str {
     let log = Memory::new(alloc);
     let mut db = Memory::new(alloc);
-    db.write_at(0, bytes)?;
+    db.write_at(0, bytes).expect(rt, "a file");
     match Connection::open_files(alloc, Files { log, db }, Options::new(1)) {
-        Ok(conn) => Ok(answer_of(alloc, conn)),
-        Err(_) => Ok("refused"),
+        Ok(conn) => answer_of(alloc, conn),
+        Err(_) => "refused",
     }
 }
 
 #[test]
-fn files_that_have_no_table(rt: HostRuntime) -> Result<(), Fail> {
+fn files_that_have_no_table(rt: HostRuntime) {
     for (bytes, expected) in [("", "schema"), ("register,alpha\n", "refused")] {
-        let answer = answer_of_file(rt.alloc(), bytes.as_bytes())?;
-        assert_eq!(rt; answer, expected, "{bytes:?}");
+        let answer = answer_of_file(&rt, rt.alloc(), bytes.as_bytes());
+        assert_same(&rt, answer, expected, bytes);
     }
-    Ok(())
 }

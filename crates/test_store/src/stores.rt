@@ -1,69 +1,69 @@
 //! The store: what was applied is loaded, and what breaks a key is refused.
-use crate::databases::opened;
-use crate::example_database::{TABLES, made};
+use crate::comparison::assert_same;
+use crate::databases::{database, opened};
+use crate::example_database::TABLES;
 use addr::{Asn, Day, Holdings, Name, Prefix};
 use policy::{
     Auth, AuthTerms, Change, Charter, Command, Edit, Granted, HolderChange, HolderRows,
     RoaPrefixes, Role, Scope, View, decide,
 };
-use slurm::{Filter, NamedSlurm, Slurm, SlurmFault, SlurmSet};
+use slurm::{Filter, NamedSlurm, Slurm, SlurmSet};
 use sqlite::{Connection, MemStore};
 use std::alloc::Global;
 use std::process::Abort;
-use std::test::Fail;
 use store::{Loaded, Store, StoreFault};
 use test_library::slurm_sample::SAMPLE;
 
-fn name(text: &str) -> Result<Name, Fail> {
-    Ok(Name::read(text.as_bytes()).ok_or("a name")?)
+fn name(rt: &impl Abort, text: &str) -> Name {
+    Name::read(text.as_bytes()).expect(rt, "a name")
 }
 
-fn first_of_march() -> Result<Day, Fail> {
-    Ok(Day::read(b"2026-03-01").ok_or("a day")?)
+fn prefix(rt: &impl Abort, text: &str) -> Prefix {
+    Prefix::read(text.as_bytes()).expect(rt, "a prefix")
+}
+
+fn first_of_march(rt: &impl Abort) -> Day {
+    Day::read(b"2026-03-01").expect(rt, "a day")
 }
 
 /// A charter of one operator and one prefix in the pool.
-fn charter(alloc: Global) -> Result<Charter, Fail> {
-    let (operator, prefix) = (name("reg")?, Prefix::read(b"192.0.0.0/16")?);
-    let operators = vec![in alloc; operator]?;
-    Ok(Charter::make(operators, vec![in alloc; prefix]?)?)
+fn charter(rt: &impl Abort, alloc: Global) -> Charter {
+    let operators = vec![in alloc; name(rt, "reg")].expect(rt, "operators");
+    let pool = vec![in alloc; prefix(rt, "192.0.0.0/16")].expect(rt, "a pool");
+    Charter::make(operators, pool).expect(rt, "a charter")
 }
 
 /// A store that has the holder `alpha`.
-fn registered_holder(alloc: Global) -> Result<Store<MemStore>, Fail> {
-    let Ok(mut store) = Store::open_memory(alloc, &charter(alloc)?) else {
-        return Err("no store".into());
-    };
-    apply(&mut store, Edit::Register)?;
-    Ok(store)
+fn registered_holder(rt: &impl Abort, alloc: Global) -> Store<MemStore> {
+    let mut store = Store::open_memory(alloc, &charter(rt, alloc)).expect(rt, "a store");
+    apply(rt, &mut store, Edit::Register);
+    store
 }
 
 /// Changes the rows of `alpha`.
-fn change(store: &mut Store<MemStore>, edit: Edit) -> Result<Result<(), StoreFault>, Fail> {
-    let holder = name("alpha")?;
+fn change(rt: &impl Abort, store: &mut Store<MemStore>, edit: Edit) -> Result<(), StoreFault> {
+    let holder = name(rt, "alpha");
     let change = Change::Holders {
         first: HolderChange { holder, edit },
         second: None,
     };
-    Ok(store.apply(&change))
+    store.apply(&change)
 }
 
-fn apply(store: &mut Store<MemStore>, edit: Edit) -> Result<(), Fail> {
-    match change(store, edit)? {
-        Ok(()) => Ok(()),
-        Err(_) => Err("the change is refused".into()),
-    }
+fn apply(rt: &impl Abort, store: &mut Store<MemStore>, edit: Edit) {
+    change(rt, store, edit).expect(rt, "a change");
 }
 
-fn authorization(alloc: Global, number: u32) -> Result<Auth, Fail> {
-    let day = first_of_march()?;
-    Ok(Auth {
+/// AS 64496 with 192.0.2.0/24 to this length.
+fn authorization(rt: &impl Abort, alloc: Global, number: u32, max: u8) -> Auth {
+    let day = first_of_march(rt);
+    Auth {
         number,
         asn: Asn(64_496),
-        entries: RoaPrefixes::one(alloc, Prefix::read(b"192.0.2.0/24")?, 24)?,
+        entries: RoaPrefixes::one(alloc, prefix(rt, "192.0.2.0/24"), max).expect(rt, "an entry"),
         from: day,
         until: day,
-    })
+    }
 }
 
 fn is_same(auth: &Auth, other: &Auth) -> bool {
@@ -83,148 +83,105 @@ fn are_same(auths: &[Auth], others: &[Auth]) -> bool {
             .all(|(auth, other)| is_same(auth, other))
 }
 
-fn authorization_of(alloc: Global, number: u32, asn: u32) -> Result<Auth, Fail> {
-    let mut auth = authorization(alloc, number)?;
-    auth.asn = Asn(asn);
-    Ok(auth)
-}
-
 /// So many authorizations of one prefix, each of an AS of its own, where four were made before.
-fn next_authorizations(alloc: Global, count: u32) -> Result<Vec<Auth>, Fail> {
+fn next_authorizations(rt: &impl Abort, alloc: Global, count: u32) -> Vec<Auth> {
     let mut auths = Vec::new(alloc);
     for number in 5..5u32.saturating_add(count) {
-        auths.push(authorization_of(alloc, number, number)?)?;
+        let mut auth = authorization(rt, alloc, number, 24);
+        auth.asn = Asn(number);
+        auths.push(auth).expect(rt, "an authorization");
     }
-    Ok(auths)
+    auths
 }
 
-fn grant() -> Result<Granted, Fail> {
-    Ok(Granted {
+fn grant(rt: &impl Abort) -> Granted {
+    Granted {
         number: 1,
-        caller: name("ann")?,
+        caller: name(rt, "ann"),
         role: Role::Manager,
-        scope: Scope::Only(Prefix::read(b"192.0.2.0/24")?),
-        until: first_of_march()?,
-    })
-}
-
-/// The runs of 192.0.2.0/24 except this prefix, in place of all of it.
-fn hold(alloc: Global, without: Option<&Prefix>) -> Result<Edit, Fail> {
-    let mut holdings = Holdings::new(alloc);
-    let whole = Prefix::read(b"192.0.2.0/24")?;
-    holdings.add(&whole)?;
-    let mut removed = Vec::new(alloc);
-    if let Some(prefix) = without {
-        holdings.take(prefix)?;
-        removed.push(whole.span())?;
+        scope: Scope::Only(prefix(rt, "192.0.2.0/24")),
+        until: first_of_march(rt),
     }
-    Ok(Edit::Hold {
-        removed,
-        added: Vec::from_slice(alloc, holdings.spans())?,
+}
+
+/// `alpha` gets the run of 192.0.2.0/24.
+fn hold(rt: &impl Abort, alloc: Global, store: &mut Store<MemStore>) {
+    let run = prefix(rt, "192.0.2.0/24").span();
+    let edit = Edit::Hold {
+        removed: Vec::new(alloc),
+        added: vec![in alloc; run].expect(rt, "a run"),
         ended: Vec::new(alloc),
-    })
-}
-
-fn apply_each(alloc: Global, store: &mut Store<MemStore>) -> Result<(), Fail> {
-    apply(store, Edit::Grant(grant()?))?;
-    apply(store, hold(alloc, None)?)?;
-    apply(store, Edit::Create(authorization(alloc, 1)?))?;
-    apply(store, Edit::Amend(authorization(alloc, 1)?))?;
-    apply(store, Edit::Withdraw(1))?;
-    apply(store, Edit::Revoke(1))
-}
-
-#[test]
-fn each_edit_runs_in_memory(rt: HostRuntime) -> Result<(), Fail> {
-    apply_each(rt.alloc(), &mut registered_holder(rt.alloc())?)
-}
-
-/// `alpha`, which is registered, holds its run and has its grant and its authorization.
-fn apply_rows_of_each_kind(alloc: Global, store: &mut Store<MemStore>) -> Result<(), Fail> {
-    apply(store, hold(alloc, None)?)?;
-    apply(store, Edit::Grant(grant()?))?;
-    apply(store, Edit::Create(authorization(alloc, 1)?))
-}
-
-fn assert_only(rt: &impl Abort, auths: &[Auth], expected: &Auth) -> Result<(), Fail> {
-    let [auth] = auths else {
-        return Err("not one authorization".into());
     };
-    assert!(rt; is_same(auth, expected));
-    Ok(())
-}
-
-fn assert_rows(rt: &impl Abort, alloc: Global, rows: &HolderRows) -> Result<(), Fail> {
-    assert!(rt; rows.holdings.spans() == [Prefix::read(b"192.0.2.0/24")?.span()].as_slice());
-    assert!(rt; rows.grants.as_slice() == [grant()?].as_slice());
-    assert_eq!(rt; (rows.granted, rows.created), (1, 1));
-    assert_only(rt, &rows.auths, &authorization(alloc, 1)?)
+    apply(rt, store, edit);
 }
 
 #[test]
-fn what_was_applied_is_loaded(rt: HostRuntime) -> Result<(), Fail> {
-    let mut store = registered_holder(rt.alloc())?;
-    apply_rows_of_each_kind(rt.alloc(), &mut store)?;
-    assert_rows(&rt, rt.alloc(), &rows_of(rt.alloc(), &mut store)?)
+fn each_edit_runs_in_memory(rt: HostRuntime) {
+    let mut store = holder_with_rows(&rt, rt.alloc());
+    let edit = Edit::Amend(authorization(&rt, rt.alloc(), 1, 24));
+    apply(&rt, &mut store, edit);
+    apply(&rt, &mut store, Edit::Withdraw(1));
+    apply(&rt, &mut store, Edit::Revoke(1));
 }
 
-fn assert_loads_one_of_two(
-    rt: &impl Abort,
-    alloc: Global,
-    store: &mut Store<MemStore>,
-) -> Result<(), Fail> {
-    let both = store.load_two(alloc, &name("alpha")?, &name("beta")?);
+/// `alpha` holds its run and has its grant and its authorization.
+fn holder_with_rows(rt: &impl Abort, alloc: Global) -> Store<MemStore> {
+    let mut store = registered_holder(rt, alloc);
+    hold(rt, alloc, &mut store);
+    apply(rt, &mut store, Edit::Grant(grant(rt)));
+    let edit = Edit::Create(authorization(rt, alloc, 1, 24));
+    apply(rt, &mut store, edit);
+    store
+}
+
+fn assert_rows(rt: &impl Abort, alloc: Global, rows: &HolderRows) {
+    assert!(rt; rows.holdings.spans() == [prefix(rt, "192.0.2.0/24").span()].as_slice());
+    assert!(rt; rows.grants.as_slice() == [grant(rt)].as_slice());
+    assert_same(rt, (rows.granted, rows.created), (1, 1), "counters");
+    let [auth] = rows.auths.as_slice() else {
+        rt.panic("not one authorization")
+    };
+    assert!(rt; is_same(auth, &authorization(rt, alloc, 1, 24)));
+}
+
+#[test]
+fn what_was_applied_is_loaded(rt: HostRuntime) {
+    let mut store = holder_with_rows(&rt, rt.alloc());
+    assert_rows(&rt, rt.alloc(), &rows_of(&rt, rt.alloc(), &mut store));
+}
+
+#[test]
+fn what_was_applied_is_in_force(rt: HostRuntime) {
+    let mut store = holder_with_rows(&rt, rt.alloc());
+    assert_same(&rt, store.charter().operators().len(), 1, "operators");
+    let both = store.load_two(rt.alloc(), &name(&rt, "alpha"), &name(&rt, "beta"));
     assert!(rt; matches!(both, Ok((Some(_), None))));
-    Ok(())
-}
-
-fn assert_one_in_force(
-    rt: &impl Abort,
-    alloc: Global,
-    store: &mut Store<MemStore>,
-) -> Result<(), Fail> {
-    let Ok(vrps) = store.all_auths_on(alloc, first_of_march()?) else {
-        return Err("no VRPs".into());
-    };
-    assert_eq!(rt; vrps.len(), 1);
-    Ok(())
-}
-
-#[test]
-fn what_was_applied_is_in_force(rt: HostRuntime) -> Result<(), Fail> {
-    let mut store = registered_holder(rt.alloc())?;
-    assert_eq!(rt; store.charter().operators().len(), 1);
-    apply_rows_of_each_kind(rt.alloc(), &mut store)?;
-    assert_loads_one_of_two(&rt, rt.alloc(), &mut store)?;
-    assert_one_in_force(&rt, rt.alloc(), &mut store)
+    let vrps = store
+        .all_auths_on(rt.alloc(), first_of_march(&rt))
+        .expect(&rt, "VRPs");
+    assert_same(&rt, vrps.len(), 1, "VRPs");
 }
 
 /// So many authorizations are imported where four were made before.
-fn import(alloc: Global, store: &mut Store<MemStore>, count: u32) -> Result<(), Fail> {
-    let auths = next_authorizations(alloc, count)?;
+fn import(rt: &impl Abort, alloc: Global, store: &mut Store<MemStore>, count: u32) {
+    let auths = next_authorizations(rt, alloc, count);
     let created = count.saturating_add(4);
-    apply(store, Edit::Import { auths, created })
+    apply(rt, store, Edit::Import { auths, created });
 }
 
-fn assert_imports(
-    rt: &impl Abort,
-    alloc: Global,
-    store: &mut Store<MemStore>,
-    count: u32,
-) -> Result<(), Fail> {
-    import(alloc, store, count)?;
-    let rows = rows_of(alloc, store)?;
-    assert_eq!(rt; rows.created, count.saturating_add(4));
-    assert!(rt; are_same(&rows.auths, &next_authorizations(alloc, count)?));
-    Ok(())
+fn assert_imports(rt: &impl Abort, alloc: Global, count: u32) {
+    let mut store = registered_holder(rt, alloc);
+    import(rt, alloc, &mut store, count);
+    let rows = rows_of(rt, alloc, &mut store);
+    assert_same(rt, rows.created, count.saturating_add(4), count);
+    assert!(rt; are_same(&rows.auths, &next_authorizations(rt, alloc, count)));
 }
 
 #[test]
-fn imported_authorizations_are_loaded(rt: HostRuntime) -> Result<(), Fail> {
+fn imported_authorizations_are_loaded(rt: HostRuntime) {
     for count in [0, 1, 3] {
-        assert_imports(&rt, rt.alloc(), &mut registered_holder(rt.alloc())?, count)?;
+        assert_imports(&rt, rt.alloc(), count);
     }
-    Ok(())
 }
 
 /// Prefixes, and whether each overlaps what `alpha` has once 192.0.2.0/26 is taken away.
@@ -235,22 +192,30 @@ const OVERLAPS: [(&str, bool); 4] = [
     ("::/0", false),
 ];
 
-fn reclaim(alloc: Global, store: &mut Store<MemStore>) -> Result<(), Fail> {
-    apply(store, hold(alloc, None)?)?;
-    let reclaimed = Prefix::read(b"192.0.2.0/26")?;
-    apply(store, hold(alloc, Some(&reclaimed))?)
+/// The runs of 192.0.2.0/24 except 192.0.2.0/26, in place of all of it.
+fn reclaim(rt: &impl Abort, alloc: Global, store: &mut Store<MemStore>) {
+    let whole = prefix(rt, "192.0.2.0/24");
+    let mut holdings = Holdings::new(alloc);
+    holdings.add(&whole).expect(rt, "holdings");
+    holdings
+        .take(&prefix(rt, "192.0.2.0/26"))
+        .expect(rt, "holdings");
+    let edit = Edit::Hold {
+        removed: vec![in alloc; whole.span()].expect(rt, "a run"),
+        added: Vec::from_slice(alloc, holdings.spans()).expect(rt, "runs"),
+        ended: Vec::new(alloc),
+    };
+    apply(rt, store, edit);
 }
 
 /// What is loaded for a command.
 fn loaded_for(
+    rt: &impl Abort,
     alloc: Global,
     store: &mut Store<MemStore>,
     command: &Command,
-) -> Result<Loaded, Fail> {
-    match store.load_for(alloc, command) {
-        Ok(loaded) => Ok(loaded),
-        Err(_) => Err("not loaded".into()),
-    }
+) -> Loaded {
+    store.load_for(alloc, command).expect(rt, "loaded rows")
 }
 
 fn assert_overlaps(
@@ -259,145 +224,120 @@ fn assert_overlaps(
     store: &mut Store<MemStore>,
     text: &str,
     overlaps: bool,
-) -> Result<(), Fail> {
-    let prefix = Prefix::read(text.as_bytes())?;
-    let found = store.overlapping(&prefix);
-    assert!(rt; matches!(found, Ok(found) if found == overlaps), "{text}");
-    let holder = name("alpha")?;
-    let loaded = loaded_for(alloc, store, &Command::Delegate { holder, prefix })?;
-    assert_eq!(rt; loaded.answers.taken, overlaps, "{text}");
-    Ok(())
+) {
+    let prefix = prefix(rt, text);
+    let found = store.overlapping(&prefix).expect(rt, text);
+    assert_same(rt, found, overlaps, text);
+    let holder = name(rt, "alpha");
+    let loaded = loaded_for(rt, alloc, store, &Command::Delegate { holder, prefix });
+    assert_same(rt, loaded.answers.taken, overlaps, text);
 }
 
 #[test]
-fn overlapping_after_reclaim(rt: HostRuntime) -> Result<(), Fail> {
-    let mut store = registered_holder(rt.alloc())?;
-    reclaim(rt.alloc(), &mut store)?;
+fn overlapping_after_reclaim(rt: HostRuntime) {
+    let mut store = registered_holder(&rt, rt.alloc());
+    hold(&rt, rt.alloc(), &mut store);
+    reclaim(&rt, rt.alloc(), &mut store);
     for (text, overlaps) in OVERLAPS {
-        assert_overlaps(&rt, rt.alloc(), &mut store, text, overlaps)?;
-    }
-    Ok(())
-}
-
-/// The rows of `alpha`, of which no delegation's prefix is taken.
-fn view(alloc: Global, store: &mut Store<MemStore>) -> Result<View, Fail> {
-    match store.load_holder(alloc, &name("alpha")?) {
-        Ok(holder) => Ok(View {
-            holder,
-            taken: false,
-        }),
-        Err(_) => Err("no rows".into()),
+        assert_overlaps(&rt, rt.alloc(), &mut store, text, overlaps);
     }
 }
 
 /// The rows of `alpha`.
-fn rows_of(alloc: Global, store: &mut Store<MemStore>) -> Result<HolderRows, Fail> {
-    Ok(view(alloc, store)?.holder.ok_or("rows")?)
+fn rows_of(rt: &impl Abort, alloc: Global, store: &mut Store<MemStore>) -> HolderRows {
+    let rows = store.load_holder(alloc, &name(rt, "alpha"));
+    rows.expect(rt, "a load").expect(rt, "rows")
 }
 
 /// How many runs an edit takes away, and how many it puts.
-fn count_runs(change: &Change) -> Result<(usize, usize), Fail> {
+fn count_runs(rt: &impl Abort, change: &Change) -> (usize, usize) {
     let Change::Holders { first, .. } = change else {
-        return Err("another change".into());
+        rt.panic("another change")
     };
     match &first.edit {
-        Edit::Hold { removed, added, .. } => Ok((removed.len(), added.len())),
-        _ => Err("another edit".into()),
+        Edit::Hold { removed, added, .. } => (removed.len(), added.len()),
+        _ => rt.panic("another edit"),
     }
 }
 
 /// How many runs a delegation to `alpha` takes away, and how many it puts.
-fn runs_moved(alloc: Global, view: &View, prefix: &str) -> Result<(usize, usize), Fail> {
+fn runs_moved(rt: &impl Abort, alloc: Global, view: &View, text: &str) -> (usize, usize) {
     let command = Command::Delegate {
-        holder: name("alpha")?,
-        prefix: Prefix::read(prefix.as_bytes())?,
+        holder: name(rt, "alpha"),
+        prefix: prefix(rt, text),
     };
-    let (day, caller) = (first_of_march()?, name("reg")?);
-    count_runs(&decide(alloc, &charter(alloc)?, view, day, &caller, &command)?)
+    let (day, caller) = (first_of_march(rt), name(rt, "reg"));
+    let change = decide(alloc, &charter(rt, alloc), view, day, &caller, &command);
+    count_runs(rt, &change.expect(rt, text))
 }
 
-/// What is viewed of `alpha`, which holds its run.
-fn view_of_holder(alloc: Global, store: &mut Store<MemStore>) -> Result<View, Fail> {
-    apply(store, hold(alloc, None)?)?;
-    view(alloc, store)
-}
-
-#[test]
-fn delegation_takes_away_only_what_it_touches(rt: HostRuntime) -> Result<(), Fail> {
-    let view = view_of_holder(rt.alloc(), &mut registered_holder(rt.alloc())?)?;
-    for (prefix, moved) in [("192.0.3.0/24", (1, 1)), ("192.0.4.0/24", (0, 1))] {
-        assert_eq!(rt; runs_moved(rt.alloc(), &view, prefix)?, moved, "{prefix}");
+/// What is viewed of `alpha`, which holds its run, for a prefix that is not taken.
+fn view_of_holder(rt: &impl Abort, alloc: Global) -> View {
+    let mut store = registered_holder(rt, alloc);
+    hold(rt, alloc, &mut store);
+    View {
+        holder: Some(rows_of(rt, alloc, &mut store)),
+        taken: false,
     }
-    Ok(())
-}
-
-fn assert_refused(rt: &impl Abort, store: &mut Store<MemStore>, edit: Edit) -> Result<(), Fail> {
-    let result = change(store, edit)?;
-    assert!(rt; matches!(result, Err(StoreFault::Database)));
-    Ok(())
 }
 
 #[test]
-fn what_breaks_a_key_is_refused(rt: HostRuntime) -> Result<(), Fail> {
-    let mut store = registered_holder(rt.alloc())?;
-    assert_refused(&rt, &mut store, Edit::Register)?;
-    apply(&mut store, Edit::Create(authorization(rt.alloc(), 1)?))?;
+fn delegation_takes_away_only_what_it_touches(rt: HostRuntime) {
+    let view = view_of_holder(&rt, rt.alloc());
+    for (text, moved) in [("192.0.3.0/24", (1, 1)), ("192.0.4.0/24", (0, 1))] {
+        assert_same(&rt, runs_moved(&rt, rt.alloc(), &view, text), moved, text);
+    }
+}
+
+fn assert_refused(rt: &impl Abort, store: &mut Store<MemStore>, edit: Edit) {
+    let result = change(rt, store, edit);
+    assert!(rt; matches!(result, Err(StoreFault::Database)));
+}
+
+#[test]
+fn what_breaks_a_key_is_refused(rt: HostRuntime) {
+    let mut store = registered_holder(&rt, rt.alloc());
+    assert_refused(&rt, &mut store, Edit::Register);
+    let created = Edit::Create(authorization(&rt, rt.alloc(), 1, 24));
+    apply(&rt, &mut store, created);
     // The same AS, prefix and maxLength under another number.
-    assert_refused(&rt, &mut store, Edit::Create(authorization(rt.alloc(), 2)?))
+    let again = Edit::Create(authorization(&rt, rt.alloc(), 2, 24));
+    assert_refused(&rt, &mut store, again);
 }
 
 /// A database that has the tables of a desk.
-fn created(alloc: Global, charter: &Charter) -> Result<Connection<MemStore>, Fail> {
-    match Store::create_on(Connection::open_in_memory(alloc)?, charter) {
-        Ok(store) => Ok(store.close()),
-        Err(_) => Err("no store".into()),
-    }
+fn created(rt: &impl Abort, alloc: Global, charter: &Charter) -> Connection<MemStore> {
+    let conn = Connection::open_in_memory(alloc).expect(rt, "a database");
+    Store::create_on(conn, charter)
+        .expect(rt, "a store")
+        .close()
 }
 
 #[test]
-fn database_that_has_tables_is_refused(rt: HostRuntime) -> Result<(), Fail> {
-    let charter = charter(rt.alloc())?;
-    let again = Store::create_on(created(rt.alloc(), &charter)?, &charter);
+fn database_that_has_tables_is_refused(rt: HostRuntime) {
+    let charter = charter(&rt, rt.alloc());
+    let again = Store::create_on(created(&rt, rt.alloc(), &charter), &charter);
     assert!(rt; matches!(again, Err(StoreFault::Database)));
-    Ok(())
-}
-
-/// The authorization with another maxLength.
-fn authorization_to(alloc: Global, number: u32, max: u8) -> Result<Auth, Fail> {
-    let mut auth = authorization(alloc, number)?;
-    auth.entries.set_maxes(&[max]);
-    Ok(auth)
 }
 
 /// A maxLength below the length of its prefix: the columns hold it, and no VRP has it.
 #[test]
-fn authorization_that_gives_no_vrp_is_another_schema(rt: HostRuntime) -> Result<(), Fail> {
-    let mut store = registered_holder(rt.alloc())?;
-    apply(
-        &mut store,
-        Edit::Create(authorization_to(rt.alloc(), 1, 23)?),
-    )?;
-    let vrps = store.all_auths_on(rt.alloc(), first_of_march()?);
+fn authorization_that_gives_no_vrp_is_another_schema(rt: HostRuntime) {
+    let mut store = registered_holder(&rt, rt.alloc());
+    let edit = Edit::Create(authorization(&rt, rt.alloc(), 1, 23));
+    apply(&rt, &mut store, edit);
+    let vrps = store.all_auths_on(rt.alloc(), first_of_march(&rt));
     assert!(rt; matches!(vrps, Err(StoreFault::Schema)));
-    Ok(())
 }
 
-/// The set of one file.
-fn one_file(alloc: Global, text: &str, file: Slurm) -> Result<SlurmSet, Fail> {
-    let name = name(text)?;
-    let files = vec![in alloc; NamedSlurm { name, file }]?;
-    Ok(SlurmSet::make(files)?)
+fn apply_files(rt: &impl Abort, store: &mut Store<MemStore>, files: Vec<NamedSlurm>) {
+    let set = SlurmSet::make(files).expect(rt, "a set");
+    store.apply(&Change::Exceptions(set)).expect(rt, "a change");
 }
 
-/// The one file of the store.
-fn only_file(alloc: Global, store: &mut Store<MemStore>) -> Result<Slurm, Fail> {
-    let Ok(mut files) = store.slurm_files(alloc) else {
-        return Err("no files".into());
-    };
-    if files.len() > 1 {
-        return Err("more than one file".into());
-    }
-    Ok(files.pop().ok_or("a file")?)
+fn push_file(rt: &impl Abort, files: &mut Vec<NamedSlurm>, text: &str, file: Slurm) {
+    let name = name(rt, text);
+    files.push(NamedSlurm { name, file }).expect(rt, "a file");
 }
 
 fn apply_file(
@@ -406,109 +346,92 @@ fn apply_file(
     store: &mut Store<MemStore>,
     text: &str,
     file: Slurm,
-) -> Result<(), Fail> {
-    let set = one_file(alloc, text, file)?;
-    assert!(rt; store.apply(&Change::Exceptions(set)).is_ok());
-    Ok(())
+) {
+    let mut files = Vec::new(alloc);
+    push_file(rt, &mut files, text, file);
+    apply_files(rt, store, files);
 }
 
-fn count_files(alloc: Global, store: &mut Store<MemStore>) -> Result<usize, Fail> {
-    match store.slurm_files(alloc) {
-        Ok(files) => Ok(files.len()),
-        Err(_) => Err("no files".into()),
-    }
+/// The files of the store that have entries.
+fn files_of(rt: &impl Abort, alloc: Global, store: &mut Store<MemStore>) -> Vec<Slurm> {
+    store.slurm_files(alloc).expect(rt, "files")
 }
 
-fn assert_is_loaded(
-    rt: &impl Abort,
-    alloc: Global,
-    store: &mut Store<MemStore>,
-    file: &Slurm,
-) -> Result<(), Fail> {
-    apply_file(rt, alloc, store, "main", file.clone()?)?;
-    let loaded = only_file(alloc, store)?;
+/// The one file of the store.
+fn only_file(rt: &impl Abort, alloc: Global, store: &mut Store<MemStore>) -> Slurm {
+    let mut files = files_of(rt, alloc, store);
+    assert_same(rt, files.len(), 1, "files");
+    files.pop().expect(rt, "a file")
+}
+
+fn sample(rt: &impl Abort, alloc: Global) -> Slurm {
+    Slurm::read(alloc, SAMPLE.as_bytes()).expect(rt, "a file")
+}
+
+#[test]
+fn slurm_file_is_loaded_as_it_was_applied(rt: HostRuntime) {
+    let mut store = registered_holder(&rt, rt.alloc());
+    apply_file(&rt, rt.alloc(), &mut store, "main", sample(&rt, rt.alloc()));
+    let loaded = only_file(&rt, rt.alloc(), &mut store);
+    let file = sample(&rt, rt.alloc());
     assert!(rt; loaded.filters() == file.filters());
     assert!(rt; loaded.assertions() == file.assertions());
-    Ok(())
+}
+
+/// A file of these filters.
+fn file_of(rt: &impl Abort, alloc: Global, filters: &[Filter]) -> Slurm {
+    let filters = Vec::from_slice(alloc, filters).expect(rt, "filters");
+    Slurm::make(filters, Vec::new(alloc)).expect(rt, "a file")
 }
 
 #[test]
-fn slurm_file_is_loaded_as_it_was_applied(rt: HostRuntime) -> Result<(), Fail> {
-    let file = Slurm::read(rt.alloc(), SAMPLE.as_bytes())?;
-    assert_is_loaded(&rt, rt.alloc(), &mut registered_holder(rt.alloc())?, &file)
+fn slurm_file_without_entries_is_not_loaded(rt: HostRuntime) {
+    let mut store = registered_holder(&rt, rt.alloc());
+    apply_file(&rt, rt.alloc(), &mut store, "main", sample(&rt, rt.alloc()));
+    apply_file(
+        &rt,
+        rt.alloc(),
+        &mut store,
+        "a",
+        file_of(&rt, rt.alloc(), &[]),
+    );
+    assert!(rt; files_of(&rt, rt.alloc(), &mut store).is_empty());
 }
 
-fn empty_file(alloc: Global) -> Result<Slurm, SlurmFault> {
-    Slurm::make(Vec::new(alloc), Vec::new(alloc))
-}
-
-#[test]
-fn slurm_file_without_entries_is_not_loaded(rt: HostRuntime) -> Result<(), Fail> {
-    let mut store = registered_holder(rt.alloc())?;
-    let file = Slurm::read(rt.alloc(), SAMPLE.as_bytes())?;
-    apply_file(&rt, rt.alloc(), &mut store, "main", file)?;
-    apply_file(&rt, rt.alloc(), &mut store, "a", empty_file(rt.alloc())?)?;
-    assert_eq!(rt; count_files(rt.alloc(), &mut store)?, 0);
-    Ok(())
-}
-
-/// A file of one filter.
-fn file_of(alloc: Global, asn: u32) -> Result<Slurm, Fail> {
+/// The filters of the files.
+fn filters_of(rt: &impl Abort, alloc: Global, files: &[Slurm]) -> Vec<Filter> {
     let mut filters = Vec::new(alloc);
-    filters.push(Filter::By(Asn(asn)))?;
-    Ok(Slurm::make(filters, Vec::new(alloc))?)
-}
-
-/// The filters of the files that are loaded.
-fn filters_loaded(alloc: Global, store: &mut Store<MemStore>) -> Result<Vec<Filter>, Fail> {
-    let Ok(files) = store.slurm_files(alloc) else {
-        return Err("no files".into());
-    };
-    let mut filters = Vec::new(alloc);
-    for file in &files {
-        filters.extend_from_slice(file.filters())?;
+    for file in files {
+        filters
+            .extend_from_slice(file.filters())
+            .expect(rt, "filters");
     }
-    Ok(filters)
-}
-
-fn push_file(files: &mut Vec<NamedSlurm>, text: &str, file: Slurm) -> Result<(), Fail> {
-    let name = name(text)?;
-    files.push(NamedSlurm { name, file })?;
-    Ok(())
+    filters
 }
 
 /// Three files of one filter each, out of their order, and one without entries.
-fn four_files(alloc: Global) -> Result<SlurmSet, Fail> {
+fn four_files(rt: &impl Abort, alloc: Global) -> Vec<NamedSlurm> {
     let mut files = Vec::new(alloc);
     for (text, asn) in [("b", 64_497), ("main", 64_498), ("a", 64_496)] {
-        push_file(&mut files, text, file_of(alloc, asn)?)?;
+        let file = file_of(rt, alloc, &[Filter::By(Asn(asn))]);
+        push_file(rt, &mut files, text, file);
     }
-    push_file(&mut files, "empty", empty_file(alloc)?)?;
-    Ok(SlurmSet::make(files)?)
-}
-
-fn assert_four_files(
-    rt: &impl Abort,
-    alloc: Global,
-    store: &mut Store<MemStore>,
-) -> Result<(), Fail> {
-    let set = four_files(alloc)?;
-    assert!(rt; store.apply(&Change::Exceptions(set)).is_ok());
-    assert_eq!(rt; count_files(alloc, store)?, 3);
-    Ok(())
+    push_file(rt, &mut files, "empty", file_of(rt, alloc, &[]));
+    files
 }
 
 #[test]
-fn slurm_files_are_loaded_by_name(rt: HostRuntime) -> Result<(), Fail> {
-    let mut store = registered_holder(rt.alloc())?;
-    assert_four_files(&rt, rt.alloc(), &mut store)?;
+fn slurm_files_are_loaded_by_name(rt: HostRuntime) {
+    let mut store = registered_holder(&rt, rt.alloc());
+    apply_files(&rt, &mut store, four_files(&rt, rt.alloc()));
+    let files = files_of(&rt, rt.alloc(), &mut store);
+    assert_same(&rt, files.len(), 3, "files");
     let expected = [
         Filter::By(Asn(64_496)),
         Filter::By(Asn(64_497)),
         Filter::By(Asn(64_498)),
     ];
-    assert!(rt; filters_loaded(rt.alloc(), &mut store)?.as_slice() == expected.as_slice());
-    Ok(())
+    assert!(rt; filters_of(&rt, rt.alloc(), &files).as_slice() == expected.as_slice());
 }
 
 /// Exceptions of another program, out of their order and with positions left out.
@@ -518,53 +441,53 @@ INSERT INTO slurm VALUES ('main', 1, 8, 4, x'000000000000000000000000c0000200', 
 ";
 
 /// The one file of those exceptions.
-fn exceptions_loaded(alloc: Global) -> Result<Slurm, Fail> {
-    let mut conn = made(alloc, TABLES)?;
-    conn.execute_batch(EXCEPTIONS)?;
-    only_file(alloc, &mut opened(alloc, conn)?)
+fn exceptions_loaded(rt: &impl Abort, alloc: Global) -> Slurm {
+    let mut conn = database(rt, alloc, TABLES);
+    conn.execute_batch(EXCEPTIONS).expect(rt, "exceptions");
+    only_file(rt, alloc, &mut opened(rt, alloc, conn))
 }
 
 #[test]
-fn exceptions_are_loaded_by_their_positions(rt: HostRuntime) -> Result<(), Fail> {
-    let prefix = Prefix::read(b"192.0.2.0/24")?;
+fn exceptions_are_loaded_by_their_positions(rt: HostRuntime) {
+    let prefix = prefix(&rt, "192.0.2.0/24");
     let filters = [
         Filter::Under(prefix),
         Filter::Both(prefix, Asn(64_497)),
         Filter::By(Asn(64_499)),
     ];
-    let file = exceptions_loaded(rt.alloc())?;
+    let file = exceptions_loaded(&rt, rt.alloc());
     assert!(rt; file.filters() == filters.as_slice());
-    assert_eq!(rt; file.assertions().len(), 1);
-    Ok(())
+    assert_same(&rt, file.assertions().len(), 1, "assertions");
 }
 
 /// `alpha` gives AS 64496 with 192.0.2.0/24 to length 24 by number 1, and to length 25 by number 2.
-fn two_authorizations(alloc: Global) -> Result<Store<MemStore>, Fail> {
-    let mut store = registered_holder(alloc)?;
-    apply_rows_of_each_kind(alloc, &mut store)?;
-    apply(&mut store, Edit::Create(authorization_to(alloc, 2, 25)?))?;
-    Ok(store)
+fn two_authorizations(rt: &impl Abort, alloc: Global) -> Store<MemStore> {
+    let mut store = holder_with_rows(rt, alloc);
+    let edit = Edit::Create(authorization(rt, alloc, 2, 25));
+    apply(rt, &mut store, edit);
+    store
 }
 
-fn terms(alloc: Global, asn: u32, prefix: &str, max: u8) -> Result<AuthTerms, Fail> {
-    let day = first_of_march()?;
-    Ok(AuthTerms {
+fn terms(rt: &impl Abort, alloc: Global, asn: u32, text: &str, max: u8) -> AuthTerms {
+    let day = first_of_march(rt);
+    AuthTerms {
         asn: Asn(asn),
-        entries: RoaPrefixes::one(alloc, Prefix::read(prefix.as_bytes())?, max)?,
+        entries: RoaPrefixes::one(alloc, prefix(rt, text), max).expect(rt, "an entry"),
         from: day,
         until: day,
-    })
+    }
 }
 
 /// What is loaded for a create at a holder.
 fn for_create(
+    rt: &impl Abort,
     alloc: Global,
     store: &mut Store<MemStore>,
     holder: &str,
     terms: AuthTerms,
-) -> Result<Loaded, Fail> {
-    let holder = name(holder)?;
-    loaded_for(alloc, store, &Command::Create { holder, terms })
+) -> Loaded {
+    let holder = name(rt, holder);
+    loaded_for(rt, alloc, store, &Command::Create { holder, terms })
 }
 
 /// The grants that were loaded.
@@ -588,89 +511,55 @@ const CREATES: &[(u32, &str, u8, bool, bool)] = &[
     (64_496, "::/0", 24, false, false),
 ];
 
-fn assert_answers(
-    rt: &impl Abort,
-    loaded: &Loaded,
-    row: &(u32, &str, u8, bool, bool),
-) -> Result<(), Fail> {
-    let (asn, prefix, max, holds, gives) = *row;
-    assert!(rt; grants_of(loaded) == [grant()?].as_slice(), "{prefix}");
-    assert_eq!(rt; loaded.answers.created, 2, "{prefix}");
-    assert_eq!(rt; loaded.answers.holds, holds, "AS{asn} {prefix} to {max}");
-    assert_eq!(rt; loaded.answers.gives, gives, "AS{asn} {prefix} to {max}");
-    assert!(rt; !loaded.answers.is_full, "{prefix}");
-    Ok(())
-}
-
 fn assert_create(
     rt: &impl Abort,
     alloc: Global,
     store: &mut Store<MemStore>,
     row: &(u32, &str, u8, bool, bool),
-) -> Result<(), Fail> {
-    let (asn, prefix, max, ..) = *row;
-    let terms = terms(alloc, asn, prefix, max)?;
-    assert_answers(rt, &for_create(alloc, store, "alpha", terms)?, row)
+) {
+    let (asn, text, max, holds, gives) = *row;
+    let terms = terms(rt, alloc, asn, text, max);
+    let loaded = for_create(rt, alloc, store, "alpha", terms);
+    assert!(rt; grants_of(&loaded) == [grant(rt)].as_slice(), "{text}");
+    let answers = &loaded.answers;
+    assert_same(rt, (answers.created, answers.is_full), (2, false), row);
+    assert_same(rt, (answers.holds, answers.gives), (holds, gives), row);
 }
 
 #[test]
-fn what_a_create_asks_is_loaded(rt: HostRuntime) -> Result<(), Fail> {
-    let mut store = two_authorizations(rt.alloc())?;
+fn what_a_create_asks_is_loaded(rt: HostRuntime) {
+    let mut store = two_authorizations(&rt, rt.alloc());
     for row in CREATES {
-        assert_create(&rt, rt.alloc(), &mut store, row)?;
+        assert_create(&rt, rt.alloc(), &mut store, row);
     }
-    Ok(())
-}
-
-fn assert_nothing(rt: &impl Abort, loaded: &Loaded) {
-    assert!(rt; grants_of(loaded).is_empty());
-    assert_eq!(rt; loaded.answers.created, 0);
-    assert!(rt; !loaded.answers.holds);
 }
 
 #[test]
-fn create_at_nobody_is_loaded(rt: HostRuntime) -> Result<(), Fail> {
-    let terms = terms(rt.alloc(), 64_496, "192.0.2.0/24", 24)?;
-    let mut store = two_authorizations(rt.alloc())?;
-    assert_nothing(&rt, &for_create(rt.alloc(), &mut store, "beta", terms)?);
-    Ok(())
+fn create_at_nobody_is_loaded(rt: HostRuntime) {
+    let terms = terms(&rt, rt.alloc(), 64_496, "192.0.2.0/24", 24);
+    let mut store = two_authorizations(&rt, rt.alloc());
+    let loaded = for_create(&rt, rt.alloc(), &mut store, "beta", terms);
+    assert!(rt; grants_of(&loaded).is_empty());
+    let answers = &loaded.answers;
+    assert_same(&rt, (answers.created, answers.holds), (0, false), "beta");
 }
 
 /// Whether no more authorizations may be made where so many are active, and four were withdrawn.
-fn is_full(alloc: Global, store: &mut Store<MemStore>, count: u32) -> Result<bool, Fail> {
-    apply(store, hold(alloc, None)?)?;
-    import(alloc, store, count)?;
-    let terms = terms(alloc, 64_496, "192.0.2.0/24", 24)?;
-    Ok(for_create(alloc, store, "alpha", terms)?.answers.is_full)
+fn is_full(rt: &impl Abort, alloc: Global, count: u32) -> bool {
+    let mut store = registered_holder(rt, alloc);
+    hold(rt, alloc, &mut store);
+    import(rt, alloc, &mut store, count);
+    let terms = terms(rt, alloc, 64_496, "192.0.2.0/24", 24);
+    for_create(rt, alloc, &mut store, "alpha", terms)
+        .answers
+        .is_full
 }
 
 #[test]
-fn a_thousand_authorizations_are_full(rt: HostRuntime) -> Result<(), Fail> {
+fn a_thousand_authorizations_are_full(rt: HostRuntime) {
     for (count, expected) in [(1, false), (999, false), (1000, true)] {
-        let mut store = registered_holder(rt.alloc())?;
-        assert_eq!(rt;
-            is_full(rt.alloc(), &mut store, count)?,
-            expected,
-            "{count}"
-        );
+        assert_same(&rt, is_full(&rt, rt.alloc(), count), expected, count);
     }
-    Ok(())
-}
-
-/// What is loaded for an amendment at `alpha`.
-fn for_amend(
-    alloc: Global,
-    store: &mut Store<MemStore>,
-    number: u32,
-    maxes: &[u8],
-) -> Result<Loaded, Fail> {
-    let command = Command::Amend {
-        holder: name("alpha")?,
-        number,
-        maxes: Vec::from_slice(alloc, maxes)?,
-        until: first_of_march()?,
-    };
-    loaded_for(alloc, store, &command)
 }
 
 /// Whether the number is there, and whether another one gives the AS with the amended entry.
@@ -685,18 +574,21 @@ const AMENDMENTS: &[(u32, &[u8], bool, bool)] = &[
     (3, &[24], false, false),
 ];
 
-fn assert_loaded(
+/// What is loaded for an amendment at `alpha`.
+fn for_amend(
     rt: &impl Abort,
-    loaded: &Loaded,
-    row: &(u32, &[u8], bool, bool),
-) -> Result<(), Fail> {
-    let (number, maxes, is_there, is_shared) = *row;
-    let rows = loaded.rows.as_ref().ok_or("no rows")?;
-    assert!(rt; rows.grants.as_slice() == [grant()?].as_slice(), "{number}");
-    let found = rows.auths.iter().any(|auth| auth.number == number);
-    assert_eq!(rt; found, is_there, "{number}");
-    assert_eq!(rt; loaded.answers.gives, is_shared, "{number} to {maxes:?}");
-    Ok(())
+    alloc: Global,
+    store: &mut Store<MemStore>,
+    number: u32,
+    maxes: &[u8],
+) -> Loaded {
+    let command = Command::Amend {
+        holder: name(rt, "alpha"),
+        number,
+        maxes: Vec::from_slice(alloc, maxes).expect(rt, "lengths"),
+        until: first_of_march(rt),
+    };
+    loaded_for(rt, alloc, store, &command)
 }
 
 fn assert_amendment(
@@ -704,15 +596,27 @@ fn assert_amendment(
     alloc: Global,
     store: &mut Store<MemStore>,
     row: &(u32, &[u8], bool, bool),
-) -> Result<(), Fail> {
-    assert_loaded(rt, &for_amend(alloc, store, row.0, row.1)?, row)
+) {
+    let (number, maxes, is_there, is_shared) = *row;
+    let loaded = for_amend(rt, alloc, store, number, maxes);
+    let rows = loaded.rows.as_ref().expect(rt, "rows");
+    assert!(rt;
+        rows.grants.as_slice() == [grant(rt)].as_slice(),
+        "{number}"
+    );
+    let found = rows.auths.iter().any(|auth| auth.number == number);
+    assert_same(
+        rt,
+        (found, loaded.answers.gives),
+        (is_there, is_shared),
+        row,
+    );
 }
 
 #[test]
-fn what_an_amendment_asks_is_loaded(rt: HostRuntime) -> Result<(), Fail> {
-    let mut store = two_authorizations(rt.alloc())?;
+fn what_an_amendment_asks_is_loaded(rt: HostRuntime) {
+    let mut store = two_authorizations(&rt, rt.alloc());
     for row in AMENDMENTS {
-        assert_amendment(&rt, rt.alloc(), &mut store, row)?;
+        assert_amendment(&rt, rt.alloc(), &mut store, row);
     }
-    Ok(())
 }
