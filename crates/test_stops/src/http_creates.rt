@@ -1,15 +1,16 @@
 //! A create over HTTP, on desks over files that stop at each call of the disk.
-use crate::example_requests::{Answers, COUNT_BEFORE_CREATE, ask_first, assert_answered, sheet_of};
+use crate::example_requests::{
+    Answers, COUNT_BEFORE_CREATE, COUNT_WITH_CREATE, ask_first, assert_answered, sheet_of,
+};
 use crate::sweep::{Course, Sweep, copying_options, small_options, sound_desk};
 use addr::Day;
 use desk::Desk;
 use desk_files::stop;
 use sqlite::Alter;
-use sqlite_disk::{Files, Fuse, Memory};
+use sqlite_disk::{Fuse, Memory};
 use sqlite_pager::Options;
 use std::alloc::Global;
 use std::process::Abort;
-use std::test::Fail;
 use test_library::sheet::Sheet;
 use web::{Device, WebFault, serve_one};
 
@@ -27,14 +28,27 @@ const UNAVAILABLE: &str = "HTTP/1.1 503 Service Unavailable\r\n\
 
 /// Serves the create to a writer.
 fn serve_create<S: Alter>(
+    rt: &impl Abort,
     alloc: Global,
     desk: &mut Desk<S>,
     sheet: &mut Sheet,
-) -> Result<Result<(), WebFault>, Fail> {
-    let day = Day::read(b"2026-03-01").ok_or("a day")?;
+) -> Result<(), WebFault> {
+    let day = Day::read(b"2026-03-01").expect(rt, "a day");
     let mut source = Device::new(CREATE.as_bytes());
     let mut drain = Device::new(sheet);
-    Ok(serve_one(alloc, &mut source, &mut drain, desk, day))
+    serve_one(alloc, &mut source, &mut drain, desk, day)
+}
+
+/// Whether the desk answers that it made the create; else it answers that it is unavailable.
+fn is_created<S: Alter>(rt: &impl Abort, alloc: Global, desk: &mut Desk<S>) -> bool {
+    let mut sheet = sheet_of(alloc, usize::MAX);
+    serve_create(rt, alloc, desk, &mut sheet).expect(rt, "a response");
+    let response = String::from_utf8(sheet.bytes).expect(rt, "a text");
+    let is_done = response.as_str() == DONE;
+    if !is_done {
+        assert_eq!(rt; response.as_str(), UNAVAILABLE);
+    }
+    is_done
 }
 
 /// Sends the requests before the create as lines, and the create over HTTP.
@@ -42,78 +56,48 @@ pub(crate) fn ask_until_create<S: Alter>(
     rt: &impl Abort,
     alloc: Global,
     desk: &mut Desk<S>,
-) -> Result<Answers, Fail> {
-    let mut answers = ask_first(rt, alloc, desk, COUNT_BEFORE_CREATE)?;
-    if answers.count < COUNT_BEFORE_CREATE {
-        return Ok(answers);
+) -> Answers {
+    let mut answers = ask_first(rt, alloc, desk, COUNT_BEFORE_CREATE);
+    if answers.count == COUNT_BEFORE_CREATE && is_created(rt, alloc, desk) {
+        answers.count = COUNT_WITH_CREATE;
     }
-    let mut sheet = sheet_of(alloc, usize::MAX);
-    let result = serve_create(alloc, desk, &mut sheet)?;
-    assert_eq!(rt; result, Ok(()));
-    let response = String::from_utf8(sheet.bytes)?;
-    if response.as_str() == DONE {
-        answers.count = answers.count.saturating_add(1);
-    } else {
-        assert_eq!(rt; response.as_str(), UNAVAILABLE);
-    }
-    Ok(answers)
+    answers
 }
 
 /// The create was answered with 503 in some run, and was found after it; and so was not in another.
 /// A run that stops before the last request ahead of it does not send it, and is one of those that
 /// send lines alone.
-fn stop_at_a_create(rt: &impl Abort, alloc: Global, options: Options) -> Result<(), Fail> {
-    let requests = COUNT_BEFORE_CREATE.saturating_sub(1)..Course::HttpCreate.count();
-    Sweep::new(alloc, options, Course::HttpCreate).fail_at::<Fuse<Memory>>(rt, &requests)
+fn stop_at_a_create(rt: &impl Abort, alloc: Global, options: Options) {
+    let requests = COUNT_BEFORE_CREATE.saturating_sub(1)..COUNT_WITH_CREATE;
+    Sweep::new(alloc, options, Course::HttpCreate).fail_at::<Fuse<Memory>>(rt, &requests);
 }
 
 #[test]
-fn stop_at_a_create_while_the_log_grows(rt: HostRuntime) -> Result<(), Fail> {
-    stop_at_a_create(&rt, rt.alloc(), small_options())
+fn stop_at_a_create_while_the_log_grows(rt: HostRuntime) {
+    stop_at_a_create(&rt, rt.alloc(), small_options());
 }
 
 #[test]
-fn stop_at_a_create_while_the_log_is_copied(rt: HostRuntime) -> Result<(), Fail> {
-    stop_at_a_create(&rt, rt.alloc(), copying_options())
+fn stop_at_a_create_while_the_log_is_copied(rt: HostRuntime) {
+    stop_at_a_create(&rt, rt.alloc(), copying_options());
 }
 
 /// A create whose response is not taken.
-fn create_untaken<S: Alter>(
-    rt: &impl Abort,
-    alloc: Global,
-    desk: &mut Desk<S>,
-) -> Result<(), Fail> {
-    assert_answered(rt, alloc, desk, COUNT_BEFORE_CREATE)?;
+fn create_untaken<S: Alter>(rt: &impl Abort, alloc: Global, desk: &mut Desk<S>) {
+    assert_answered(rt, alloc, desk, COUNT_BEFORE_CREATE);
     let mut sheet = sheet_of(alloc, 0);
-    let result = serve_create(alloc, desk, &mut sheet)?;
+    let result = serve_create(rt, alloc, desk, &mut sheet);
     assert_eq!(rt; result, Err(WebFault::Write));
     assert!(rt; sheet.bytes.is_empty());
-    Ok(())
 }
 
-/// The files after it.
-fn files_of_untaken(rt: &impl Abort, alloc: Global) -> Result<Files<Fuse<Memory>>, Fail> {
-    let mut desk = sound_desk(alloc, small_options())?;
-    create_untaken(rt, alloc, &mut desk)?;
-    Ok(stop(desk))
-}
-
-/// Nothing was in progress at the stop of these files, and the create is in them.
-fn assert_created(
-    rt: &impl Abort,
-    alloc: Global,
-    files: &mut Files<Fuse<Memory>>,
-) -> Result<(), Fail> {
-    let mut sweep = Sweep::new(alloc, small_options(), Course::HttpCreate);
-    let count = COUNT_BEFORE_CREATE.saturating_add(1);
-    sweep.open_both(rt, files, count)?;
-    assert_eq!(rt; sweep.lost.as_slice(), [count, count].as_slice());
-    Ok(())
-}
-
-/// It was made, and is there after a stop.
+/// It was made, and is there after a stop: nothing was in progress then.
 #[test]
-fn response_that_is_not_taken(rt: HostRuntime) -> Result<(), Fail> {
-    let mut files = files_of_untaken(&rt, rt.alloc())?;
-    assert_created(&rt, rt.alloc(), &mut files)
+fn response_that_is_not_taken(rt: HostRuntime) {
+    let mut desk = sound_desk::<Fuse<Memory>>(&rt, rt.alloc(), small_options());
+    create_untaken(&rt, rt.alloc(), &mut desk);
+    let mut sweep = Sweep::new(rt.alloc(), small_options(), Course::HttpCreate);
+    sweep.open_both(&rt, &mut stop(desk), COUNT_WITH_CREATE);
+    let found = [COUNT_WITH_CREATE, COUNT_WITH_CREATE];
+    assert_eq!(rt; sweep.lost.as_slice(), found.as_slice());
 }

@@ -1,5 +1,7 @@
 //! The VRPs of the day that a desk keeps, where the disk fails at a command.
-use crate::example_requests::{COUNT_BEFORE_CREATE, UNAVAILABLE, ask, ask_first};
+use crate::example_requests::{
+    COUNT_WITH_CREATE, UNAVAILABLE, ask_first, assert_reply, replies_with,
+};
 use crate::refusing::Refusing;
 use crate::sweep::{FailingFile, MANY, begin, small_options};
 use addr::Day;
@@ -10,7 +12,6 @@ use sqlite_disk::{Fuse, Memory};
 use sqlite_pager::Options;
 use std::alloc::Global;
 use std::process::Abort;
-use std::test::Fail;
 
 const PAYLOADS: &str = r#"bob {"do":"payloads"}"#;
 
@@ -48,80 +49,55 @@ enum End {
     Done,
 }
 
-/// The desk answers the request with this.
-fn assert_reply<S: Alter>(
-    rt: &impl Abort,
-    alloc: Global,
-    desk: &mut Desk<S>,
-    request: &str,
-    expected: &str,
-) -> Result<(), Fail> {
-    assert_eq!(rt; ask(alloc, desk, request)?.as_str(), expected);
-    Ok(())
+/// The desk answers the request for the VRPs with these.
+fn assert_payloads<S: Alter>(rt: &impl Abort, alloc: Global, desk: &mut Desk<S>, expected: &str) {
+    assert_reply(rt, alloc, desk, PAYLOADS, expected, COUNT_WITH_CREATE);
 }
 
-/// Whether the desk carries out the command; else it is unavailable.
-fn amends<S: Alter>(rt: &impl Abort, alloc: Global, desk: &mut Desk<S>) -> Result<bool, Fail> {
-    let reply = ask(alloc, desk, AMEND)?;
-    if reply.as_str() == DONE {
-        return Ok(true);
-    }
-    assert_eq!(rt; reply.as_str(), UNAVAILABLE);
-    Ok(false)
+/// Whether the desk is unavailable at the command; else it carries it out.
+fn refuses_command<S: Alter>(rt: &impl Abort, alloc: Global, desk: &mut Desk<S>) -> bool {
+    replies_with(rt, alloc, desk, AMEND, UNAVAILABLE, DONE, COUNT_WITH_CREATE)
 }
 
 /// The desk of a disk that failed answers the day that it keeps. Another day it reads from its
 /// cache, or it keeps none.
-fn end_of_failed<S: Alter>(
-    rt: &impl Abort,
-    alloc: Global,
-    desk: &mut Desk<S>,
-) -> Result<End, Fail> {
+fn end_of_failed<S: Alter>(rt: &impl Abort, alloc: Global, desk: &mut Desk<S>) -> End {
     let kept = Day::read(b"2026-03-01");
-    let other = Day::read(b"2026-12-31").ok_or("no day")?;
-    assert_reply(rt, alloc, desk, PAYLOADS, BEFORE)?;
+    let other = Day::read(b"2026-12-31").expect(rt, "a day");
+    assert_payloads(rt, alloc, desk, BEFORE);
     assert!(rt; desk.kept() == kept);
     if desk.payloads(other).is_some() {
         assert!(rt; desk.kept() == Some(other));
-        return Ok(End::Cached);
+        return End::Cached;
     }
     assert!(rt; desk.kept().is_none());
-    assert_reply(rt, alloc, desk, PAYLOADS, UNAVAILABLE)?;
-    Ok(End::Shut)
+    assert_payloads(rt, alloc, desk, UNAVAILABLE);
+    End::Shut
 }
 
 /// Sends the command to a desk that keeps a day, twice where it is unavailable at first.
-fn end_of_command<S: Alter>(
-    rt: &impl Abort,
-    alloc: Global,
-    desk: &mut Desk<S>,
-) -> Result<End, Fail> {
-    if amends(rt, alloc, desk)? {
-        assert_reply(rt, alloc, desk, PAYLOADS, AFTER)?;
-        return Ok(End::Done);
+fn end_of_command<S: Alter>(rt: &impl Abort, alloc: Global, desk: &mut Desk<S>) -> End {
+    if !refuses_command(rt, alloc, desk) {
+        assert_payloads(rt, alloc, desk, AFTER);
+        return End::Done;
     }
-    assert_reply(rt, alloc, desk, PAYLOADS, BEFORE)?;
-    if amends(rt, alloc, desk)? {
-        assert_reply(rt, alloc, desk, PAYLOADS, AFTER)?;
-        return Ok(End::Delayed);
+    assert_payloads(rt, alloc, desk, BEFORE);
+    if !refuses_command(rt, alloc, desk) {
+        assert_payloads(rt, alloc, desk, AFTER);
+        return End::Delayed;
     }
     end_of_failed(rt, alloc, desk)
 }
 
 /// Makes the desk keep a day, and sends the command to it.
-fn end_on_kept_day<S: Alter>(
-    rt: &impl Abort,
-    alloc: Global,
-    desk: &mut Desk<S>,
-) -> Result<End, Fail> {
-    let count = COUNT_BEFORE_CREATE.saturating_add(1);
-    if ask_first(rt, alloc, desk, count)?.count < count {
-        return Ok(End::Early);
+fn end_on_kept_day<S: Alter>(rt: &impl Abort, alloc: Global, desk: &mut Desk<S>) -> End {
+    let count = COUNT_WITH_CREATE;
+    if ask_first(rt, alloc, desk, count).count < count
+        || replies_with(rt, alloc, desk, PAYLOADS, UNAVAILABLE, BEFORE, count)
+    {
+        return End::Early;
     }
-    if ask(alloc, desk, PAYLOADS)?.as_str() == UNAVAILABLE {
-        return Ok(End::Early);
-    }
-    assert_reply(rt, alloc, desk, PAYLOADS, BEFORE)?;
+    assert_payloads(rt, alloc, desk, BEFORE);
     end_of_command(rt, alloc, desk)
 }
 
@@ -134,18 +110,13 @@ fn end_with_log<D: FailingFile>(end: End, log: &mut D) -> End {
 }
 
 /// Keeps a day, and sends the command to a desk whose log fails after so many calls.
-fn run<D: FailingFile + Drop>(
-    rt: &impl Abort,
-    alloc: Global,
-    options: Options,
-    calls: u64,
-) -> Result<End, Fail> {
-    let Some(mut desk) = begin::<D>(alloc, true, calls, options)? else {
-        return Ok(End::Early);
+fn run<D: FailingFile + Drop>(rt: &impl Abort, alloc: Global, options: Options, calls: u64) -> End {
+    let Some(mut desk) = begin::<D>(rt, alloc, true, calls, options) else {
+        return End::Early;
     };
-    let end = end_on_kept_day(rt, alloc, &mut desk)?;
+    let end = end_on_kept_day(rt, alloc, &mut desk);
     let mut files = stop(desk);
-    Ok(end_with_log(end, &mut files.log))
+    end_with_log(end, &mut files.log)
 }
 
 /// The log fails at each call of the command in turn, with this end in some run.
@@ -154,30 +125,30 @@ fn assert_kept_day_is_answered<D: FailingFile + Drop>(
     alloc: Global,
     options: Options,
     expected: End,
-) -> Result<(), Fail> {
+) {
     let mut is_met = false;
     for calls in 0..MANY {
-        let end = run::<D>(rt, alloc, options, calls)?;
+        let end = run::<D>(rt, alloc, options, calls);
         if end == End::Done {
             assert!(rt; is_met);
-            return Ok(());
+            return;
         }
         is_met = is_met || end == expected;
     }
-    Err("a run that does not end".into())
+    rt.panic("a run that does not end")
 }
 
 #[test]
-fn kept_day_is_answered_after_a_stop(rt: HostRuntime) -> Result<(), Fail> {
-    assert_kept_day_is_answered::<Fuse<Memory>>(&rt, rt.alloc(), wide_options(), End::Cached)
+fn kept_day_is_answered_after_a_stop(rt: HostRuntime) {
+    assert_kept_day_is_answered::<Fuse<Memory>>(&rt, rt.alloc(), wide_options(), End::Cached);
 }
 
 #[test]
-fn kept_day_is_answered_after_a_refused_call(rt: HostRuntime) -> Result<(), Fail> {
-    assert_kept_day_is_answered::<Refusing<Memory>>(&rt, rt.alloc(), small_options(), End::Delayed)
+fn kept_day_is_answered_after_a_refused_call(rt: HostRuntime) {
+    assert_kept_day_is_answered::<Refusing<Memory>>(&rt, rt.alloc(), small_options(), End::Delayed);
 }
 
 #[test]
-fn kept_day_is_answered_after_a_refused_sync(rt: HostRuntime) -> Result<(), Fail> {
-    assert_kept_day_is_answered::<Refusing<Memory>>(&rt, rt.alloc(), small_options(), End::Shut)
+fn kept_day_is_answered_after_a_refused_sync(rt: HostRuntime) {
+    assert_kept_day_is_answered::<Refusing<Memory>>(&rt, rt.alloc(), small_options(), End::Shut);
 }

@@ -6,25 +6,23 @@ use sqlite_disk::Memory;
 use std::alloc::Global;
 use std::ops::Range;
 use std::process::Abort;
-use std::test::Fail;
 
 /// Each of these requests was refused and answered when it was sent again in some run, and in
 /// another the desk was unavailable from there on.
-fn refuse_calls_of(rt: &impl Abort, alloc: Global, requests: Range<usize>) -> Result<(), Fail> {
+fn refuse_calls_of(rt: &impl Abort, alloc: Global, requests: Range<usize>) {
     let mut sweep = Sweep::new(alloc, small_options(), Course::Lines);
-    sweep.fail_at::<Refusing<Memory>>(rt, &requests)?;
+    sweep.fail_at::<Refusing<Memory>>(rt, &requests);
     for request in requests {
         assert!(rt; sweep.delayed.contains(&request), "{request} delayed");
     }
-    Ok(())
 }
 
 #[test]
-fn refused_call_of_the_first_four_while_the_log_grows(rt: HostRuntime) -> Result<(), Fail> {
-    refuse_calls_of(&rt, rt.alloc(), 0..4)
+fn refused_call_of_the_first_four_while_the_log_grows(rt: HostRuntime) {
+    refuse_calls_of(&rt, rt.alloc(), 0..4);
 }
 
 #[test]
-fn refused_call_of_the_last_four_while_the_log_grows(rt: HostRuntime) -> Result<(), Fail> {
-    refuse_calls_of(&rt, rt.alloc(), 4..REQUEST_COUNT)
+fn refused_call_of_the_last_four_while_the_log_grows(rt: HostRuntime) {
+    refuse_calls_of(&rt, rt.alloc(), 4..REQUEST_COUNT);
 }

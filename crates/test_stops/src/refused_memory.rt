@@ -7,7 +7,6 @@ use sqlite::MemStore;
 use std::alloc::Global;
 use std::io::{Error, ErrorKind, Result as IoResult, Write};
 use std::process::Abort;
-use std::test::Fail;
 use web::{Device, ScriptFault, run_script, serve_one};
 
 /// How many bytes a page has room for.
@@ -112,20 +111,28 @@ const DONE_RESPONSE: &str =
 const UNAVAILABLE_RESPONSE: &str =
     "HTTP/1.1 503 Service Unavailable\r\nContent-Type: application/json\r\nContent-Length: 21\r\nConnection: close\r\n\r\n{\"unavailable\":true}\n";
 
-fn try_new_desk(alloc: Global) -> Option<Desk<MemStore>> {
+/// A charter of these; none if there is no memory for it.
+fn try_charter(alloc: Global, operator: Name, prefix: Prefix) -> Option<Charter> {
     let mut operators = Vec::new(alloc);
-    operators.push(Name::read(b"reg")?).ok()?;
     let mut pool = Vec::new(alloc);
-    pool.push(Prefix::read(b"192.0.2.0/24").ok()?).ok()?;
-    let charter = Charter::make(operators, pool).ok()?;
+    operators.push(operator).ok()?;
+    pool.push(prefix).ok()?;
+    Charter::make(operators, pool).ok()
+}
+
+/// A new desk; none if there is no memory for it.
+fn try_new_desk(rt: &impl Abort, alloc: Global) -> Option<Desk<MemStore>> {
+    let operator = Name::read(b"reg").expect(rt, "a name");
+    let prefix = Prefix::read(b"192.0.2.0/24").expect(rt, "a prefix");
+    let charter = try_charter(alloc, operator, prefix)?;
     Desk::open_memory(alloc, &charter).ok()
 }
 
-fn new_desk(alloc: Global) -> Result<Desk<MemStore>, Fail> {
-    if let Some(desk) = try_new_desk(alloc) {
-        return Ok(desk);
+fn new_desk(rt: &impl Abort, alloc: Global) -> Desk<MemStore> {
+    if let Some(desk) = try_new_desk(rt, alloc) {
+        return desk;
     }
-    Ok(try_new_desk(alloc).ok_or("no desk")?)
+    try_new_desk(rt, alloc).expect(rt, "a desk")
 }
 
 /// How a script ended, what it wrote, and how many of its bytes were left unread.
@@ -177,28 +184,23 @@ fn assert_reply(
 }
 
 /// The desk runs the lines, or takes none of them.
-fn assert_allowed_run(
-    rt: &impl Abort,
-    alloc: Global,
-    desk: &mut Desk<MemStore>,
-) -> Result<(), Fail> {
+fn assert_allowed_run(rt: &impl Abort, alloc: Global, desk: &mut Desk<MemStore>) {
     let (result, page, unread) = replies_to(alloc, desk, LINES);
-    if result.is_err() {
+    let list = if result.is_ok() {
+        list_after(page.text()).expect(rt, "replies that are allowed")
+    } else {
         assert_eq!(rt; result, Err(ScriptFault::Memory));
         assert_eq!(rt; unread, LINES.len());
         assert!(rt; page.text().is_empty());
-        assert_reply(rt, alloc, desk, LIST, NO_GRANT);
-        return Ok(());
-    }
-    let expected = list_after(page.text()).ok_or("replies that are not allowed")?;
-    assert_reply(rt, alloc, desk, LIST, expected);
-    Ok(())
+        NO_GRANT
+    };
+    assert_reply(rt, alloc, desk, LIST, list);
 }
 
 #[test]
-fn refused_memory_leaves_an_allowed_run(rt: HostRuntime) -> Result<(), Fail> {
-    let mut desk = new_desk(rt.alloc())?;
-    assert_allowed_run(&rt, rt.alloc(), &mut desk)
+fn refused_memory_leaves_an_allowed_run(rt: HostRuntime) {
+    let mut desk = new_desk(&rt, rt.alloc());
+    assert_allowed_run(&rt, rt.alloc(), &mut desk);
 }
 
 /// The response to the create.
@@ -228,9 +230,8 @@ fn assert_allowed_create(rt: &impl Abort, alloc: Global, desk: &mut Desk<MemStor
 }
 
 #[test]
-fn refused_memory_over_http(rt: HostRuntime) -> Result<(), Fail> {
-    let day = Day::read(b"2026-03-01").ok_or("a day")?;
-    let mut desk = new_desk(rt.alloc())?;
+fn refused_memory_over_http(rt: HostRuntime) {
+    let day = Day::read(b"2026-03-01").expect(&rt, "a day");
+    let mut desk = new_desk(&rt, rt.alloc());
     assert_allowed_create(&rt, rt.alloc(), &mut desk, day);
-    Ok(())
 }

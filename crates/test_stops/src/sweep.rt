@@ -1,7 +1,7 @@
 //! Runs of desks over files of which one fails, and what is found when the files are opened again.
 //! A sweep goes over the calls of some requests, and several tests together go over all calls.
 use crate::example_requests::{
-    Answers, COUNT_BEFORE_CREATE, REQUEST_COUNT, ask_first, assert_answered, count_found,
+    Answers, COUNT_WITH_CREATE, REQUEST_COUNT, ask_first, assert_answered, count_found,
     example_charter,
 };
 use crate::http_creates::ask_until_create;
@@ -12,10 +12,9 @@ use policy::Charter;
 use sqlite::{Alter, Connection, FileStore};
 use sqlite_disk::{Crash, Disk, Files, Fuse, Memory};
 use sqlite_pager::Options;
-use std::alloc::{AllocError, Global};
+use std::alloc::Global;
 use std::ops::Range;
 use std::process::Abort;
-use std::test::Fail;
 
 /// More calls than a run makes of one file.
 pub(crate) const MANY: u64 = 1_000;
@@ -105,26 +104,26 @@ pub(crate) fn empty_files(alloc: Global) -> Files<Memory> {
 }
 
 /// A file of these bytes, all of them synced.
-fn file_of(alloc: Global, bytes: &[u8]) -> Result<Memory, Fail> {
+fn file_of(rt: &impl Abort, alloc: Global, bytes: &[u8]) -> Memory {
     let mut file = Memory::new(alloc);
-    file.write_at(0, bytes)?;
-    file.sync()?;
-    Ok(file)
+    file.write_at(0, bytes).expect(rt, "written bytes");
+    file.sync().expect(rt, "a synced file");
+    file
 }
 
 /// Files of these bytes, all of them synced.
-pub(crate) fn files_of(alloc: Global, log: &[u8], db: &[u8]) -> Result<Files<Memory>, Fail> {
-    Ok(Files {
-        log: file_of(alloc, log)?,
-        db: file_of(alloc, db)?,
-    })
+pub(crate) fn files_of(rt: &impl Abort, alloc: Global, log: &[u8], db: &[u8]) -> Files<Memory> {
+    Files {
+        log: file_of(rt, alloc, log),
+        db: file_of(rt, alloc, db),
+    }
 }
 
 /// What a disk writes at once or not at all.
 const SECTOR: usize = 512;
 
 /// The file after a power cut that kept every other sector of what was not synced.
-fn every_other_sector(alloc: Global, written: &[u8], synced: &[u8]) -> Result<Vec<u8>, AllocError> {
+fn every_other_sector(rt: &impl Abort, alloc: Global, written: &[u8], synced: &[u8]) -> Vec<u8> {
     let mut mixed = Vec::new(alloc);
     for at in 0..written.len().max(synced.len()) {
         let old = synced.get(at);
@@ -133,9 +132,9 @@ fn every_other_sector(alloc: Global, written: &[u8], synced: &[u8]) -> Result<Ve
         } else {
             old
         };
-        mixed.push(kept.copied().unwrap_or(0))?;
+        mixed.push(kept.copied().unwrap_or(0)).expect(rt, "memory");
     }
-    Ok(mixed)
+    mixed
 }
 
 /// A desk of this charter; `None` if the disk failed before there was one.
@@ -155,25 +154,24 @@ fn begin_with<D: Disk + Drop>(
 /// A new desk over files of which one fails after so many calls; `None` if it failed before there
 /// was one.
 pub(crate) fn begin<D: FailingFile + Drop>(
+    rt: &impl Abort,
     alloc: Global,
     is_log: bool,
     calls: u64,
     options: Options,
-) -> Result<Option<Desk<FileStore<D>>>, Fail> {
-    let charter = example_charter(alloc)?;
+) -> Option<Desk<FileStore<D>>> {
+    let charter = example_charter(rt, alloc);
     let files = failing_files(empty_files(alloc), is_log, calls);
-    Ok(begin_with(alloc, files, options, &charter))
+    begin_with(alloc, files, options, &charter)
 }
 
 /// A new desk over files that do not fail before the end of a test.
 pub(crate) fn sound_desk<D: FailingFile + Drop>(
+    rt: &impl Abort,
     alloc: Global,
     options: Options,
-) -> Result<Desk<FileStore<D>>, Fail> {
-    match begin(alloc, true, u64::MAX, options)? {
-        Some(desk) => Ok(desk),
-        None => Err("no desk".into()),
-    }
+) -> Desk<FileStore<D>> {
+    begin(rt, alloc, true, u64::MAX, options).expect(rt, "a desk")
 }
 
 /// What making a desk leaves.
@@ -203,50 +201,34 @@ fn make_with<D: Disk + Drop>(
 
 /// Makes a desk in these files, and returns what that leaves.
 pub(crate) fn make_in<D: Disk + Drop>(
+    rt: &impl Abort,
     alloc: Global,
     files: Files<D>,
     options: Options,
-) -> Result<Files<D>, Fail> {
-    let charter = example_charter(alloc)?;
-    Ok(make_with(alloc, files, options, &charter))
-}
-
-/// The desk of these files.
-fn open_again(
-    alloc: Global,
-    files: Files<Memory>,
-    options: Options,
-) -> Result<Desk<FileStore<Memory>>, Fail> {
-    if !files.may_be_used() {
-        return Err("files that are refused".into());
-    }
-    match open_files(alloc, files, options) {
-        Ok(desk) => Ok(desk),
-        Err(_) => Err("a desk that is refused".into()),
-    }
+) -> Files<D> {
+    let charter = example_charter(rt, alloc);
+    make_with(alloc, files, options, &charter)
 }
 
 /// How many of the requests the desk of these files has.
-fn count_in(
-    rt: &impl Abort,
-    alloc: Global,
-    files: Files<Memory>,
-    options: Options,
-) -> Result<usize, Fail> {
-    let mut desk = open_again(alloc, files, options)?;
-    count_found(rt, alloc, &mut desk)
+fn count_in(rt: &impl Abort, alloc: Global, files: Files<Memory>, options: Options) -> usize {
+    assert!(rt; files.may_be_used(), "files that are refused");
+    match open_files(alloc, files, options) {
+        Ok(mut desk) => count_found(rt, alloc, &mut desk),
+        Err(_) => rt.panic("a desk that is refused"),
+    }
 }
 
 /// A desk that answered the first of the requests, so many.
-pub(crate) fn desk_after(
+pub(crate) fn desk_after<D: FailingFile + Drop>(
     rt: &impl Abort,
     alloc: Global,
     options: Options,
     count: usize,
-) -> Result<Desk<FileStore<Refusing<Memory>>>, Fail> {
-    let mut desk = sound_desk(alloc, options)?;
-    assert_answered(rt, alloc, &mut desk, count)?;
-    Ok(desk)
+) -> Desk<FileStore<D>> {
+    let mut desk = sound_desk(rt, alloc, options);
+    assert_answered(rt, alloc, &mut desk, count);
+    desk
 }
 
 /// How many calls of a file come before the first one of this request; none before that of the
@@ -257,23 +239,23 @@ fn calls_before(
     options: Options,
     is_log: bool,
     request: usize,
-) -> Result<u64, Fail> {
+) -> u64 {
     if request == 0 {
-        return Ok(0);
+        return 0;
     }
-    let files = stop(desk_after(rt, alloc, options, request)?);
+    let files = stop(desk_after::<Refusing<Memory>>(rt, alloc, options, request));
     let left = if is_log {
         files.log.calls_left()
     } else {
         files.db.calls_left()
     };
-    Ok(u64::MAX.saturating_sub(left.ok_or("a refused call")?))
+    u64::MAX.saturating_sub(left.expect(rt, "a refused call"))
 }
 
-fn copy_of(alloc: Global, bytes: &[u8]) -> Result<Vec<u8>, AllocError> {
+fn copy_of(rt: &impl Abort, alloc: Global, bytes: &[u8]) -> Vec<u8> {
     let mut copy = Vec::new(alloc);
-    copy.extend_from_slice(bytes)?;
-    Ok(copy)
+    copy.extend_from_slice(bytes).expect(rt, "memory");
+    copy
 }
 
 /// Files that were opened, and how many of the requests their desk had.
@@ -285,12 +267,12 @@ struct Opened {
 }
 
 impl Opened {
-    fn new(alloc: Global, log: &[u8], db: &[u8], found: usize) -> Result<Opened, AllocError> {
-        Ok(Opened {
-            log: copy_of(alloc, log)?,
-            db: copy_of(alloc, db)?,
+    fn new(rt: &impl Abort, alloc: Global, log: &[u8], db: &[u8], found: usize) -> Opened {
+        Opened {
+            log: copy_of(rt, alloc, log),
+            db: copy_of(rt, alloc, db),
             found,
-        })
+        }
     }
 
     fn has(&self, log: &[u8], db: &[u8]) -> bool {
@@ -314,17 +296,12 @@ impl Course {
     pub(crate) fn count(self) -> usize {
         match self {
             Course::Lines => REQUEST_COUNT,
-            Course::HttpCreate => COUNT_BEFORE_CREATE.saturating_add(1),
+            Course::HttpCreate => COUNT_WITH_CREATE,
             Course::Making => 0,
         }
     }
 
-    fn ask<S: Alter>(
-        self,
-        rt: &impl Abort,
-        alloc: Global,
-        desk: &mut Desk<S>,
-    ) -> Result<Answers, Fail> {
+    fn ask<S: Alter>(self, rt: &impl Abort, alloc: Global, desk: &mut Desk<S>) -> Answers {
         match self {
             Course::Lines => ask_first(rt, alloc, desk, REQUEST_COUNT),
             Course::HttpCreate => ask_until_create(rt, alloc, desk),
@@ -366,43 +343,37 @@ impl Sweep {
     }
 
     /// Files of these bytes. Those that making a desk left have one afterwards.
-    fn files_to_open(&self, log: &[u8], db: &[u8]) -> Result<Files<Memory>, Fail> {
-        let files = files_of(self.alloc, log, db)?;
+    fn files_to_open(&self, rt: &impl Abort, log: &[u8], db: &[u8]) -> Files<Memory> {
+        let files = files_of(rt, self.alloc, log, db);
         match self.course {
-            Course::Making => make_in(self.alloc, files, self.options),
-            Course::Lines | Course::HttpCreate => Ok(files),
+            Course::Making => make_in(rt, self.alloc, files, self.options),
+            Course::Lines | Course::HttpCreate => files,
         }
     }
 
     /// How many of the requests the desk of these files has.
-    fn found_in(&mut self, rt: &impl Abort, log: &[u8], db: &[u8]) -> Result<usize, Fail> {
+    fn found_in(&mut self, rt: &impl Abort, log: &[u8], db: &[u8]) -> usize {
         for opened in &self.opened {
             if opened.has(log, db) {
-                return Ok(opened.found);
+                return opened.found;
             }
         }
-        let files = self.files_to_open(log, db)?;
-        let found = count_in(rt, self.alloc, files, self.options)?;
-        self.opened.push(Opened::new(self.alloc, log, db, found)?)?;
-        Ok(found)
+        let files = self.files_to_open(rt, log, db);
+        let found = count_in(rt, self.alloc, files, self.options);
+        let opened = Opened::new(rt, self.alloc, log, db, found);
+        self.opened.push(opened).expect(rt, "memory");
+        found
     }
 
     /// The files have the requests that were answered, and perhaps the one that was in progress.
-    fn assert_found(
-        &mut self,
-        rt: &impl Abort,
-        log: &[u8],
-        db: &[u8],
-        answered: usize,
-    ) -> Result<(), Fail> {
-        let found = self.found_in(rt, log, db)?;
+    fn assert_found(&mut self, rt: &impl Abort, log: &[u8], db: &[u8], answered: usize) {
+        let found = self.found_in(rt, log, db);
         if found == answered {
-            self.lost.push(answered)?;
+            self.lost.push(answered).expect(rt, "memory");
         } else {
             assert_eq!(rt; found, answered.saturating_add(1));
-            self.kept.push(answered)?;
+            self.kept.push(answered).expect(rt, "memory");
         }
-        Ok(())
     }
 
     /// Opens the files as a killed process leaves them, and as a power cut does.
@@ -411,48 +382,36 @@ impl Sweep {
         rt: &impl Abort,
         files: &mut Files<D>,
         answered: usize,
-    ) -> Result<(), Fail> {
-        self.assert_found(rt, files.log.bytes(), files.db.bytes(), answered)?;
+    ) {
+        self.assert_found(rt, files.log.bytes(), files.db.bytes(), answered);
         files.log.crash();
         files.db.crash();
-        self.assert_found(rt, files.log.bytes(), files.db.bytes(), answered)
+        self.assert_found(rt, files.log.bytes(), files.db.bytes(), answered);
     }
 
-    /// Opens the files as a power cut leaves them that kept every other sector of what was not
-    /// synced, of these bytes.
-    fn open_mixed<D: FailingFile>(
-        &mut self,
-        rt: &impl Abort,
-        log: &[u8],
-        db: &[u8],
-        synced: &Files<D>,
-        answered: usize,
-    ) -> Result<(), Fail> {
-        let log = every_other_sector(self.alloc, log, synced.log.bytes())?;
-        let db = every_other_sector(self.alloc, db, synced.db.bytes())?;
-        self.assert_found(rt, &log, &db, answered)
-    }
-
-    /// Opens the files as a killed process leaves them, and as power cuts do.
+    /// Opens the files as a killed process leaves them, as a power cut does, and as one does that
+    /// kept every other sector of what was not synced.
     fn open_all<D: FailingFile + Drop>(
         &mut self,
         rt: &impl Abort,
         files: &mut Files<D>,
         answered: usize,
-    ) -> Result<(), Fail> {
-        let log = copy_of(self.alloc, files.log.bytes())?;
-        let db = copy_of(self.alloc, files.db.bytes())?;
-        self.open_both(rt, files, answered)?;
-        self.open_mixed(rt, &log, &db, files, answered)
+    ) {
+        let log = copy_of(rt, self.alloc, files.log.bytes());
+        let db = copy_of(rt, self.alloc, files.db.bytes());
+        self.open_both(rt, files, answered);
+        let log = every_other_sector(rt, self.alloc, &log, files.log.bytes());
+        let db = every_other_sector(rt, self.alloc, &db, files.db.bytes());
+        self.assert_found(rt, &log, &db, answered);
     }
 
     /// Sends requests to a desk until it is unavailable; returns how many were answered.
-    fn ask<S: Alter>(&mut self, rt: &impl Abort, desk: &mut Desk<S>) -> Result<usize, Fail> {
-        let answers = self.course.ask(rt, self.alloc, desk)?;
+    fn ask<S: Alter>(&mut self, rt: &impl Abort, desk: &mut Desk<S>) -> usize {
+        let answers = self.course.ask(rt, self.alloc, desk);
         if let Some(request) = answers.delayed {
-            self.delayed.push(request)?;
+            self.delayed.push(request).expect(rt, "memory");
         }
-        Ok(answers.count)
+        answers.count
     }
 
     /// Opens the files of a run; returns whether one of them failed.
@@ -461,26 +420,21 @@ impl Sweep {
         rt: &impl Abort,
         files: &mut Files<D>,
         answered: usize,
-    ) -> Result<bool, Fail> {
+    ) -> bool {
         let has_failed = files.log.has_failed() || files.db.has_failed();
         assert!(rt; has_failed || answered == self.course.count());
-        self.open_all(rt, files, answered)?;
-        Ok(has_failed)
+        self.open_all(rt, files, answered);
+        has_failed
     }
 
     /// Sends requests to a new desk until it is unavailable, and stops it; returns whether a file
     /// failed.
-    fn run<D: FailingFile + Drop>(
-        &mut self,
-        rt: &impl Abort,
-        is_log: bool,
-        calls: u64,
-    ) -> Result<bool, Fail> {
-        let Some(mut desk) = begin::<D>(self.alloc, is_log, calls, self.options)? else {
+    fn run<D: FailingFile + Drop>(&mut self, rt: &impl Abort, is_log: bool, calls: u64) -> bool {
+        let Some(mut desk) = begin::<D>(rt, self.alloc, is_log, calls, self.options) else {
             self.without_desk = self.without_desk.saturating_add(1);
-            return Ok(true);
+            return true;
         };
-        let answered = self.ask(rt, &mut desk)?;
+        let answered = self.ask(rt, &mut desk);
         self.open_after_run(rt, &mut stop(desk), answered)
     }
 
@@ -491,22 +445,21 @@ impl Sweep {
         rt: &impl Abort,
         is_log: bool,
         requests: &Range<usize>,
-    ) -> Result<(), Fail> {
+    ) {
         let is_last = requests.end == self.course.count();
-        let start = calls_before(rt, self.alloc, self.options, is_log, requests.start)?;
+        let start = calls_before(rt, self.alloc, self.options, is_log, requests.start);
         let end = if is_last {
             MANY
         } else {
-            calls_before(rt, self.alloc, self.options, is_log, requests.end)?
+            calls_before(rt, self.alloc, self.options, is_log, requests.end)
         };
         for calls in start..end {
-            if !self.run::<D>(rt, is_log, calls)? {
+            if !self.run::<D>(rt, is_log, calls) {
                 assert!(rt; is_last, "no call {calls}");
-                return Ok(());
+                return;
             }
         }
         assert!(rt; !is_last, "a run that does not end");
-        Ok(())
     }
 
     /// Either file fails at each of its calls of these requests. Each of them was in progress at a
@@ -515,14 +468,13 @@ impl Sweep {
         &mut self,
         rt: &impl Abort,
         requests: &Range<usize>,
-    ) -> Result<(), Fail> {
-        self.fail_each_call::<D>(rt, true, requests)?;
-        self.fail_each_call::<D>(rt, false, requests)?;
+    ) {
+        self.fail_each_call::<D>(rt, true, requests);
+        self.fail_each_call::<D>(rt, false, requests);
         assert!(rt; requests.start > 0 || self.without_desk > 0);
         for request in requests.start..requests.end {
             assert!(rt; self.kept.contains(&request), "{request} kept");
             assert!(rt; self.lost.contains(&request), "{request} lost");
         }
-        Ok(())
     }
 }
