@@ -1,13 +1,12 @@
 //! How a script is read and its replies are written: pieces, ends, failures and the limit of a line.
-use crate::desks::example_desk;
 use crate::fakes::{Drip, Peer, Tape};
+use crate::ready::{assert_same, new_desk};
 use desk::Desk;
 use sqlite::MemStore;
 use std::alloc::Global;
 use std::cell::Cell;
 use std::io::{BufWriter, Error, ErrorKind, Read, Write};
 use std::process::Abort;
-use std::test::Fail;
 use test_library::sheet::Sheet;
 use web::{Device, Drain, ScriptFault, Source, run_script, write_all};
 
@@ -56,18 +55,6 @@ fn run(alloc: Global, desk: &mut Desk<MemStore>, script: &Script) -> ScriptOutco
     }
 }
 
-/// The answer to a script, and the replies.
-fn assert_outcome(
-    rt: &impl Abort,
-    outcome: &ScriptOutcome,
-    expected: Result<(), ScriptFault>,
-    replies: &[u8],
-    about: &str,
-) {
-    assert_eq!(rt; outcome.result, expected, "{about:?}");
-    assert_eq!(rt; outcome.written.as_slice(), replies, "{about:?}");
-}
-
 /// The answer of a desk to a script, and the replies.
 fn assert_answer(
     rt: &impl Abort,
@@ -79,7 +66,8 @@ fn assert_answer(
     about: &str,
 ) {
     let outcome = run(alloc, desk, script);
-    assert_outcome(rt, &outcome, expected, replies, about);
+    assert_same(rt, outcome.result, expected, about);
+    assert_same(rt, outcome.written.as_slice(), replies, about);
 }
 
 /// The answer of a new desk to a script, and the replies.
@@ -90,18 +78,10 @@ fn assert_new_answer(
     expected: Result<(), ScriptFault>,
     replies: &str,
     about: &str,
-) -> Result<(), Fail> {
-    let mut desk = example_desk(alloc)?;
-    assert_answer(
-        rt,
-        alloc,
-        &mut desk,
-        script,
-        expected,
-        replies.as_bytes(),
-        about,
-    );
-    Ok(())
+) {
+    let mut desk = new_desk(rt, alloc);
+    let replies = replies.as_bytes();
+    assert_answer(rt, alloc, &mut desk, script, expected, replies, about);
 }
 
 /// The answer to an input and the replies, in whatever pieces it comes.
@@ -112,7 +92,7 @@ fn assert_answers(
     fails: bool,
     expected: Result<(), ScriptFault>,
     replies: &str,
-) -> Result<(), Fail> {
+) {
     for piece in [1, 2, 10_000] {
         let script = Script {
             bytes: input.as_bytes(),
@@ -120,47 +100,38 @@ fn assert_answers(
             fails,
             room: usize::MAX,
         };
-        assert_new_answer(rt, alloc, &script, expected, replies, input)?;
+        assert_new_answer(rt, alloc, &script, expected, replies, input);
     }
-    Ok(())
 }
 
-fn assert_ends(rt: &impl Abort, alloc: Global, input: &str, replies: &str) -> Result<(), Fail> {
-    assert_answers(rt, alloc, input, false, Ok(()), replies)
+fn assert_ends(rt: &impl Abort, alloc: Global, input: &str, replies: &str) {
+    assert_answers(rt, alloc, input, false, Ok(()), replies);
 }
 
 /// A line that is empty or a word is malformed 1, and a list malformed 2.
 #[test]
-fn answers_each_line(rt: HostRuntime) -> Result<(), Fail> {
+fn answers_each_line(rt: HostRuntime) {
     let alloc = rt.alloc();
-    assert_ends(&rt, alloc, "", "")?;
-    assert_ends(&rt, alloc, "\n", "{\"malformed\":1}\n")?;
+    assert_ends(&rt, alloc, "", "");
+    assert_ends(&rt, alloc, "\n", "{\"malformed\":1}\n");
     let three = "{\"malformed\":1}\n{\"malformed\":2}\n{\"malformed\":1}\n";
-    assert_ends(&rt, alloc, "ab\r\n[]\n c", three)?;
-    assert_ends(
-        &rt,
-        alloc,
-        "[]\nc\n",
-        "{\"malformed\":2}\n{\"malformed\":1}\n",
-    )
+    assert_ends(&rt, alloc, "ab\r\n[]\n c", three);
+    let two = "{\"malformed\":2}\n{\"malformed\":1}\n";
+    assert_ends(&rt, alloc, "[]\nc\n", two);
 }
 
-fn assert_torn(rt: &impl Abort, alloc: Global, input: &str, replies: &str) -> Result<(), Fail> {
-    assert_answers(rt, alloc, input, true, Err(ScriptFault::Read), replies)
+fn assert_torn(rt: &impl Abort, alloc: Global, input: &str, replies: &str) {
+    assert_answers(rt, alloc, input, true, Err(ScriptFault::Read), replies);
 }
 
 /// The source fails after these lines.
 #[test]
-fn answers_each_whole_line_before_a_failure(rt: HostRuntime) -> Result<(), Fail> {
+fn answers_each_whole_line_before_a_failure(rt: HostRuntime) {
     let alloc = rt.alloc();
-    assert_torn(&rt, alloc, "", "")?;
-    assert_torn(&rt, alloc, "[]\ncd", "{\"malformed\":2}\n")?;
-    assert_torn(
-        &rt,
-        alloc,
-        "[]\ncd\n",
-        "{\"malformed\":2}\n{\"malformed\":1}\n",
-    )
+    assert_torn(&rt, alloc, "", "");
+    assert_torn(&rt, alloc, "[]\ncd", "{\"malformed\":2}\n");
+    let two = "{\"malformed\":2}\n{\"malformed\":1}\n";
+    assert_torn(&rt, alloc, "[]\ncd\n", two);
 }
 
 /// Three commands whose replies have 14 bytes each.
@@ -172,7 +143,7 @@ const REGISTER_THREE: &str = r#"{"day":"2026-03-01","caller":"reg","do":"registe
 const DONE_THREE: &str = "{\"done\":null}\n{\"done\":null}\n{\"done\":null}\n";
 
 /// How many of these commands are denied when they are sent again.
-fn denied_again(alloc: Global, desk: &mut Desk<MemStore>) -> Result<usize, Fail> {
+fn denied_again(rt: &impl Abort, alloc: Global, desk: &mut Desk<MemStore>) -> usize {
     let script = Script {
         bytes: REGISTER_THREE.as_bytes(),
         piece: 10_000,
@@ -180,47 +151,31 @@ fn denied_again(alloc: Global, desk: &mut Desk<MemStore>) -> Result<usize, Fail>
         room: usize::MAX,
     };
     let again = run(alloc, desk, &script);
-    let replies = str::from_utf8(again.written.as_slice())?;
-    Ok(
-        replies
-            .lines()
-            .filter(|line| *line == "{\"denied\":\"fresh\"}")
-            .count(),
-    )
+    let replies = str::from_utf8(again.written.as_slice()).expect(rt, "replies in UTF-8");
+    replies
+        .lines()
+        .filter(|line| *line == "{\"denied\":\"fresh\"}")
+        .count()
 }
 
-/// The answer to a script, of whose commands so many were acted on: they are denied when they are
-/// sent again.
+/// The answer of a new desk to a script that is cut short, of whose commands so many were acted on:
+/// they are denied when they are sent again.
 fn assert_acted_on(
     rt: &impl Abort,
     alloc: Global,
-    desk: &mut Desk<MemStore>,
     script: &Script,
     expected: Result<(), ScriptFault>,
     replies: &[u8],
     commands: usize,
-) -> Result<(), Fail> {
-    assert_answer(rt, alloc, desk, script, expected, replies, "cut short");
-    let denied = denied_again(alloc, desk)?;
-    assert_eq!(rt; denied, commands);
-    Ok(())
+) {
+    let mut desk = new_desk(rt, alloc);
+    assert_answer(rt, alloc, &mut desk, script, expected, replies, "cut short");
+    let denied = denied_again(rt, alloc, &mut desk);
+    assert_same(rt, denied, commands, "sent again");
 }
 
-/// A new desk acts on so many commands of a script that is cut short.
-fn assert_new_acted_on(
-    rt: &impl Abort,
-    alloc: Global,
-    script: &Script,
-    expected: Result<(), ScriptFault>,
-    replies: &[u8],
-    commands: usize,
-) -> Result<(), Fail> {
-    let mut desk = example_desk(alloc)?;
-    assert_acted_on(rt, alloc, &mut desk, script, expected, replies, commands)
-}
-
-fn assert_replies_cut(rt: &impl Abort, alloc: Global, room: usize) -> Result<(), Fail> {
-    let replies = DONE_THREE.as_bytes().get(..room).ok_or("more room")?;
+fn assert_replies_cut(rt: &impl Abort, alloc: Global, room: usize) {
+    let replies = DONE_THREE.as_bytes().get(..room).expect(rt, "more room");
     let script = Script {
         bytes: REGISTER_THREE.as_bytes(),
         piece: 10_000,
@@ -229,24 +184,23 @@ fn assert_replies_cut(rt: &impl Abort, alloc: Global, room: usize) -> Result<(),
     };
     let commands = (room / 14).saturating_add(1);
     let expected = Err(ScriptFault::Write);
-    assert_new_acted_on(rt, alloc, &script, expected, replies, commands)
+    assert_acted_on(rt, alloc, &script, expected, replies, commands);
 }
 
 /// The command whose reply was cut short was acted on, and none after it.
 #[test]
-fn write_that_fails_cuts_the_replies_short(rt: HostRuntime) -> Result<(), Fail> {
+fn write_that_fails_cuts_the_replies_short(rt: HostRuntime) {
     for room in 0..DONE_THREE.len() {
-        assert_replies_cut(&rt, rt.alloc(), room)?;
+        assert_replies_cut(&rt, rt.alloc(), room);
     }
-    Ok(())
 }
 
-fn assert_script_ended(rt: &impl Abort, alloc: Global, read: &[u8]) -> Result<(), Fail> {
+fn assert_script_ended(rt: &impl Abort, alloc: Global, read: &[u8]) {
     let whole = read.iter().filter(|byte| **byte == b'\n').count();
     let replies = DONE_THREE
         .as_bytes()
         .get(..whole.saturating_mul(14))
-        .ok_or("more lines")?;
+        .expect(rt, "more lines");
     let script = Script {
         bytes: read,
         piece: 10_000,
@@ -254,17 +208,16 @@ fn assert_script_ended(rt: &impl Abort, alloc: Global, read: &[u8]) -> Result<()
         room: usize::MAX,
     };
     let expected = Err(ScriptFault::Read);
-    assert_new_acted_on(rt, alloc, &script, expected, replies, whole)
+    assert_acted_on(rt, alloc, &script, expected, replies, whole);
 }
 
 /// The commands whose lines came whole were acted on and answered, and no others.
 #[test]
-fn read_that_fails_ends_the_script_after_whole_lines(rt: HostRuntime) -> Result<(), Fail> {
+fn read_that_fails_ends_the_script_after_whole_lines(rt: HostRuntime) {
     let script = REGISTER_THREE.as_bytes();
     for count in 0..=script.len() {
-        assert_script_ended(&rt, rt.alloc(), &script[..count])?;
+        assert_script_ended(&rt, rt.alloc(), &script[..count]);
     }
-    Ok(())
 }
 
 /// The answer to the longest line that is judged and what follows it, and the replies.
@@ -275,60 +228,54 @@ fn assert_long(
     fails: bool,
     expected: Result<(), ScriptFault>,
     replies: &str,
-) -> Result<(), Fail> {
-    let mut input = vec![in alloc; b'x'; 1_048_576]?;
-    input.extend_from_slice(end.as_bytes())?;
+) {
+    let mut input = vec![in alloc; b'x'; 1_048_576].expect(rt, "a line");
+    input
+        .extend_from_slice(end.as_bytes())
+        .expect(rt, "a longer line");
     let script = Script {
         bytes: input.as_slice(),
         piece: 10_000,
         fails,
         room: usize::MAX,
     };
-    assert_new_answer(rt, alloc, &script, expected, replies, end)
+    assert_new_answer(rt, alloc, &script, expected, replies, end);
 }
 
 #[test]
-fn line_length_limit(rt: HostRuntime) -> Result<(), Fail> {
+fn line_length_limit(rt: HostRuntime) {
     let alloc = rt.alloc();
-    assert_long(&rt, alloc, "", false, Ok(()), "{\"malformed\":1}\n")?;
-    assert_long(&rt, alloc, "x", false, Ok(()), "{\"malformed\":13}\n")?;
-    assert_long(&rt, alloc, "x", true, Err(ScriptFault::Read), "")?;
+    assert_long(&rt, alloc, "", false, Ok(()), "{\"malformed\":1}\n");
+    assert_long(&rt, alloc, "x", false, Ok(()), "{\"malformed\":13}\n");
+    assert_long(&rt, alloc, "x", true, Err(ScriptFault::Read), "");
     let two = "{\"malformed\":13}\n{\"malformed\":2}\n";
-    assert_long(&rt, alloc, "x\n[]\n", false, Ok(()), two)
+    assert_long(&rt, alloc, "x\n[]\n", false, Ok(()), two);
 }
 
 /// The answer to the script of a peer.
 fn run_with(
-    alloc: Global,
-    desk: &mut Desk<MemStore>,
-    peer: &Peer,
-) -> Result<Result<(), ScriptFault>, Fail> {
-    let writer = BufWriter::new(alloc, peer)?;
-    let mut source = Device::new(peer);
-    let mut drain = Device::new(writer);
-    Ok(run_script(alloc, &mut source, &mut drain, desk))
-}
-
-fn assert_reaches_the_peer(
     rt: &impl Abort,
     alloc: Global,
     desk: &mut Desk<MemStore>,
-) -> Result<(), Fail> {
+    peer: &Peer,
+) -> Result<(), ScriptFault> {
+    let writer = BufWriter::new(alloc, peer).expect(rt, "a writer");
+    let mut source = Device::new(peer);
+    let mut drain = Device::new(writer);
+    run_script(alloc, &mut source, &mut drain, desk)
+}
+
+#[test]
+fn reply_reaches_the_peer_before_the_next_line_is_read(rt: HostRuntime) {
+    let mut desk = new_desk(&rt, rt.alloc());
     let peer = Peer {
         lines: Cell::new(3),
         sent: Cell::new(0),
         replies: Cell::new(0),
     };
-    let result = run_with(alloc, desk, &peer)?;
-    assert_eq!(rt; result, Ok(()));
-    assert_eq!(rt; peer.replies.get(), 3);
-    Ok(())
-}
-
-#[test]
-fn reply_reaches_the_peer_before_the_next_line_is_read(rt: HostRuntime) -> Result<(), Fail> {
-    let mut desk = example_desk(rt.alloc())?;
-    assert_reaches_the_peer(&rt, rt.alloc(), &mut desk)
+    let result = run_with(&rt, rt.alloc(), &mut desk, &peer);
+    assert_same(&rt, result, Ok(()), "the script");
+    assert_same(&rt, peer.replies.get(), 3, "the replies");
 }
 
 /// Every kind of error except `Interrupted`, after which a call is made again.
@@ -443,9 +390,9 @@ fn assert_reads(rt: &impl Abort, interruptions: usize, failure: Option<ErrorKind
     let mut device = Device::new(&counter);
     for _ in 0..2 {
         let result = device.read(&mut [0; 8]);
-        assert_eq!(rt; result.is_err(), failure.is_some(), "{failure:?}");
+        assert_same(rt, result.is_err(), failure.is_some(), failure);
     }
-    assert_eq!(rt; counter.calls.made.get(), calls, "{failure:?}");
+    assert_same(rt, counter.calls.made.get(), calls, failure);
 }
 
 #[test]
@@ -467,7 +414,7 @@ fn assert_two_writes(rt: &impl Abort, counter: &Counter, failure: Option<ErrorKi
     let mut device = Device::new(counter);
     for _ in 0..2 {
         let result = device.write(b"reply");
-        assert_eq!(rt; result.is_err(), failure.is_some(), "{failure:?}");
+        assert_same(rt, result.is_err(), failure.is_some(), failure);
     }
 }
 
@@ -476,8 +423,8 @@ fn assert_two_writes(rt: &impl Abort, counter: &Counter, failure: Option<ErrorKi
 fn assert_writes(rt: &impl Abort, counter: &Counter, writes: usize, flushes: usize) {
     let failure = counter.calls.failure.or(counter.flushes.failure);
     assert_two_writes(rt, counter, failure);
-    assert_eq!(rt; counter.calls.made.get(), writes, "{failure:?}");
-    assert_eq!(rt; counter.flushes.made.get(), flushes, "{failure:?}");
+    assert_same(rt, counter.calls.made.get(), writes, failure);
+    assert_same(rt, counter.flushes.made.get(), flushes, failure);
 }
 
 #[test]
@@ -514,7 +461,7 @@ fn failed_flush_is_not_made_again(rt: HostRuntime) {
 const MANY_CALLS: usize = 100_001;
 
 #[test]
-fn device_reads_on_after_many_calls(rt: HostRuntime) -> Result<(), Fail> {
+fn device_reads_on_after_many_calls(rt: HostRuntime) {
     let mut drip = Drip {
         piece: 1,
         calls: 0,
@@ -523,17 +470,10 @@ fn device_reads_on_after_many_calls(rt: HostRuntime) -> Result<(), Fail> {
     {
         let mut device = Device::new(&mut drip);
         for read in 0..MANY_CALLS {
-            assert_eq!(rt; device.read(&mut [0; 8]), Ok(1), "of read {read}");
+            assert_same(&rt, device.read(&mut [0; 8]), Ok(1), read);
         }
     }
-    assert_eq!(rt; drip.calls, MANY_CALLS);
-    Ok(())
-}
-
-/// The writer has these bytes after so many calls.
-fn assert_written(rt: &impl Abort, drip: &Drip, text: &[u8], calls: usize) {
-    assert_eq!(rt; drip.written.as_slice(), text, "pieces of {}", drip.piece);
-    assert_eq!(rt; drip.calls, calls, "pieces of {}", drip.piece);
+    assert_same(&rt, drip.calls, MANY_CALLS, "all reads");
 }
 
 /// A writer that takes so many bytes a call is written a text through a device by so many calls.
@@ -544,8 +484,9 @@ fn assert_pieces(rt: &impl Abort, alloc: Global, piece: usize, text: &[u8], call
         written: Vec::new(alloc),
     };
     let result = write_all(&mut Device::new(&mut drip), text);
-    assert_eq!(rt; result, Ok(()), "pieces of {piece}");
-    assert_written(rt, &drip, text, calls);
+    assert_same(rt, result, Ok(()), piece);
+    assert_same(rt, drip.written.as_slice(), text, piece);
+    assert_same(rt, drip.calls, calls, piece);
 }
 
 #[test]
@@ -558,8 +499,7 @@ fn device_hands_on_every_byte(rt: HostRuntime) {
 }
 
 #[test]
-fn device_writes_on_after_many_calls(rt: HostRuntime) -> Result<(), Fail> {
-    let text = vec![in rt.alloc(); b'r'; MANY_CALLS]?;
+fn device_writes_on_after_many_calls(rt: HostRuntime) {
+    let text = vec![in rt.alloc(); b'r'; MANY_CALLS].expect(&rt, "a text");
     assert_pieces(&rt, rt.alloc(), 1, text.as_slice(), MANY_CALLS);
-    Ok(())
 }

@@ -1,15 +1,12 @@
 //! A desk that keeps a day beside one that builds it anew before each question, over the same
 //! commands, which a fixed seed chooses.
-use crate::desks::{example_desk, opened};
+use crate::ready::{database, new_desk, old_database, opened_desk, row_of};
 use crate::scripts::{ALPHA, AUTHORIZATION, assert_reply, desk_after, reply_to};
 use addr::Day;
 use desk::Desk;
 use sqlite::{Connection, MemStore};
 use std::alloc::Global;
 use std::process::Abort;
-use std::test::Fail;
-use test_library::rows::split_row;
-use test_store::example_database::{TABLES, made, made_old};
 
 const COMMANDS: u64 = 400;
 
@@ -93,89 +90,95 @@ impl Dice {
         (self.state >> 33).checked_rem(count).unwrap_or(0)
     }
 
-    fn pick(&mut self, texts: &[&'static str]) -> Result<&'static str, Fail> {
+    fn pick(&mut self, rt: &impl Abort, texts: &[&'static str]) -> &'static str {
         let at = self.below(texts.len() as u64);
-        Ok(*texts.get(at as usize).ok_or("no text")?)
+        *texts.get(at as usize).expect(rt, "a text")
     }
 }
 
 /// The terms of an authorization.
-fn terms(alloc: Global, dice: &mut Dice) -> Result<String, Fail> {
-    let asn = dice.pick(&ASNS)?;
-    let prefix = dice.pick(&PREFIXES)?;
-    let days = dice.pick(&DAYS)?;
-    Ok(format!(in alloc; "\"asn\":{asn},\"prefix\":{prefix},\"from\":{days}")?)
+fn terms(rt: &impl Abort, alloc: Global, dice: &mut Dice) -> String {
+    let asn = dice.pick(rt, &ASNS);
+    let prefix = dice.pick(rt, &PREFIXES);
+    let days = dice.pick(rt, &DAYS);
+    let text = format!(in alloc; "\"asn\":{asn},\"prefix\":{prefix},\"from\":{days}");
+    text.expect(rt, "terms")
 }
 
 /// An import of two rows.
-fn import(alloc: Global, dice: &mut Dice) -> Result<String, Fail> {
-    let first = terms(alloc, dice)?;
-    let second = terms(alloc, dice)?;
-    Ok(format!(in alloc; "\"import\",\"rows\":[{{{first}}},{{{second}}}]")?)
+fn import(rt: &impl Abort, alloc: Global, dice: &mut Dice) -> String {
+    let first = terms(rt, alloc, dice);
+    let second = terms(rt, alloc, dice);
+    let text = format!(in alloc; "\"import\",\"rows\":[{{{first}}},{{{second}}}]");
+    text.expect(rt, "an import")
 }
 
-fn create(alloc: Global, dice: &mut Dice) -> Result<String, Fail> {
-    let terms = terms(alloc, dice)?;
-    Ok(format!(in alloc; "\"create\",{terms}")?)
+fn create(rt: &impl Abort, alloc: Global, dice: &mut Dice) -> String {
+    let terms = terms(rt, alloc, dice);
+    format!(in alloc; "\"create\",{terms}").expect(rt, "a create")
 }
 
 /// An amendment of one of the first so many authorizations.
-fn amend(alloc: Global, dice: &mut Dice, made: u64) -> Result<String, Fail> {
+fn amend(rt: &impl Abort, alloc: Global, dice: &mut Dice, made: u64) -> String {
     let number = dice.below(made).saturating_add(1);
-    let max = dice.pick(&MAX_LENGTHS)?;
-    let until = dice.pick(&LAST_DAYS)?;
-    Ok(format!(in alloc; "\"amend\",\"number\":{number},\"max\":{max},\"until\":\"{until}\"")?)
+    let max = dice.pick(rt, &MAX_LENGTHS);
+    let until = dice.pick(rt, &LAST_DAYS);
+    let text = format!(in alloc;
+        "\"amend\",\"number\":{number},\"max\":{max},\"until\":\"{until}\""
+    );
+    text.expect(rt, "an amendment")
 }
 
-fn withdraw(alloc: Global, dice: &mut Dice, made: u64) -> Result<String, Fail> {
+fn withdraw(rt: &impl Abort, alloc: Global, dice: &mut Dice, made: u64) -> String {
     let number = dice.below(made).saturating_add(1);
-    Ok(format!(in alloc; "\"withdraw\",\"number\":{number}")?)
+    format!(in alloc; "\"withdraw\",\"number\":{number}").expect(rt, "a withdrawal")
 }
 
 /// What `ann` commands at a holder, of whose authorizations so many may be made.
-fn members_of_ann(alloc: Global, dice: &mut Dice, made: u64) -> Result<String, Fail> {
+fn members_of_ann(rt: &impl Abort, alloc: Global, dice: &mut Dice, made: u64) -> String {
     match dice.below(8) {
-        0..=2 => create(alloc, dice),
-        3 => import(alloc, dice),
-        4..=6 => amend(alloc, dice, made),
-        _ => withdraw(alloc, dice, made),
+        0..=2 => create(rt, alloc, dice),
+        3 => import(rt, alloc, dice),
+        4..=6 => amend(rt, alloc, dice, made),
+        _ => withdraw(rt, alloc, dice, made),
     }
 }
 
 /// A command of `ann` on the authorizations of a holder, of which so many may be made.
-fn command_of_ann(alloc: Global, dice: &mut Dice, made: u64) -> Result<String, Fail> {
-    let holder = dice.pick(&HOLDERS)?;
-    let members = members_of_ann(alloc, dice, made)?;
-    Ok(format!(in alloc; "ann {{\"holder\":\"{holder}\",\"do\":{members}}}")?)
-}
-
-fn transfer(alloc: Global, dice: &mut Dice, giver: &str) -> Result<String, Fail> {
-    let taker = dice.pick(&HOLDERS)?;
-    Ok(format!(in alloc; "\"transfer\",\"giver\":\"{giver}\",\"taker\":\"{taker}\"")?)
+fn command_of_ann(rt: &impl Abort, alloc: Global, dice: &mut Dice, made: u64) -> String {
+    let holder = dice.pick(rt, &HOLDERS);
+    let members = members_of_ann(rt, alloc, dice, made);
+    let text = format!(in alloc; "ann {{\"holder\":\"{holder}\",\"do\":{members}}}");
+    text.expect(rt, "a command")
 }
 
 /// What the operator commands of the addresses of a holder.
-fn members_of_reg(alloc: Global, dice: &mut Dice, holder: &str) -> Result<String, Fail> {
-    match dice.below(4) {
-        0 => Ok(format!(in alloc; "\"reclaim\",\"holder\":\"{holder}\"")?),
-        1 => transfer(alloc, dice, holder),
-        _ => Ok(format!(in alloc; "\"delegate\",\"holder\":\"{holder}\"")?),
-    }
+fn members_of_reg(rt: &impl Abort, alloc: Global, dice: &mut Dice, holder: &str) -> String {
+    let text = match dice.below(4) {
+        0 => format!(in alloc; "\"reclaim\",\"holder\":\"{holder}\""),
+        1 => {
+            let taker = dice.pick(rt, &HOLDERS);
+            format!(in alloc; "\"transfer\",\"giver\":\"{holder}\",\"taker\":\"{taker}\"")
+        }
+        _ => format!(in alloc; "\"delegate\",\"holder\":\"{holder}\""),
+    };
+    text.expect(rt, "members")
 }
 
 /// A command of the operator on the addresses of the holders.
-fn command_of_reg(alloc: Global, dice: &mut Dice) -> Result<String, Fail> {
-    let prefix = dice.pick(&HALVES)?;
-    let holder = dice.pick(&HOLDERS)?;
-    let members = members_of_reg(alloc, dice, holder)?;
-    Ok(format!(in alloc; "reg {{\"prefix\":\"{prefix}\",\"do\":{members}}}")?)
+fn command_of_reg(rt: &impl Abort, alloc: Global, dice: &mut Dice) -> String {
+    let prefix = dice.pick(rt, &HALVES);
+    let holder = dice.pick(rt, &HOLDERS);
+    let members = members_of_reg(rt, alloc, dice, holder);
+    let text = format!(in alloc; "reg {{\"prefix\":\"{prefix}\",\"do\":{members}}}");
+    text.expect(rt, "a command")
 }
 
-fn command(alloc: Global, dice: &mut Dice, made: u64) -> Result<String, Fail> {
+fn command(rt: &impl Abort, alloc: Global, dice: &mut Dice, made: u64) -> String {
     match dice.below(16) {
-        0 => Ok(String::from_str(alloc, dice.pick(&EXCEPTIONS)?)?),
-        1 | 2 => command_of_reg(alloc, dice),
-        _ => command_of_ann(alloc, dice, made),
+        0 => String::from_str(alloc, dice.pick(rt, &EXCEPTIONS)).expect(rt, "exceptions"),
+        1 | 2 => command_of_reg(rt, alloc, dice),
+        _ => command_of_ann(rt, alloc, dice, made),
     }
 }
 
@@ -187,23 +190,6 @@ struct Pair {
 }
 
 impl Pair {
-    fn new(alloc: Global) -> Result<Pair, Fail> {
-        let keeping = example_desk(alloc)?;
-        let building = example_desk(alloc)?;
-        Ok(Pair { keeping, building })
-    }
-
-    /// The desks of two databases.
-    fn opened(
-        alloc: Global,
-        first: Connection<MemStore>,
-        second: Connection<MemStore>,
-    ) -> Result<Pair, Fail> {
-        let keeping = opened(alloc, first)?;
-        let building = opened(alloc, second)?;
-        Ok(Pair { keeping, building })
-    }
-
     /// The reply, which is the same of both.
     fn ask(
         &mut self,
@@ -212,11 +198,11 @@ impl Pair {
         day: &str,
         request: &str,
         name: &str,
-    ) -> Result<String, Fail> {
-        let reply = reply_to(alloc, &mut self.keeping, day, request)?;
-        let other = reply_to(alloc, &mut self.building, day, request)?;
+    ) -> String {
+        let reply = reply_to(rt, alloc, &mut self.keeping, day, request);
+        let other = reply_to(rt, alloc, &mut self.building, day, request);
         assert_reply(rt, &reply, &other, name, request);
-        Ok(reply)
+        reply
     }
 
     /// The day is still kept after a request, unless that changed the exceptions.
@@ -226,60 +212,50 @@ impl Pair {
     }
 
     /// Both have the same day, which one of them builds anew.
-    fn assert_same_day(&mut self, rt: &impl Abort, alloc: Global, name: &str) -> Result<(), Fail> {
-        reply_to(alloc, &mut self.building, OTHER_DAY, PAYLOADS)?;
-        self.ask(rt, alloc, DAY, VALIDITY, name)?;
-        self.ask(rt, alloc, DAY, PAYLOADS, name)?;
-        Ok(())
+    fn assert_same_day(&mut self, rt: &impl Abort, alloc: Global, name: &str) {
+        reply_to(rt, alloc, &mut self.building, OTHER_DAY, PAYLOADS);
+        self.ask(rt, alloc, DAY, VALIDITY, name);
+        self.ask(rt, alloc, DAY, PAYLOADS, name);
     }
 }
 
 /// Both desks have the holders and the grants, and the day.
-fn set_up(rt: &impl Abort, alloc: Global, pair: &mut Pair) -> Result<(), Fail> {
+fn set_up(rt: &impl Abort, alloc: Global, pair: &mut Pair) {
     for request in SETUP {
-        pair.ask(rt, alloc, DAY_OF_COMMANDS, request, "setup")?;
+        pair.ask(rt, alloc, DAY_OF_COMMANDS, request, "setup");
     }
-    pair.assert_same_day(rt, alloc, "setup")
+    pair.assert_same_day(rt, alloc, "setup");
 }
 
 /// Sends a command to both desks, and answers whether it was accepted.
-fn send(
-    rt: &impl Abort,
-    alloc: Global,
-    pair: &mut Pair,
-    dice: &mut Dice,
-    made: u64,
-) -> Result<bool, Fail> {
-    let request = command(alloc, dice, made / 8 + 1)?;
-    let reply = pair.ask(rt, alloc, DAY_OF_COMMANDS, &request, "command")?;
+fn send(rt: &impl Abort, alloc: Global, pair: &mut Pair, dice: &mut Dice, made: u64) -> bool {
+    let request = command(rt, alloc, dice, made / 8 + 1);
+    let reply = pair.ask(rt, alloc, DAY_OF_COMMANDS, &request, "command");
     pair.assert_kept(rt, &request);
-    pair.assert_same_day(rt, alloc, &request)?;
-    Ok(!reply.starts_with("{\"denied\""))
-}
-
-fn count_accepted(rt: &impl Abort, alloc: Global, pair: &mut Pair) -> Result<u64, Fail> {
-    let mut dice = Dice { state: 1 };
-    let mut accepted: u64 = 0;
-    for made in 0..COMMANDS {
-        if send(rt, alloc, pair, &mut dice, made)? {
-            accepted = accepted.saturating_add(1);
-        }
-    }
-    Ok(accepted)
+    pair.assert_same_day(rt, alloc, &request);
+    !reply.starts_with("{\"denied\"")
 }
 
 /// Many of the commands are accepted.
-fn assert_accepted(rt: &impl Abort, alloc: Global, pair: &mut Pair) -> Result<(), Fail> {
-    set_up(rt, alloc, pair)?;
-    let accepted = count_accepted(rt, alloc, pair)?;
+fn assert_accepted(rt: &impl Abort, alloc: Global, pair: &mut Pair) {
+    let mut dice = Dice { state: 1 };
+    let mut accepted: u64 = 0;
+    for made in 0..COMMANDS {
+        if send(rt, alloc, pair, &mut dice, made) {
+            accepted = accepted.saturating_add(1);
+        }
+    }
     assert!(rt; accepted > COMMANDS / 5, "{accepted} accepted");
-    Ok(())
 }
 
 #[test]
-fn kept_day_is_as_one_that_is_built_anew(rt: HostRuntime) -> Result<(), Fail> {
-    let mut pair = Pair::new(rt.alloc())?;
-    assert_accepted(&rt, rt.alloc(), &mut pair)
+fn kept_day_is_as_one_that_is_built_anew(rt: HostRuntime) {
+    let mut pair = Pair {
+        keeping: new_desk(&rt, rt.alloc()),
+        building: new_desk(&rt, rt.alloc()),
+    };
+    set_up(&rt, rt.alloc(), &mut pair);
+    assert_accepted(&rt, rt.alloc(), &mut pair);
 }
 
 /// Commands at `alpha`, of which AS 64496 is authorized for 192.0.2.0/24 by number 1.
@@ -303,20 +279,19 @@ ann {"do":"amend","holder":"alpha","number":5,"max":24,"until":"2026-06-15"} => 
 "#;
 
 /// Both desks have the reply of a row, and then the same day, which one of them kept.
-fn assert_row(rt: &impl Abort, alloc: Global, pair: &mut Pair, row: &str) -> Result<(), Fail> {
-    let (request, expected) = split_row(row)?;
-    let reply = pair.ask(rt, alloc, DAY_OF_COMMANDS, request, "after opening")?;
+fn assert_row(rt: &impl Abort, alloc: Global, pair: &mut Pair, row: &str) {
+    let (request, expected) = row_of(rt, row);
+    let reply = pair.ask(rt, alloc, DAY_OF_COMMANDS, request, "after opening");
     assert_reply(rt, reply.trim(), expected, "after opening", request);
     pair.assert_kept(rt, request);
-    pair.assert_same_day(rt, alloc, request)
+    pair.assert_same_day(rt, alloc, request);
 }
 
-fn assert_rows(rt: &impl Abort, alloc: Global, pair: &mut Pair) -> Result<(), Fail> {
-    pair.assert_same_day(rt, alloc, "opened")?;
+fn assert_rows(rt: &impl Abort, alloc: Global, pair: &mut Pair) {
+    pair.assert_same_day(rt, alloc, "opened");
     for row in AFTER_OPENING.trim().lines() {
-        assert_row(rt, alloc, pair, row)?;
+        assert_row(rt, alloc, pair, row);
     }
-    Ok(())
 }
 
 /// The desks of two databases that have the same rows keep the day.
@@ -325,34 +300,36 @@ fn assert_opened(
     alloc: Global,
     first: Connection<MemStore>,
     second: Connection<MemStore>,
-) -> Result<(), Fail> {
-    let mut pair = Pair::opened(alloc, first, second)?;
-    assert_rows(rt, alloc, &mut pair)
+) {
+    let mut pair = Pair {
+        keeping: opened_desk(rt, alloc, first),
+        building: opened_desk(rt, alloc, second),
+    };
+    assert_rows(rt, alloc, &mut pair);
 }
 
 #[test]
-fn rows_of_another_program_keep_the_day(rt: HostRuntime) -> Result<(), Fail> {
-    let first = made(rt.alloc(), TABLES)?;
-    let second = made(rt.alloc(), TABLES)?;
-    assert_opened(&rt, rt.alloc(), first, second)
+fn rows_of_another_program_keep_the_day(rt: HostRuntime) {
+    let first = database(&rt, rt.alloc());
+    let second = database(&rt, rt.alloc());
+    assert_opened(&rt, rt.alloc(), first, second);
 }
 
 #[test]
-fn moved_tables_keep_the_day(rt: HostRuntime) -> Result<(), Fail> {
-    let first = made_old(rt.alloc())?;
-    let second = made_old(rt.alloc())?;
-    assert_opened(&rt, rt.alloc(), first, second)
+fn moved_tables_keep_the_day(rt: HostRuntime) {
+    let first = old_database(&rt, rt.alloc());
+    let second = old_database(&rt, rt.alloc());
+    assert_opened(&rt, rt.alloc(), first, second);
 }
 
 /// The database of a desk that was closed.
-fn closed(rt: &impl Abort, alloc: Global) -> Result<Connection<MemStore>, Fail> {
-    let desk = desk_after(rt, alloc, "closed", &[ALPHA, AUTHORIZATION])?;
-    Ok(desk.close())
+fn closed(rt: &impl Abort, alloc: Global) -> Connection<MemStore> {
+    desk_after(rt, alloc, "closed", &[ALPHA, AUTHORIZATION]).close()
 }
 
 #[test]
-fn closed_desks_keep_the_day(rt: HostRuntime) -> Result<(), Fail> {
-    let first = closed(&rt, rt.alloc())?;
-    let second = closed(&rt, rt.alloc())?;
-    assert_opened(&rt, rt.alloc(), first, second)
+fn closed_desks_keep_the_day(rt: HostRuntime) {
+    let first = closed(&rt, rt.alloc());
+    let second = closed(&rt, rt.alloc());
+    assert_opened(&rt, rt.alloc(), first, second);
 }

@@ -3,18 +3,16 @@
 //!
 //! Beside the rows of a script there are two that call the desk: `payloads`, for the VRPs of the day,
 //! which are written as the reply is, and `kept`, for the day that is kept, if one is.
-use crate::desks::example_desk;
+use crate::ready::{new_desk, row_of, value_of};
 use crate::scripts::{
-    ScriptDay, assert_reply, assert_script, push_line, reply_to, setups_of, text_of,
+    FIRST_DAY, assert_reply, assert_script, push_line, reply_to, set_day, setups_of, text_of,
 };
 use addr::Day;
 use desk::{Desk, Reply, Vrps};
 use sqlite::MemStore;
 use std::alloc::Global;
 use std::process::Abort;
-use std::test::Fail;
 use test_library::listing::listed;
-use test_library::rows::split_row;
 
 const SCRIPTS: &str = r#"
 # no_day_is_kept_before_a_question after holder, authorization
@@ -239,26 +237,27 @@ day 2026-03-01
 payloads => {"payloads":[{"asn":64496,"prefix":"192.0.2.0/24","max":24}]}
 "#;
 
-/// The VRPs of the day as they are lent.
-fn lent(alloc: Global, desk: &mut Desk<MemStore>, day: Day) -> Result<Reply, Fail> {
-    let Some(index) = desk.payloads(day) else {
-        return Err("no VRPs".into());
-    };
-    Ok(Reply::Payloads(Vrps::from(listed(alloc, index)?)))
+/// The VRPs of the day as they are lent, written as a reply is.
+fn payloads(rt: &impl Abort, alloc: Global, desk: &mut Desk<MemStore>, day: &str) -> String {
+    let day = Day::read(day.as_bytes()).expect(rt, "a day");
+    let index = desk.payloads(day).expect(rt, "VRPs");
+    let vrps = value_of(rt, listed(alloc, index), "list");
+    text_of(rt, alloc, &[Reply::Payloads(Vrps::from(vrps))])
 }
 
 /// What the desk answers on a day to the input of a row, with a line feed after it.
 fn answer(
+    rt: &impl Abort,
     alloc: Global,
     desk: &mut Desk<MemStore>,
     day: &str,
     input: &str,
-) -> Result<String, Fail> {
+) -> String {
     if input == "payloads" {
-        let day = Day::read(day.as_bytes()).ok_or("no day")?;
-        return text_of(alloc, &[lent(alloc, desk, day)?]);
+        payloads(rt, alloc, desk, day)
+    } else {
+        reply_to(rt, alloc, desk, day, input)
     }
-    reply_to(alloc, desk, day, input)
 }
 
 /// The answer to a row of a script on a day.
@@ -269,18 +268,17 @@ fn assert_answer(
     day: &str,
     row: &str,
     name: &str,
-) -> Result<(), Fail> {
-    let (input, output) = split_row(row)?;
+) {
+    let (input, output) = row_of(rt, row);
     if input == "kept" {
         assert!(rt;
             desk.kept() == Day::read(output.as_bytes()),
             "{name}: {row}"
         );
-        return Ok(());
+    } else {
+        let answered = answer(rt, alloc, desk, day, input);
+        assert_reply(rt, answered.trim(), output, name, input);
     }
-    let answered = answer(alloc, desk, day, input)?;
-    assert_reply(rt, answered.trim(), output, name, input);
-    Ok(())
 }
 
 fn assert_answers(
@@ -289,63 +287,53 @@ fn assert_answers(
     desk: &mut Desk<MemStore>,
     name: &str,
     lines: &str,
-) -> Result<(), Fail> {
-    let mut day = ScriptDay::first(alloc)?;
+) {
+    let mut day = String::from_str(alloc, FIRST_DAY).expect(rt, "a day");
     for line in lines.lines() {
-        if !day.is_set_by(line)? && !line.is_empty() {
-            assert_answer(rt, alloc, desk, day.text(), line, name)?;
+        if let Some(next) = line.strip_prefix("day ") {
+            set_day(rt, &mut day, next);
+        } else if !line.is_empty() {
+            assert_answer(rt, alloc, desk, &day, line, name);
         }
     }
-    Ok(())
 }
 
 /// The script with a request in place of each call for VRPs, and without the day that is kept.
-fn as_requests(alloc: Global, script: &str) -> Result<String, Fail> {
+fn as_requests(rt: &impl Abort, alloc: Global, script: &str) -> String {
     let mut text = String::new(alloc);
     for line in script.lines() {
         if let Some(output) = line.strip_prefix("payloads => ") {
-            text.push_str(r#"bob {"do":"payloads"} => "#)?;
-            push_line(&mut text, output)?;
+            text.push_str(r#"bob {"do":"payloads"} => "#)
+                .expect(rt, "a longer text");
+            push_line(rt, &mut text, output);
         } else if !line.starts_with("kept => ") {
-            push_line(&mut text, line)?;
+            push_line(rt, &mut text, line);
         }
     }
-    Ok(text)
+    text
 }
 
 /// The desk answers the rows of a script, after those of its setups.
-fn assert_follows(
-    rt: &impl Abort,
-    alloc: Global,
-    desk: &mut Desk<MemStore>,
-    script: &str,
-) -> Result<(), Fail> {
-    let (heading, lines) = script.split_once('\n').ok_or("no lines")?;
-    for setup in &setups_of(alloc, heading)? {
-        assert_answers(rt, alloc, desk, heading, setup)?;
+fn assert_follows(rt: &impl Abort, alloc: Global, desk: &mut Desk<MemStore>, script: &str) {
+    let (heading, lines) = script.split_once('\n').expect(rt, "lines");
+    for setup in &setups_of(rt, alloc, heading) {
+        assert_answers(rt, alloc, desk, heading, setup);
     }
-    assert_answers(rt, alloc, desk, heading, lines)
-}
-
-/// A new desk answers the rows of a script.
-fn assert_new_follows(rt: &impl Abort, alloc: Global, script: &str) -> Result<(), Fail> {
-    let mut desk = example_desk(alloc)?;
-    assert_follows(rt, alloc, &mut desk, script)
+    assert_answers(rt, alloc, desk, heading, lines);
 }
 
 #[test]
-fn kept_day_follows_commands(rt: HostRuntime) -> Result<(), Fail> {
+fn kept_day_follows_commands(rt: HostRuntime) {
     for script in SCRIPTS.split("\n# ").skip(1) {
-        assert_new_follows(&rt, rt.alloc(), script)?;
+        let mut desk = new_desk(&rt, rt.alloc());
+        assert_follows(&rt, rt.alloc(), &mut desk, script);
     }
-    Ok(())
 }
 
 #[test]
-fn scripts_of_kept_days_have_their_replies(rt: HostRuntime) -> Result<(), Fail> {
+fn scripts_of_kept_days_have_their_replies(rt: HostRuntime) {
     for script in SCRIPTS.split("\n# ").skip(1) {
-        let script = as_requests(rt.alloc(), script)?;
-        assert_script(&rt, rt.alloc(), &script)?;
+        let script = as_requests(&rt, rt.alloc(), script);
+        assert_script(&rt, rt.alloc(), &script);
     }
-    Ok(())
 }

@@ -15,6 +15,8 @@ mod many_vrps;
 #[cfg(test)]
 mod opened_desks;
 #[cfg(test)]
+mod ready;
+#[cfg(test)]
 mod replies;
 #[cfg(test)]
 mod request_lines;

@@ -1,12 +1,10 @@
 //! Desks that go on where another one ended.
-use crate::desks::opened;
+use crate::ready::{database, old_database, opened_desk};
 use crate::scripts::exceptions::FILTER_AND_ASSERTION;
 use crate::scripts::{ALPHA, AUTHORIZATION, assert_lines, desk_after};
 use sqlite::{Connection, MemStore};
 use std::alloc::Global;
 use std::process::Abort;
-use std::test::Fail;
-use test_store::example_database::{TABLES, made, made_old};
 
 /// What comes after the opening, over the rows above.
 const AFTERWARDS: &str = r#"
@@ -30,20 +28,14 @@ fn assert_opened(
     name: &str,
     conn: Connection<MemStore>,
     lines: &str,
-) -> Result<Connection<MemStore>, Fail> {
-    let mut desk = opened(alloc, conn)?;
-    assert_lines(rt, alloc, name, &mut desk, &[lines])?;
-    Ok(desk.close())
+) -> Connection<MemStore> {
+    let mut desk = opened_desk(rt, alloc, conn);
+    assert_lines(rt, alloc, name, &mut desk, &[lines]);
+    desk.close()
 }
 
-fn assert_goes_on(
-    rt: &impl Abort,
-    alloc: Global,
-    name: &str,
-    conn: Connection<MemStore>,
-) -> Result<(), Fail> {
-    assert_opened(rt, alloc, name, conn, AFTERWARDS)?;
-    Ok(())
+fn assert_goes_on(rt: &impl Abort, alloc: Global, name: &str, conn: Connection<MemStore>) {
+    assert_opened(rt, alloc, name, conn, AFTERWARDS);
 }
 
 /// What a database of schema 1 shows, and what is made then.
@@ -58,26 +50,25 @@ ann {"do":"list","holder":"alpha"} => {"listed":[{"number":1,"asn":64496,"prefix
 "#;
 
 #[test]
-fn old_tables_are_moved_on_opening(rt: HostRuntime) -> Result<(), Fail> {
+fn old_tables_are_moved_on_opening(rt: HostRuntime) {
     let name = "old_tables_are_moved_on_opening";
-    let old = made_old(rt.alloc())?;
-    let moved = assert_opened(&rt, rt.alloc(), name, old, FIRST_OPENING)?;
-    assert_opened(&rt, rt.alloc(), name, moved, SECOND_OPENING)?;
-    Ok(())
+    let old = old_database(&rt, rt.alloc());
+    let moved = assert_opened(&rt, rt.alloc(), name, old, FIRST_OPENING);
+    assert_opened(&rt, rt.alloc(), name, moved, SECOND_OPENING);
 }
 
 #[test]
-fn closed_desk_is_opened(rt: HostRuntime) -> Result<(), Fail> {
+fn closed_desk_is_opened(rt: HostRuntime) {
     let name = "closed_desk_is_opened";
-    let desk = desk_after(&rt, rt.alloc(), name, &[ALPHA, AUTHORIZATION])?;
-    assert_goes_on(&rt, rt.alloc(), name, desk.close())
+    let desk = desk_after(&rt, rt.alloc(), name, &[ALPHA, AUTHORIZATION]);
+    assert_goes_on(&rt, rt.alloc(), name, desk.close());
 }
 
 #[test]
-fn rows_of_another_program_are_a_desk(rt: HostRuntime) -> Result<(), Fail> {
-    let conn = made(rt.alloc(), TABLES)?;
+fn rows_of_another_program_are_a_desk(rt: HostRuntime) {
+    let conn = database(&rt, rt.alloc());
     let name = "rows_of_another_program_are_a_desk";
-    assert_goes_on(&rt, rt.alloc(), name, conn)
+    assert_goes_on(&rt, rt.alloc(), name, conn);
 }
 
 /// A desk that was left with a SLURM file goes on with it.
@@ -90,12 +81,11 @@ bob {"do":"payloads"} => {"payloads":[]}
 "#;
 
 #[test]
-fn opened_desk_has_its_exceptions(rt: HostRuntime) -> Result<(), Fail> {
+fn opened_desk_has_its_exceptions(rt: HostRuntime) {
     let name = "opened_desk_has_its_exceptions";
     let setup = [ALPHA, AUTHORIZATION, FILTER_AND_ASSERTION];
-    let desk = desk_after(&rt, rt.alloc(), name, &setup)?;
-    assert_opened(&rt, rt.alloc(), name, desk.close(), EXCEPTIONS_AFTERWARDS)?;
-    Ok(())
+    let desk = desk_after(&rt, rt.alloc(), name, &setup);
+    assert_opened(&rt, rt.alloc(), name, desk.close(), EXCEPTIONS_AFTERWARDS);
 }
 
 /// Two files of a set, and what is left of them when the desk is opened again.
@@ -110,11 +100,10 @@ bob {"do":"payloads"} => {"payloads":[{"asn":64496,"prefix":"192.0.2.0/24","max"
 "#;
 
 #[test]
-fn opened_desk_has_its_slurm_files(rt: HostRuntime) -> Result<(), Fail> {
+fn opened_desk_has_its_slurm_files(rt: HostRuntime) {
     let name = "opened_desk_has_its_slurm_files";
-    let desk = desk_after(&rt, rt.alloc(), name, &[ALPHA, AUTHORIZATION, FILES])?;
-    assert_opened(&rt, rt.alloc(), name, desk.close(), FILES_AFTERWARDS)?;
-    Ok(())
+    let desk = desk_after(&rt, rt.alloc(), name, &[ALPHA, AUTHORIZATION, FILES]);
+    assert_opened(&rt, rt.alloc(), name, desk.close(), FILES_AFTERWARDS);
 }
 
 /// The rows of a file as schema 1 has them.
@@ -124,12 +113,11 @@ INSERT INTO slurm VALUES ('main', 2, 1, 4, x'000000000000000000000000c0000200', 
 ";
 
 #[test]
-fn old_slurm_entries_are_file_main(rt: HostRuntime) -> Result<(), Fail> {
+fn old_slurm_entries_are_file_main(rt: HostRuntime) {
     let name = "old_slurm_entries_are_file_main";
-    let mut old = made_old(rt.alloc())?;
-    old.execute_batch(OLD_EXCEPTIONS)?;
-    assert_opened(&rt, rt.alloc(), name, old, EXCEPTIONS_AFTERWARDS)?;
-    Ok(())
+    let mut old = old_database(&rt, rt.alloc());
+    old.execute_batch(OLD_EXCEPTIONS).expect(&rt, "rows");
+    assert_opened(&rt, rt.alloc(), name, old, EXCEPTIONS_AFTERWARDS);
 }
 
 /// All numbers of authorizations but the last were given.
@@ -147,15 +135,9 @@ ann {"do":"list","holder":"alpha"} => {"listed":[{"number":1,"asn":64496,"prefix
 
 /// The last number is kept by the tables, and is given once.
 #[test]
-fn last_number_of_a_holder(rt: HostRuntime) -> Result<(), Fail> {
-    let mut conn = made(rt.alloc(), TABLES)?;
-    conn.execute_batch(ALL_BUT_ONE_MADE)?;
-    assert_opened(
-        &rt,
-        rt.alloc(),
-        "last_number_of_a_holder",
-        conn,
-        LAST_NUMBER,
-    )?;
-    Ok(())
+fn last_number_of_a_holder(rt: HostRuntime) {
+    let mut conn = database(&rt, rt.alloc());
+    conn.execute_batch(ALL_BUT_ONE_MADE).expect(&rt, "numbers");
+    let name = "last_number_of_a_holder";
+    assert_opened(&rt, rt.alloc(), name, conn, LAST_NUMBER);
 }

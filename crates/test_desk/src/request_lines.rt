@@ -1,9 +1,9 @@
 //! Lines of a script: the number that is reported of a malformed one, 0 where it is a request.
+use crate::ready::{assert_same, value_of};
 use crate::scripts::exceptions::file_of_many;
 use crate::scripts::{line_of, push_item};
-use std::alloc::{AllocError, Global};
+use std::alloc::Global;
 use std::process::Abort;
-use std::test::Fail;
 use test_library::rows::{Row, nested, table_rows};
 use web::{LineFault, read_line_request};
 
@@ -254,44 +254,41 @@ fn reported(alloc: Global, line: &[u8]) -> u8 {
 }
 
 /// The number that is reported of a request with its caller before it.
-fn reported_of_request(alloc: Global, request: &str) -> Result<u8, Fail> {
-    let line = line_of(alloc, DAY, request)?;
-    Ok(reported(alloc, line.as_bytes()))
+fn reported_of_request(rt: &impl Abort, alloc: Global, request: &str) -> u8 {
+    let line = line_of(rt, alloc, DAY, request);
+    reported(alloc, line.as_bytes())
 }
 
 #[test]
 fn bytes_that_are_no_json_are_malformed_1(rt: HostRuntime) {
     for line in NOT_JSON {
-        assert_eq!(rt; reported(rt.alloc(), line), 1, "{line:?}");
+        assert_same(&rt, reported(rt.alloc(), line), 1, line);
     }
 }
 
 /// The number that is reported of a row is that of the row.
-fn assert_number(rt: &impl Abort, row: &Row<'_>, reported: u8) -> Result<(), Fail> {
-    let number: u8 = row.output.parse()?;
-    assert_eq!(rt; reported, number, "{}: {}", row.name, row.input);
-    Ok(())
+fn assert_number(rt: &impl Abort, row: &Row<'_>, reported: u8) {
+    let number: u8 = row.output.parse().expect(rt, "a number");
+    assert_same(rt, reported, number, (row.name, row.input));
 }
 
 #[test]
-fn reports_why_a_line_is_refused(rt: HostRuntime) -> Result<(), Fail> {
-    for row in &table_rows(rt.alloc(), LINES)? {
-        assert_number(&rt, row, reported(rt.alloc(), row.input.as_bytes()))?;
+fn reports_why_a_line_is_refused(rt: HostRuntime) {
+    for row in &value_of(&rt, table_rows(rt.alloc(), LINES), "rows") {
+        assert_number(&rt, row, reported(rt.alloc(), row.input.as_bytes()));
     }
-    Ok(())
 }
 
-fn assert_requests(rt: &impl Abort, alloc: Global, table: &str) -> Result<(), Fail> {
-    for row in &table_rows(alloc, table)? {
-        assert_number(rt, row, reported_of_request(alloc, row.input)?)?;
+fn assert_requests(rt: &impl Abort, alloc: Global, table: &str) {
+    for row in &value_of(rt, table_rows(alloc, table), "rows") {
+        assert_number(rt, row, reported_of_request(rt, alloc, row.input));
     }
-    Ok(())
 }
 
 #[test]
-fn reports_why_a_request_is_refused(rt: HostRuntime) -> Result<(), Fail> {
-    assert_requests(&rt, rt.alloc(), REQUESTS)?;
-    assert_requests(&rt, rt.alloc(), LISTS)
+fn reports_why_a_request_is_refused(rt: HostRuntime) {
+    assert_requests(&rt, rt.alloc(), REQUESTS);
+    assert_requests(&rt, rt.alloc(), LISTS);
 }
 
 /// The text before the items of a list, an item with the prefix `::/0`, and the text after the list;
@@ -313,123 +310,94 @@ struct Limited<'a> {
 }
 
 /// So many items, the last of which is `last`.
-fn long_list(alloc: Global, item: &str, count: u32, last: &str) -> Result<String, AllocError> {
+fn long_list(rt: &impl Abort, alloc: Global, item: &str, count: u32, last: &str) -> String {
     let mut list = String::new(alloc);
     for _ in 1..count {
-        push_item(&mut list, item)?;
+        push_item(rt, &mut list, item);
     }
-    push_item(&mut list, last)?;
-    Ok(list)
+    push_item(rt, &mut list, last);
+    list
 }
 
-impl Limited<'_> {
-    fn read(input: &str) -> Result<Limited<'_>, Fail> {
-        let (head, list) = input.split_once(" ; ").ok_or("no item")?;
-        let (item, end) = list.split_once(" ; ").ok_or("no end")?;
-        Ok(Limited { head, item, end })
+impl<'a> Limited<'a> {
+    fn read(rt: &impl Abort, input: &'a str) -> Limited<'a> {
+        let (head, list) = input.split_once(" ; ").expect(rt, "an item");
+        let (item, end) = list.split_once(" ; ").expect(rt, "an end");
+        Limited { head, item, end }
     }
 
     /// The number that is reported of so many items, the last of which is `last`.
-    fn assert_number(
-        &self,
-        rt: &impl Abort,
-        alloc: Global,
-        count: u32,
-        last: &str,
-        number: u8,
-    ) -> Result<(), Fail> {
-        let list = long_list(alloc, self.item, count, last)?;
-        let request = format!(in alloc; "{}{list}{}", self.head, self.end)?;
-        let reported = reported_of_request(alloc, &request)?;
-        assert_eq!(rt; reported, number, "{} {count} items", self.head);
-        Ok(())
+    fn assert_number(&self, rt: &impl Abort, alloc: Global, count: u32, last: &str, number: u8) {
+        let list = long_list(rt, alloc, self.item, count, last);
+        let request = format!(in alloc; "{}{list}{}", self.head, self.end);
+        let reported = reported_of_request(rt, alloc, &request.expect(rt, "a request"));
+        assert_same(rt, reported, number, (self.head, count));
     }
 
     /// So many items are a list, and one more is not, even if it is malformed otherwise.
-    fn assert_limit(&self, rt: &impl Abort, alloc: Global, most: u32) -> Result<(), Fail> {
-        let more = most.checked_add(1).ok_or("no limit")?;
-        self.assert_number(rt, alloc, 1, self.item, 0)?;
-        self.assert_number(rt, alloc, most, self.item, 0)?;
-        self.assert_number(rt, alloc, more, self.item, 12)?;
-        let (before, after) = self.item.split_once("::/0").ok_or("no prefix")?;
-        let malformed = format!(in alloc; "{before}::{after}")?;
-        self.assert_number(rt, alloc, more, &malformed, 5)
+    fn assert_limit(&self, rt: &impl Abort, alloc: Global, most: u32) {
+        let more = most.checked_add(1).expect(rt, "a limit");
+        self.assert_number(rt, alloc, 1, self.item, 0);
+        self.assert_number(rt, alloc, most, self.item, 0);
+        self.assert_number(rt, alloc, more, self.item, 12);
+        let (before, after) = self.item.split_once("::/0").expect(rt, "a prefix");
+        let malformed = format!(in alloc; "{before}::{after}").expect(rt, "an item");
+        self.assert_number(rt, alloc, more, &malformed, 5);
     }
 }
 
 #[test]
-fn limits_of_lists(rt: HostRuntime) -> Result<(), Fail> {
-    for row in &table_rows(rt.alloc(), LIMITED)? {
-        let limited = Limited::read(row.input)?;
-        limited.assert_limit(&rt, rt.alloc(), row.output.parse()?)?;
+fn limits_of_lists(rt: HostRuntime) {
+    for row in &value_of(&rt, table_rows(rt.alloc(), LIMITED), "rows") {
+        let most: u32 = row.output.parse().expect(&rt, "a limit");
+        Limited::read(&rt, row.input).assert_limit(&rt, rt.alloc(), most);
     }
-    Ok(())
 }
 
 /// The number of a line that is so many arrays deep.
-fn assert_depth(rt: &impl Abort, alloc: Global, depth: u32, number: u8) -> Result<(), Fail> {
-    let line = nested(alloc, depth)?;
-    assert_eq!(rt; reported(alloc, line.as_bytes()), number, "{depth} deep");
-    Ok(())
+fn assert_depth(rt: &impl Abort, alloc: Global, depth: u32, number: u8) {
+    let line = nested(alloc, depth).expect(rt, "a line");
+    assert_same(rt, reported(alloc, line.as_bytes()), number, depth);
 }
 
 #[test]
-fn nesting_over_127_is_no_json(rt: HostRuntime) -> Result<(), Fail> {
-    assert_depth(&rt, rt.alloc(), 127, 2)?;
-    assert_depth(&rt, rt.alloc(), 128, 1)
+fn nesting_over_127_is_no_json(rt: HostRuntime) {
+    assert_depth(&rt, rt.alloc(), 127, 2);
+    assert_depth(&rt, rt.alloc(), 128, 1);
 }
 
 /// The numbers of such a request, both 0 where it is one.
-fn reported_of_slurm(alloc: Global, request: &str) -> Result<(u8, u8), Fail> {
-    let line = line_of(alloc, DAY, request)?;
-    match read_line_request(alloc, line.as_bytes()) {
-        Ok(_) => Ok((0, 0)),
-        Err(LineFault::Malformed(malformed)) => {
-            Ok((malformed.number, malformed.slurm.unwrap_or(0)))
-        }
-        Err(LineFault::Memory) => Err("no memory".into()),
-    }
-}
-
-fn assert_slurm(
-    rt: &impl Abort,
-    alloc: Global,
-    request: &str,
-    numbers: (u8, u8),
-    name: &str,
-) -> Result<(), Fail> {
-    let reported = reported_of_slurm(alloc, request)?;
-    assert_eq!(rt; reported, numbers, "{name}");
-    Ok(())
+fn assert_slurm(rt: &impl Abort, alloc: Global, request: &str, numbers: (u8, u8), name: &str) {
+    let line = line_of(rt, alloc, DAY, request);
+    let reported = match read_line_request(alloc, line.as_bytes()) {
+        Ok(_) => (0, 0),
+        Err(LineFault::Malformed(malformed)) => (malformed.number, malformed.slurm.unwrap_or(0)),
+        Err(LineFault::Memory) => rt.panic("no memory"),
+    };
+    assert_same(rt, reported, numbers, name);
 }
 
 /// The numbers of a line that brings this file.
-fn assert_file(
-    rt: &impl Abort,
-    alloc: Global,
-    file: &str,
-    numbers: (u8, u8),
-    name: &str,
-) -> Result<(), Fail> {
-    let request = format!(in alloc; "reg {{\"do\":\"slurm\",\"file\":{file}}}")?;
-    assert_slurm(rt, alloc, &request, numbers, name)
+fn assert_file(rt: &impl Abort, alloc: Global, file: &str, numbers: (u8, u8), name: &str) {
+    let request = format!(in alloc; "reg {{\"do\":\"slurm\",\"file\":{file}}}");
+    assert_slurm(rt, alloc, &request.expect(rt, "a request"), numbers, name);
 }
 
 #[test]
-fn limits_of_slurm_files(rt: HostRuntime) -> Result<(), Fail> {
-    let full = file_of_many(rt.alloc(), 4095)?;
-    assert_file(&rt, rt.alloc(), &full, (0, 0), "4095 filters")?;
-    let over = file_of_many(rt.alloc(), 4096)?;
-    assert_file(&rt, rt.alloc(), &over, (11, 11), "4096 filters")
+fn limits_of_slurm_files(rt: HostRuntime) {
+    let full = file_of_many(&rt, rt.alloc(), 4095);
+    assert_file(&rt, rt.alloc(), &full, (0, 0), "4095 filters");
+    let over = file_of_many(&rt, rt.alloc(), 4096);
+    assert_file(&rt, rt.alloc(), &over, (11, 11), "4096 filters");
 }
 
 /// The line's own object is one level more.
 #[test]
-fn nesting_of_slurm_files(rt: HostRuntime) -> Result<(), Fail> {
-    let deep = nested(rt.alloc(), 126)?;
-    assert_file(&rt, rt.alloc(), &deep, (11, 2), "126 deep")?;
-    let deeper = nested(rt.alloc(), 127)?;
-    assert_file(&rt, rt.alloc(), &deeper, (1, 0), "127 deep")
+fn nesting_of_slurm_files(rt: HostRuntime) {
+    let deep = nested(rt.alloc(), 126).expect(&rt, "a file");
+    assert_file(&rt, rt.alloc(), &deep, (11, 2), "126 deep");
+    let deeper = nested(rt.alloc(), 127).expect(&rt, "a file");
+    assert_file(&rt, rt.alloc(), &deeper, (1, 0), "127 deep");
 }
 
 /// The numbers of a line that brings these two files.
@@ -440,84 +408,75 @@ fn assert_two_files(
     other: &str,
     numbers: (u8, u8),
     name: &str,
-) -> Result<(), Fail> {
+) {
     let request = format!(in alloc;
         "reg {{\"do\":\"slurm\",\"files\":[{{\"name\":\"a\",\"file\":{one}}},\
          {{\"name\":\"b\",\"file\":{other}}}]}}"
-    )?;
-    assert_slurm(rt, alloc, &request, numbers, name)
+    );
+    assert_slurm(rt, alloc, &request.expect(rt, "a request"), numbers, name);
 }
 
 /// The limit on entries is that of each file.
 #[test]
-fn limits_of_sets_of_slurm_files(rt: HostRuntime) -> Result<(), Fail> {
-    let full = file_of_many(rt.alloc(), 4095)?;
-    assert_two_files(&rt, rt.alloc(), &full, &full, (0, 0), "both full")?;
-    let over = file_of_many(rt.alloc(), 4096)?;
-    assert_two_files(
-        &rt,
-        rt.alloc(),
-        &full,
-        &over,
-        (11, 11),
-        "one over its limit",
-    )
+fn limits_of_sets_of_slurm_files(rt: HostRuntime) {
+    let alloc = rt.alloc();
+    let full = file_of_many(&rt, alloc, 4095);
+    assert_two_files(&rt, alloc, &full, &full, (0, 0), "both full");
+    let over = file_of_many(&rt, alloc, 4096);
+    assert_two_files(&rt, alloc, &full, &over, (11, 11), "one over its limit");
 }
 
 /// A request of this length, with blanks after it.
-fn padded(alloc: Global, length: usize) -> Result<String, AllocError> {
-    let mut line = String::from_str(alloc, REGISTER)?;
+fn padded(rt: &impl Abort, alloc: Global, length: usize) -> String {
+    let mut line = String::from_str(alloc, REGISTER).expect(rt, "a line");
     for _ in REGISTER.len()..length {
-        line.push(' ')?;
+        line.push(' ').expect(rt, "a longer line");
     }
-    Ok(line)
+    line
 }
 
 #[test]
-fn length_is_tested_before_anything_else(rt: HostRuntime) -> Result<(), Fail> {
-    let mut line = padded(rt.alloc(), LINE_LENGTH_LIMIT)?;
-    assert_eq!(rt; reported(rt.alloc(), line.as_bytes()), 0);
-    line.push('{')?;
-    assert_eq!(rt; reported(rt.alloc(), line.as_bytes()), 13);
-    Ok(())
+fn length_is_tested_before_anything_else(rt: HostRuntime) {
+    let mut line = padded(&rt, rt.alloc(), LINE_LENGTH_LIMIT);
+    assert_same(&rt, reported(rt.alloc(), line.as_bytes()), 0, "the limit");
+    line.push('{').expect(&rt, "a longer line");
+    assert_same(&rt, reported(rt.alloc(), line.as_bytes()), 13, "one more");
 }
 
 /// So many entries, each of a prefix of its own.
-fn entries_text(alloc: Global, count: u32) -> Result<String, AllocError> {
+fn entries_text(rt: &impl Abort, alloc: Global, count: u32) -> String {
     let mut entries = String::new(alloc);
     for index in 0..count {
-        let entry = format!(in alloc; r#"{{"prefix":"10.0.{index}.0/24","max":24}}"#)?;
-        push_item(&mut entries, &entry)?;
+        let entry = format!(in alloc; r#"{{"prefix":"10.0.{index}.0/24","max":24}}"#);
+        push_item(rt, &mut entries, &entry.expect(rt, "an entry"));
     }
-    Ok(entries)
+    entries
 }
 
 /// The number of a create with so many entries.
-fn assert_entries(rt: &impl Abort, alloc: Global, count: u32, number: u8) -> Result<(), Fail> {
-    let entries = entries_text(alloc, count)?;
+fn assert_entries(rt: &impl Abort, alloc: Global, count: u32, number: u8) {
+    let entries = entries_text(rt, alloc, count);
     let request = format!(in alloc;
         r#"ann {{"do":"create","holder":"alpha","asn":1,"entries":[{entries}],"from":"2026-01-01","until":"2026-12-31"}}"#
-    )?;
-    let reported = reported_of_request(alloc, &request)?;
-    assert_eq!(rt; reported, number, "{count} entries");
-    Ok(())
+    );
+    let reported = reported_of_request(rt, alloc, &request.expect(rt, "a request"));
+    assert_same(rt, reported, number, (count, "entries"));
 }
 
 /// The number of an amendment to so many maxLengths.
-fn assert_max_lengths(rt: &impl Abort, alloc: Global, count: u32, number: u8) -> Result<(), Fail> {
-    let list = long_list(alloc, "24", count, "24")?;
+fn assert_max_lengths(rt: &impl Abort, alloc: Global, count: u32, number: u8) {
+    let list = long_list(rt, alloc, "24", count, "24");
     let request = format!(in alloc;
         r#"ann {{"do":"amend","holder":"alpha","number":1,"maxes":[{list}],"until":"2026-12-31"}}"#
-    )?;
-    let reported = reported_of_request(alloc, &request)?;
-    assert_eq!(rt; reported, number, "{count} maxLengths");
-    Ok(())
+    );
+    let reported = reported_of_request(rt, alloc, &request.expect(rt, "a request"));
+    assert_same(rt, reported, number, (count, "maxLengths"));
 }
 
 #[test]
-fn authorization_has_up_to_64_entries(rt: HostRuntime) -> Result<(), Fail> {
-    assert_entries(&rt, rt.alloc(), 64, 0)?;
-    assert_entries(&rt, rt.alloc(), 65, 12)?;
-    assert_max_lengths(&rt, rt.alloc(), 64, 0)?;
-    assert_max_lengths(&rt, rt.alloc(), 65, 12)
+fn authorization_has_up_to_64_entries(rt: HostRuntime) {
+    assert_entries(&rt, rt.alloc(), 64, 0);
+    assert_entries(&rt, rt.alloc(), 65, 12);
+    assert_max_lengths(&rt, rt.alloc(), 64, 0);
+    assert_max_lengths(&rt, rt.alloc(), 65, 12);
 }

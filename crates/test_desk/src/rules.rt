@@ -1,5 +1,6 @@
 //! Requests that no line brings, and rows that no short script leaves.
 use crate::desks::example_charter;
+use crate::ready::{assert_same, value_of};
 use crate::scripts::{ALPHA, desk_after};
 use addr::{Asn, Day, Holdings, Name, Prefix};
 use desk::{Desk, Reply, Request};
@@ -10,36 +11,17 @@ use policy::{
 use sqlite::MemStore;
 use std::alloc::Global;
 use std::process::Abort;
-use std::test::Fail;
 
-fn name(text: &str) -> Result<Name, Fail> {
-    Ok(Name::read(text.as_bytes()).ok_or("a name")?)
+fn name(rt: &impl Abort, text: &str) -> Name {
+    Name::read(text.as_bytes()).expect(rt, "a name")
 }
 
-fn first_of_march() -> Result<Day, Fail> {
-    Ok(Day::read(b"2026-03-01").ok_or("a day")?)
+fn prefix(rt: &impl Abort) -> Prefix {
+    Prefix::read(b"192.0.2.0/24").expect(rt, "a prefix")
 }
 
-/// Whether an import without rows makes nothing.
-fn makes_nothing(
-    alloc: Global,
-    desk: &mut Desk<MemStore>,
-    caller: &str,
-    holder: &str,
-) -> Result<bool, Fail> {
-    let (day, asking, asked) = (first_of_march()?, name(caller)?, name(holder)?);
-    let request = Request::Command(Command::Import {
-        holder: asked,
-        rows: Vec::new(alloc),
-    });
-    let reply = desk.handle(day, &asking, &request);
-    Ok(matches!(
-        reply,
-        Reply::Imported {
-            made: 0,
-            present: 0
-        }
-    ))
+fn first_of_march(rt: &impl Abort) -> Day {
+    Day::read(b"2026-03-01").expect(rt, "a day")
 }
 
 /// An import without rows makes nothing, whoever asks for it.
@@ -49,77 +31,77 @@ fn assert_makes_nothing(
     desk: &mut Desk<MemStore>,
     caller: &str,
     holder: &str,
-) -> Result<(), Fail> {
-    let makes_nothing = makes_nothing(alloc, desk, caller, holder)?;
-    assert!(rt; makes_nothing, "{caller} at {holder}");
-    Ok(())
-}
-
-fn assert_none_makes_anything(
-    rt: &impl Abort,
-    alloc: Global,
-    desk: &mut Desk<MemStore>,
-) -> Result<(), Fail> {
-    assert_makes_nothing(rt, alloc, desk, "ann", "alpha")?;
-    assert_makes_nothing(rt, alloc, desk, "bob", "alpha")?;
-    assert_makes_nothing(rt, alloc, desk, "bob", "zeta")
+) {
+    let request = Request::Command(Command::Import {
+        holder: name(rt, holder),
+        rows: Vec::new(alloc),
+    });
+    let reply = desk.handle(first_of_march(rt), &name(rt, caller), &request);
+    let makes_nothing = matches!(
+        reply,
+        Reply::Imported {
+            made: 0,
+            present: 0
+        }
+    );
+    assert_same(rt, makes_nothing, true, (caller, holder));
 }
 
 /// The limits on the number of rows are those of texts alone.
 #[test]
-fn import_without_rows_asks_no_rule(rt: HostRuntime) -> Result<(), Fail> {
-    let name = "import_without_rows_asks_no_rule";
-    let mut desk = desk_after(&rt, rt.alloc(), name, &[ALPHA])?;
-    assert_none_makes_anything(&rt, rt.alloc(), &mut desk)
+fn import_without_rows_asks_no_rule(rt: HostRuntime) {
+    let alloc = rt.alloc();
+    let mut desk = desk_after(&rt, alloc, "import_without_rows_asks_no_rule", &[ALPHA]);
+    assert_makes_nothing(&rt, alloc, &mut desk, "ann", "alpha");
+    assert_makes_nothing(&rt, alloc, &mut desk, "bob", "alpha");
+    assert_makes_nothing(&rt, alloc, &mut desk, "bob", "zeta");
 }
 
-fn holdings(alloc: Global) -> Result<Holdings, Fail> {
-    let prefix = Prefix::read(b"192.0.2.0/24")?;
+fn holdings(rt: &impl Abort, alloc: Global) -> Holdings {
     let mut holdings = Holdings::new(alloc);
-    holdings.add(&prefix)?;
-    Ok(holdings)
+    holdings.add(&prefix(rt)).expect(rt, "holdings");
+    holdings
 }
 
-fn grants(alloc: Global) -> Result<Vec<Granted>, Fail> {
+fn grants(rt: &impl Abort, alloc: Global) -> Vec<Granted> {
     let manager = Granted {
         number: 1,
-        caller: name("ann")?,
+        caller: name(rt, "ann"),
         role: Role::Manager,
         scope: Scope::All,
-        until: first_of_march()?,
+        until: first_of_march(rt),
     };
-    Ok(vec![in alloc; manager]?)
+    vec![in alloc; manager].expect(rt, "a grant")
 }
 
 /// The holder of 192.0.2.0/24 at which so many authorizations were made, none of them active, with
 /// `ann` as its manager.
-fn view_after(alloc: Global, created: u32) -> Result<View, Fail> {
-    let holdings = holdings(alloc)?;
+fn view_after(rt: &impl Abort, alloc: Global, created: u32) -> View {
     let rows = HolderRows {
-        holdings,
-        grants: grants(alloc)?,
+        holdings: holdings(rt, alloc),
+        grants: grants(rt, alloc),
         auths: Vec::new(alloc),
         granted: 1,
         created,
     };
-    Ok(View {
+    View {
         holder: Some(rows),
         taken: false,
-    })
+    }
 }
 
-fn row(asn: u32) -> Result<ImportRow, Fail> {
-    Ok(ImportRow {
+fn row(rt: &impl Abort, asn: u32) -> ImportRow {
+    ImportRow {
         asn: Asn(asn),
-        prefix: Prefix::read(b"192.0.2.0/24")?,
+        prefix: prefix(rt),
         max: 24,
-        from: first_of_march()?,
-        until: first_of_march()?,
-    })
+        from: first_of_march(rt),
+        until: first_of_march(rt),
+    }
 }
 
-fn creation(alloc: Global, asn: u32) -> Result<Proposed, Fail> {
-    Ok(Proposed::Create(row(asn)?.terms(alloc)?))
+fn creation(rt: &impl Abort, alloc: Global, asn: u32) -> Proposed {
+    Proposed::Create(row(rt, asn).terms(alloc).expect(rt, "terms"))
 }
 
 /// The rule and the row that a denial names.
@@ -132,79 +114,77 @@ fn denial<T: Drop>(judged: Result<T, Refusal>) -> Option<(Rule, Option<u64>)> {
 
 /// The decision on an import by `ann` where so many authorizations were made.
 fn import_after(
+    rt: &impl Abort,
     alloc: Global,
     created: u32,
     rows: &[ImportRow],
-) -> Result<Result<Change, Refusal>, Fail> {
-    let (day, caller, holder) = (first_of_march()?, name("ann")?, name("alpha")?);
-    let charter = example_charter(alloc)?;
-    let view = view_after(alloc, created)?;
-    let rows = Vec::from_slice(alloc, rows)?;
-    let command = Command::Import { holder, rows };
-    Ok(decide(alloc, &charter, &view, day, &caller, &command))
+) -> Result<Change, Refusal> {
+    let charter = value_of(rt, example_charter(alloc), "charter");
+    let view = view_after(rt, alloc, created);
+    let command = Command::Import {
+        holder: name(rt, "alpha"),
+        rows: Vec::from_slice(alloc, rows).expect(rt, "rows"),
+    };
+    let day = first_of_march(rt);
+    decide(alloc, &charter, &view, day, &name(rt, "ann"), &command)
 }
 
 #[test]
-fn import_past_number_999999_is_denied(rt: HostRuntime) -> Result<(), Fail> {
-    let rows = [row(1)?, row(2)?];
-    let second = denial(import_after(rt.alloc(), 999_998, &rows)?);
-    assert_eq!(rt; second, Some((Rule::Room, Some(2))));
-    let first = denial(import_after(rt.alloc(), 999_999, &rows)?);
-    assert_eq!(rt; first, Some((Rule::Room, Some(1))));
-    Ok(())
+fn import_past_number_999999_is_denied(rt: HostRuntime) {
+    let rows = [row(&rt, 1), row(&rt, 2)];
+    let second = denial(import_after(&rt, rt.alloc(), 999_998, &rows));
+    assert_same(&rt, second, Some((Rule::Room, Some(2))), "row 2");
+    let first = denial(import_after(&rt, rt.alloc(), 999_999, &rows));
+    assert_same(&rt, first, Some((Rule::Room, Some(1))), "row 1");
 }
 
 /// The change makes one authorization, whose number is the last.
-fn assert_makes_last(rt: &impl Abort, change: &Change) -> Result<(), Fail> {
-    assert_eq!(rt; change.imported(), 1);
+fn assert_makes_last(rt: &impl Abort, change: &Change) {
+    assert_same(rt, change.imported(), 1, "imported");
     let Change::Holders { first, .. } = change else {
-        return Err("another change".into());
+        rt.panic("another change")
     };
     let Edit::Import { auths, created } = &first.edit else {
-        return Err("another edit".into());
+        rt.panic("another edit")
     };
-    assert_eq!(rt; *created, 999_999);
-    assert!(rt; auths.iter().all(|auth| auth.number == 999_999));
-    Ok(())
+    assert_same(rt, *created, 999_999, "created");
+    let all_last = auths.iter().all(|auth| auth.number == 999_999);
+    assert_same(rt, all_last, true, "numbers");
 }
 
 #[test]
-fn number_999999_is_the_last(rt: HostRuntime) -> Result<(), Fail> {
-    let change = import_after(rt.alloc(), 999_998, &[row(1)?])??;
-    assert_makes_last(&rt, &change)
+fn number_999999_is_the_last(rt: HostRuntime) {
+    let change = import_after(&rt, rt.alloc(), 999_998, &[row(&rt, 1)]);
+    assert_makes_last(&rt, &change.expect(&rt, "a change"));
 }
 
 /// What these changes by `ann` would leave where 999,998 authorizations were made.
-fn supposed(alloc: Global, changes: &[Proposed]) -> Result<Result<HolderRows, Refusal>, Fail> {
-    if changes.is_empty() {
-        return Err("no change".into());
-    }
-    let (day, caller) = (first_of_march()?, name("ann")?);
-    let charter = example_charter(alloc)?;
-    let view = view_after(alloc, 999_998)?;
-    Ok(suppose(alloc, &charter, &view, day, &caller, changes))
+fn supposed(rt: &impl Abort, alloc: Global, changes: &[Proposed]) -> Result<HolderRows, Refusal> {
+    assert!(rt; !changes.is_empty());
+    let charter = value_of(rt, example_charter(alloc), "charter");
+    let view = view_after(rt, alloc, 999_998);
+    let day = first_of_march(rt);
+    suppose(alloc, &charter, &view, day, &name(rt, "ann"), changes)
 }
 
 /// A create, its withdrawal and a second create.
-fn creation_after_withdrawal(alloc: Global) -> Result<[Proposed; 3], Fail> {
-    let first = creation(alloc, 1)?;
-    let second = creation(alloc, 2)?;
-    Ok([first, Proposed::Withdraw(999_999), second])
+fn creation_after_withdrawal(rt: &impl Abort, alloc: Global) -> [Proposed; 3] {
+    let first = creation(rt, alloc, 1);
+    let second = creation(rt, alloc, 2);
+    [first, Proposed::Withdraw(999_999), second]
 }
 
 #[test]
-fn supposed_create_counts_as_made(rt: HostRuntime) -> Result<(), Fail> {
-    let changes = creation_after_withdrawal(rt.alloc())?;
-    let third = denial(supposed(rt.alloc(), &changes)?);
-    assert_eq!(rt; third, Some((Rule::Room, Some(3))));
-    Ok(())
+fn supposed_create_counts_as_made(rt: HostRuntime) {
+    let changes = creation_after_withdrawal(&rt, rt.alloc());
+    let third = denial(supposed(&rt, rt.alloc(), &changes));
+    assert_same(&rt, third, Some((Rule::Room, Some(3))), "the third");
 }
 
 #[test]
-fn supposed_create_and_withdrawal_leave_its_number(rt: HostRuntime) -> Result<(), Fail> {
-    let changes = creation_after_withdrawal(rt.alloc())?;
-    let rows = supposed(rt.alloc(), &changes[..2])??;
-    assert!(rt; rows.auths.is_empty());
-    assert_eq!(rt; rows.created, 999_999);
-    Ok(())
+fn supposed_create_and_withdrawal_leave_its_number(rt: HostRuntime) {
+    let changes = creation_after_withdrawal(&rt, rt.alloc());
+    let rows = supposed(&rt, rt.alloc(), &changes[..2]).expect(&rt, "rows");
+    assert_same(&rt, rows.auths.len(), 0, "authorizations");
+    assert_same(&rt, rows.created, 999_999, "created");
 }

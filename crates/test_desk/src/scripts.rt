@@ -4,14 +4,13 @@
 //! Each script begins with a line `# NAME`, or `# NAME after SETUP, SETUP, ..` where other lines
 //! come before its own. A line is `CALLER {"do":..} => REPLY`, sent on the first of March, or
 //! `day DAY`, the day of the lines that follow it.
-use crate::desks::{EXAMPLE_POOL, desk_of, example_desk};
+use crate::desks::EXAMPLE_POOL;
 use crate::fakes::Tape;
+use crate::ready::{new_desk, new_desk_of, row_of};
 use desk::{Asked, Desk, Reply};
 use sqlite::MemStore;
-use std::alloc::{AllocError, Global};
+use std::alloc::Global;
 use std::process::Abort;
-use std::test::Fail;
-use test_library::rows::split_row;
 use test_library::sheet::Sheet;
 use web::{Device, read_line_request, run_script, write_reply};
 
@@ -68,28 +67,36 @@ reg {"do":"grant","holder":"beta","name":"bea","role":"manager","scope":"all","u
 "#;
 
 /// The day of the lines of a script before its first `day`.
-const FIRST_DAY: &str = "2026-03-01";
+pub(crate) const FIRST_DAY: &str = "2026-03-01";
 
 const HALVES: &[&str] = &["192.0.2.0/25", "192.0.2.128/25"];
 
 /// The line of a script on a day, of a request with its caller before it.
-pub(crate) fn line_of(alloc: Global, day: &str, request: &str) -> Result<String, Fail> {
-    let (caller, members) = request.split_once(" {").ok_or("no caller")?;
-    Ok(format!(in alloc; "{{\"day\":\"{day}\",\"caller\":\"{caller}\",{members}")?)
+pub(crate) fn line_of(rt: &impl Abort, alloc: Global, day: &str, request: &str) -> String {
+    let (caller, members) = request.split_once(" {").expect(rt, "a caller");
+    let line = format!(in alloc; "{{\"day\":\"{day}\",\"caller\":\"{caller}\",{members}");
+    line.expect(rt, "a line")
+}
+
+/// Sets the day of the rows that follow.
+pub(crate) fn set_day(rt: &impl Abort, day: &mut String, next: &str) {
+    day.clear();
+    day.push_str(next).expect(rt, "a day");
 }
 
 /// The line of a script on a day, of the request of a row.
-fn row_line(alloc: Global, day: &str, request: &str) -> Result<String, Fail> {
-    let request = exceptions::request_line(alloc, request)?;
-    line_of(alloc, day, &request)
+fn row_line(rt: &impl Abort, alloc: Global, day: &str, request: &str) -> String {
+    let request = exceptions::request_line(rt, alloc, request);
+    line_of(rt, alloc, day, &request)
 }
 
 /// What the desk writes to a script, which a source gives few bytes at a time.
 pub(crate) fn replies_to(
+    rt: &impl Abort,
     alloc: Global,
     desk: &mut Desk<MemStore>,
     script: &str,
-) -> Result<String, Fail> {
+) -> String {
     let mut source = Device::new(Tape {
         bytes: script.as_bytes(),
         piece: 7,
@@ -105,23 +112,24 @@ pub(crate) fn replies_to(
         let mut drain = Device::new(&mut sheet);
         run_script(alloc, &mut source, &mut drain, desk)
     };
-    result?;
-    Ok(String::from_utf8(sheet.bytes)?)
+    result.expect(rt, "replies");
+    String::from_utf8(sheet.bytes).expect(rt, "replies in UTF-8")
 }
 
 /// The reply of the desk to the request of a row on a day.
 pub(crate) fn reply_to(
+    rt: &impl Abort,
     alloc: Global,
     desk: &mut Desk<MemStore>,
     day: &str,
     request: &str,
-) -> Result<String, Fail> {
-    let line = row_line(alloc, day, request)?;
-    replies_to(alloc, desk, &line)
+) -> String {
+    let line = row_line(rt, alloc, day, request);
+    replies_to(rt, alloc, desk, &line)
 }
 
 /// The texts of these replies, a line each.
-pub(crate) fn text_of(alloc: Global, replies: &[Reply]) -> Result<String, Fail> {
+pub(crate) fn text_of(rt: &impl Abort, alloc: Global, replies: &[Reply]) -> String {
     let mut sheet = Sheet {
         bytes: Vec::new(alloc),
         room: usize::MAX,
@@ -129,11 +137,9 @@ pub(crate) fn text_of(alloc: Global, replies: &[Reply]) -> Result<String, Fail> 
     };
     for reply in replies {
         let mut drain = Device::new(&mut sheet);
-        let Ok(()) = write_reply(reply, &mut drain) else {
-            return Err("a reply was not written".into());
-        };
+        write_reply(reply, &mut drain).expect(rt, "a reply");
     }
-    Ok(String::from_utf8(sheet.bytes)?)
+    String::from_utf8(sheet.bytes).expect(rt, "replies in UTF-8")
 }
 
 /// The reply to a request of a script is the expected one.
@@ -148,17 +154,16 @@ pub(crate) fn assert_reply(
 }
 
 /// Appends a line to a text.
-pub(crate) fn push_line(text: &mut String, line: &str) -> Result<(), AllocError> {
-    text.push_str(line)?;
-    text.push('\n')
+pub(crate) fn push_line(rt: &impl Abort, text: &mut String, line: &str) {
+    text.push_str(line).expect(rt, "a longer text");
+    text.push('\n').expect(rt, "a longer text");
 }
 
 /// Appends an item of a list, with a comma before it if it is not the first.
-pub(crate) fn push_item(list: &mut String, item: &str) -> Result<(), AllocError> {
-    if !list.is_empty() {
-        list.push(',')?;
-    }
-    list.push_str(item)
+pub(crate) fn push_item(rt: &impl Abort, list: &mut String, item: &str) {
+    let separator = if list.is_empty() { "" } else { "," };
+    list.push_str(separator).expect(rt, "a longer list");
+    list.push_str(item).expect(rt, "a longer list");
 }
 
 /// A new desk to which these lines were sent.
@@ -167,10 +172,10 @@ pub(crate) fn desk_after(
     alloc: Global,
     name: &str,
     texts: &[&str],
-) -> Result<Desk<MemStore>, Fail> {
-    let mut desk = example_desk(alloc)?;
-    assert_lines(rt, alloc, name, &mut desk, texts)?;
-    Ok(desk)
+) -> Desk<MemStore> {
+    let mut desk = new_desk(rt, alloc);
+    assert_lines(rt, alloc, name, &mut desk, texts);
+    desk
 }
 
 /// These lines, sent to the desk one by one, have their replies.
@@ -180,33 +185,8 @@ pub(crate) fn assert_lines(
     name: &str,
     desk: &mut Desk<MemStore>,
     texts: &[&str],
-) -> Result<(), Fail> {
-    let dialogue = Dialogue::of(alloc, texts)?;
-    dialogue.assert_replies_of_lines(rt, name, desk)
-}
-
-/// The day of the rows of a script that follow.
-#[derive(Drop)]
-pub(crate) struct ScriptDay(String);
-
-impl ScriptDay {
-    pub(crate) fn first(alloc: Global) -> Result<ScriptDay, AllocError> {
-        Ok(ScriptDay(String::from_str(alloc, FIRST_DAY)?))
-    }
-
-    /// Whether the line is `day` and a day, which it then sets for the rows after it.
-    pub(crate) fn is_set_by(&mut self, line: &str) -> Result<bool, AllocError> {
-        let Some(day) = line.strip_prefix("day ") else {
-            return Ok(false);
-        };
-        self.0.clear();
-        self.0.push_str(day)?;
-        Ok(true)
-    }
-
-    pub(crate) fn text(&self) -> &str {
-        &self.0
-    }
+) {
+    Dialogue::of(rt, alloc, texts).assert_replies_of_lines(rt, name, desk);
 }
 
 /// The lines of a script, and the replies that are expected.
@@ -218,39 +198,35 @@ pub(crate) struct Dialogue {
 }
 
 impl Dialogue {
-    fn new(alloc: Global) -> Dialogue {
-        Dialogue {
+    /// The lines of these texts, one after the other.
+    pub(crate) fn of(rt: &impl Abort, alloc: Global, texts: &[&str]) -> Dialogue {
+        let mut dialogue = Dialogue {
             alloc,
             script: String::new(alloc),
             expected: String::new(alloc),
-        }
-    }
-
-    /// The lines of these texts, one after the other.
-    pub(crate) fn of(alloc: Global, texts: &[&str]) -> Result<Dialogue, Fail> {
-        let mut dialogue = Dialogue::new(alloc);
+        };
         for text in texts {
-            dialogue.add(text)?;
+            dialogue.add(rt, text);
         }
-        Ok(dialogue)
+        dialogue
     }
 
-    fn add(&mut self, text: &str) -> Result<(), Fail> {
-        let mut day = ScriptDay::first(self.alloc)?;
+    fn add(&mut self, rt: &impl Abort, text: &str) {
+        let mut day = String::from_str(self.alloc, FIRST_DAY).expect(rt, "a day");
         for line in text.lines() {
-            if !day.is_set_by(line)? && !line.is_empty() {
-                self.add_row(day.text(), line)?;
+            if let Some(next) = line.strip_prefix("day ") {
+                set_day(rt, &mut day, next);
+            } else if !line.is_empty() {
+                self.add_row(rt, &day, line);
             }
         }
-        Ok(())
     }
 
-    fn add_row(&mut self, day: &str, row: &str) -> Result<(), Fail> {
-        let (request, reply) = split_row(row)?;
-        let line = row_line(self.alloc, day, request)?;
-        push_line(&mut self.script, &line)?;
-        push_line(&mut self.expected, reply)?;
-        Ok(())
+    fn add_row(&mut self, rt: &impl Abort, day: &str, row: &str) {
+        let (request, reply) = row_of(rt, row);
+        let line = row_line(rt, self.alloc, day, request);
+        push_line(rt, &mut self.script, &line);
+        push_line(rt, &mut self.expected, reply);
     }
 
     /// The lines, sent to the desk one by one, have their replies.
@@ -259,62 +235,37 @@ impl Dialogue {
         rt: &impl Abort,
         name: &str,
         desk: &mut Desk<MemStore>,
-    ) -> Result<(), Fail> {
-        let written = replies_to(self.alloc, desk, &self.script)?;
+    ) {
+        let written = replies_to(rt, self.alloc, desk, &self.script);
         assert_reply(rt, &written, &self.expected, name, "line by line");
-        Ok(())
     }
 
     /// Each way of sending the lines has its own new desk.
-    fn assert_on_new_desks(&self, rt: &impl Abort, name: &str, pool: &[&str]) -> Result<(), Fail> {
-        self.assert_lines_on_new_desk(rt, name, pool)?;
-        self.assert_run_on_new_desk(rt, name, pool)
-    }
-
-    fn assert_lines_on_new_desk(
-        &self,
-        rt: &impl Abort,
-        name: &str,
-        pool: &[&str],
-    ) -> Result<(), Fail> {
-        let mut desk = desk_of(self.alloc, pool)?;
-        self.assert_replies_of_lines(rt, name, &mut desk)
-    }
-
-    fn assert_run_on_new_desk(
-        &self,
-        rt: &impl Abort,
-        name: &str,
-        pool: &[&str],
-    ) -> Result<(), Fail> {
-        let mut desk = desk_of(self.alloc, pool)?;
-        self.assert_replies_of_run(rt, name, &mut desk)
+    fn assert_on_new_desks(&self, rt: &impl Abort, name: &str, pool: &[&str]) {
+        let mut desk = new_desk_of(rt, self.alloc, pool);
+        self.assert_replies_of_lines(rt, name, &mut desk);
+        let mut desk = new_desk_of(rt, self.alloc, pool);
+        self.assert_replies_of_run(rt, name, &mut desk);
     }
 
     /// The lines that are requests, and their replies.
-    fn requests(&self) -> Result<Requests, Fail> {
+    fn requests(&self, rt: &impl Abort) -> Requests {
         let mut requests = Requests {
             asked: Vec::new(self.alloc),
             expected: String::new(self.alloc),
         };
         for (line, reply) in self.script.lines().zip(self.expected.lines()) {
-            requests.add(self.alloc, line, reply)?;
+            requests.add(rt, self.alloc, line, reply);
         }
-        Ok(requests)
+        requests
     }
 
     /// The lines that are requests, sent as one list, have the same replies.
-    fn assert_replies_of_run(
-        &self,
-        rt: &impl Abort,
-        name: &str,
-        desk: &mut Desk<MemStore>,
-    ) -> Result<(), Fail> {
-        let requests = self.requests()?;
-        let replies = desk.run(requests.asked.as_slice())?;
-        let written = text_of(self.alloc, &replies)?;
+    fn assert_replies_of_run(&self, rt: &impl Abort, name: &str, desk: &mut Desk<MemStore>) {
+        let requests = self.requests(rt);
+        let replies = desk.run(requests.asked.as_slice()).expect(rt, "replies");
+        let written = text_of(rt, self.alloc, &replies);
         assert_reply(rt, &written, &requests.expected, name, "as one list");
-        Ok(())
     }
 }
 
@@ -327,12 +278,11 @@ struct Requests {
 
 impl Requests {
     /// A line that is no request is left out.
-    fn add(&mut self, alloc: Global, line: &str, reply: &str) -> Result<(), AllocError> {
+    fn add(&mut self, rt: &impl Abort, alloc: Global, line: &str, reply: &str) {
         if let Ok(one) = read_line_request(alloc, line.as_bytes()) {
-            self.asked.push(one)?;
-            push_line(&mut self.expected, reply)?;
+            self.asked.push(one).expect(rt, "a longer list");
+            push_line(rt, &mut self.expected, reply);
         }
-        Ok(())
     }
 }
 
@@ -344,157 +294,150 @@ fn assert_replies(
     name: &str,
     texts: &[&str],
     lines: &str,
-) -> Result<(), Fail> {
-    let mut dialogue = Dialogue::of(alloc, texts)?;
-    dialogue.add(lines)?;
-    dialogue.assert_on_new_desks(rt, name, pool)
+) {
+    let mut dialogue = Dialogue::of(rt, alloc, texts);
+    dialogue.add(rt, lines);
+    dialogue.assert_on_new_desks(rt, name, pool);
 }
 
 /// The lines of a set-up.
-fn setup_of(name: &str) -> Result<&'static str, Fail> {
+fn setup_of(rt: &impl Abort, name: &str) -> &'static str {
     match name {
-        "holder" => Ok(ALPHA),
-        "authorization" => Ok(AUTHORIZATION),
-        "amendment" => Ok(amendments::AMENDMENT),
-        "clerk" => Ok(grants::CLERK_OF_THE_LOWER_HALF),
-        "exceptions" => Ok(exceptions::FILTER_AND_ASSERTION),
-        "import" => Ok(imports::TWO_ROWS),
-        "other holder" => Ok(BETA),
-        "two families" => Ok(several_prefixes::TWO_FAMILIES),
-        "reclaimed part" => Ok(resources::PART_RECLAIMED),
-        _ => Err("no set-up of that name".into()),
+        "holder" => ALPHA,
+        "authorization" => AUTHORIZATION,
+        "amendment" => amendments::AMENDMENT,
+        "clerk" => grants::CLERK_OF_THE_LOWER_HALF,
+        "exceptions" => exceptions::FILTER_AND_ASSERTION,
+        "import" => imports::TWO_ROWS,
+        "other holder" => BETA,
+        "two families" => several_prefixes::TWO_FAMILIES,
+        "reclaimed part" => resources::PART_RECLAIMED,
+        _ => rt.panic(format_args!("no set-up {name}")),
     }
 }
 
 /// The lines of the set-ups that a heading names.
-pub(crate) fn setups_of(alloc: Global, heading: &str) -> Result<Vec<&'static str>, Fail> {
+pub(crate) fn setups_of(rt: &impl Abort, alloc: Global, heading: &str) -> Vec<&'static str> {
     let mut texts = Vec::new(alloc);
     if let Some((_, setups)) = heading.split_once(" after ") {
         for setup in setups.split(',') {
-            texts.push(setup_of(setup.trim())?)?;
+            texts
+                .push(setup_of(rt, setup.trim()))
+                .expect(rt, "a longer list");
         }
     }
-    Ok(texts)
+    texts
 }
 
 /// The script of a heading and lines has its replies.
-pub(crate) fn assert_script(rt: &impl Abort, alloc: Global, script: &str) -> Result<(), Fail> {
+pub(crate) fn assert_script(rt: &impl Abort, alloc: Global, script: &str) {
     let (heading, lines) = script.split_once('\n').unwrap_or((script, ""));
-    let texts = setups_of(alloc, heading)?;
-    assert_replies(rt, alloc, EXAMPLE_POOL, heading, &texts, lines)
+    let texts = setups_of(rt, alloc, heading);
+    assert_replies(rt, alloc, EXAMPLE_POOL, heading, &texts, lines);
 }
 
-fn assert_all(rt: &impl Abort, alloc: Global, scripts: &str) -> Result<(), Fail> {
+fn assert_all(rt: &impl Abort, alloc: Global, scripts: &str) {
     for script in scripts.split("\n# ").skip(1) {
-        assert_script(rt, alloc, script)?;
+        assert_script(rt, alloc, script);
     }
-    Ok(())
 }
 
 /// The script of a pair whose own lines begin so; the other's begin with `other`.
-fn one_of_pair(alloc: Global, pair: &str, own: &str, other: &str) -> Result<String, Fail> {
+fn one_of_pair(rt: &impl Abort, alloc: Global, pair: &str, own: &str, other: &str) -> String {
     let mut script = String::new(alloc);
     for line in pair.lines() {
         if !line.starts_with(other) {
-            push_line(&mut script, line.strip_prefix(own).unwrap_or(line))?;
+            push_line(rt, &mut script, line.strip_prefix(own).unwrap_or(line));
         }
     }
-    Ok(script)
+    script
 }
 
 /// A script that sends its first line twice, and all lines that follow the second reply after each
 /// of the two.
-fn asked_twice(alloc: Global, script: &str) -> Result<String, Fail> {
-    let (heading, lines) = script.split_once('\n').ok_or("no lines")?;
-    let (first, after_first) = lines.split_once('\n').ok_or("no second reply")?;
-    let (again, looks) = after_first.split_once('\n').ok_or("nothing is looked at")?;
-    let (request, _) = split_row(first)?;
-    let second = again.strip_prefix("again").ok_or("no second reply")?;
-    let asked = format!(in alloc; "{heading}\n{first}\n{looks}\n{request}{second}\n{looks}")?;
-    Ok(asked)
+fn asked_twice(rt: &impl Abort, alloc: Global, script: &str) -> String {
+    let (heading, lines) = script.split_once('\n').expect(rt, "lines");
+    let (first, after_first) = lines.split_once('\n').expect(rt, "a second reply");
+    let (again, looks) = after_first.split_once('\n').expect(rt, "what is looked at");
+    let (request, _) = row_of(rt, first);
+    let second = again.strip_prefix("again").expect(rt, "a second reply");
+    let asked = format!(in alloc; "{heading}\n{first}\n{looks}\n{request}{second}\n{looks}");
+    asked.expect(rt, "a script")
 }
 
 #[test]
-fn scripts_have_their_replies(rt: HostRuntime) -> Result<(), Fail> {
-    assert_all(&rt, rt.alloc(), resources::SCRIPTS)?;
-    assert_all(&rt, rt.alloc(), grants::SCRIPTS)?;
-    assert_all(&rt, rt.alloc(), authorizations::SCRIPTS)?;
-    assert_all(&rt, rt.alloc(), amendments::SCRIPTS)?;
-    assert_all(&rt, rt.alloc(), several_prefixes::SCRIPTS)?;
-    assert_all(&rt, rt.alloc(), slurm_sets::SCRIPTS)?;
-    assert_all(&rt, rt.alloc(), roa_contents::SCRIPTS)?;
-    assert_all(&rt, rt.alloc(), imports::SCRIPTS)?;
-    assert_all(&rt, rt.alloc(), what_if::SCRIPTS)?;
-    assert_all(&rt, rt.alloc(), vrps::SCRIPTS)?;
-    assert_all(&rt, rt.alloc(), exceptions::SCRIPTS)
+fn scripts_have_their_replies(rt: HostRuntime) {
+    assert_all(&rt, rt.alloc(), resources::SCRIPTS);
+    assert_all(&rt, rt.alloc(), grants::SCRIPTS);
+    assert_all(&rt, rt.alloc(), authorizations::SCRIPTS);
+    assert_all(&rt, rt.alloc(), amendments::SCRIPTS);
+    assert_all(&rt, rt.alloc(), several_prefixes::SCRIPTS);
+    assert_all(&rt, rt.alloc(), slurm_sets::SCRIPTS);
+    assert_all(&rt, rt.alloc(), roa_contents::SCRIPTS);
+    assert_all(&rt, rt.alloc(), imports::SCRIPTS);
+    assert_all(&rt, rt.alloc(), what_if::SCRIPTS);
+    assert_all(&rt, rt.alloc(), vrps::SCRIPTS);
+    assert_all(&rt, rt.alloc(), exceptions::SCRIPTS);
 }
 
-fn assert_one_of_pair(
-    rt: &impl Abort,
-    alloc: Global,
-    pair: &str,
-    own: &str,
-    other: &str,
-) -> Result<(), Fail> {
-    let script = one_of_pair(alloc, pair, own, other)?;
-    assert_script(rt, alloc, &script)
+fn assert_one_of_pair(rt: &impl Abort, alloc: Global, pair: &str, own: &str, other: &str) {
+    let script = one_of_pair(rt, alloc, pair, own, other);
+    assert_script(rt, alloc, &script);
 }
 
 #[test]
-fn other_holders_change_no_reply(rt: HostRuntime) -> Result<(), Fail> {
+fn other_holders_change_no_reply(rt: HostRuntime) {
     for pair in other_holders::PAIRS.split("\n# ").skip(1) {
-        assert_one_of_pair(&rt, rt.alloc(), pair, "first: ", "second: ")?;
-        assert_one_of_pair(&rt, rt.alloc(), pair, "second: ", "first: ")?;
+        assert_one_of_pair(&rt, rt.alloc(), pair, "first: ", "second: ");
+        assert_one_of_pair(&rt, rt.alloc(), pair, "second: ", "first: ");
     }
-    Ok(())
 }
 
 #[test]
-fn asked_again_changes_nothing(rt: HostRuntime) -> Result<(), Fail> {
+fn asked_again_changes_nothing(rt: HostRuntime) {
     for script in repeats::TWICE.split("\n# ").skip(1) {
-        let script = asked_twice(rt.alloc(), script)?;
-        assert_script(&rt, rt.alloc(), &script)?;
+        let script = asked_twice(&rt, rt.alloc(), script);
+        assert_script(&rt, rt.alloc(), &script);
     }
-    Ok(())
 }
 
 #[test]
-fn answers_without_want_of_memory_in_ample_memory(rt: HostRuntime) -> Result<(), Fail> {
+fn answers_without_want_of_memory_in_ample_memory(rt: HostRuntime) {
     let name = "answers_without_want_of_memory_in_ample_memory";
-    assert_replies(
-        &rt,
-        rt.alloc(),
-        EXAMPLE_POOL,
-        name,
-        &[ALPHA, AUTHORIZATION],
-        EVERY_REQUEST,
-    )
+    let texts = [ALPHA, AUTHORIZATION];
+    assert_replies(&rt, rt.alloc(), EXAMPLE_POOL, name, &texts, EVERY_REQUEST);
 }
 
 #[test]
-fn delegate_over_two_prefixes_of_the_pool(rt: HostRuntime) -> Result<(), Fail> {
+fn delegate_over_two_prefixes_of_the_pool(rt: HostRuntime) {
     let name = "delegate_over_two_prefixes_of_the_pool";
-    assert_replies(&rt, rt.alloc(), HALVES, name, &[ALPHA], "")
+    assert_replies(&rt, rt.alloc(), HALVES, name, &[ALPHA], "");
+}
+
+/// The rows of grants 2 to 64.
+fn filling_grants(rt: &impl Abort, alloc: Global) -> String {
+    let mut filling = String::new(alloc);
+    for number in 2u32..=64 {
+        let row = format!(in alloc; "{} => {{\"done\":{number}}}", grants::SHORT_GRANT);
+        push_line(rt, &mut filling, &row.expect(rt, "a row"));
+    }
+    filling
 }
 
 #[test]
-fn unrevoked_grants_fill_the_room(rt: HostRuntime) -> Result<(), Fail> {
-    let mut filling = String::new(rt.alloc());
-    for number in 2u32..=64 {
-        let row = format!(in rt.alloc(); "{} => {{\"done\":{number}}}\n", grants::SHORT_GRANT)?;
-        filling.push_str(&row)?;
-    }
+fn unrevoked_grants_fill_the_room(rt: HostRuntime) {
+    let filling = filling_grants(&rt, rt.alloc());
     let texts = [ALPHA, filling.as_str()];
     let name = "unrevoked_grants_fill_the_room";
-    assert_replies(&rt, rt.alloc(), EXAMPLE_POOL, name, &texts, grants::NO_ROOM)
+    assert_replies(&rt, rt.alloc(), EXAMPLE_POOL, name, &texts, grants::NO_ROOM);
 }
 
 #[test]
-fn import_of_1001_rows_has_no_room(rt: HostRuntime) -> Result<(), Fail> {
+fn import_of_1001_rows_has_no_room(rt: HostRuntime) {
     let alloc = rt.alloc();
-    let refused = imports::import_of_many(alloc, 1001, r#"{"denied":"room","row":1001}"#)?;
-    let made = imports::import_of_many(alloc, 1000, r#"{"made":1000,"present":0}"#)?;
-    let present = imports::import_of_many(alloc, 1000, r#"{"made":0,"present":1000}"#)?;
+    let refused = imports::import_of_many(&rt, alloc, 1001, r#"{"denied":"room","row":1001}"#);
+    let made = imports::import_of_many(&rt, alloc, 1000, r#"{"made":1000,"present":0}"#);
+    let present = imports::import_of_many(&rt, alloc, 1000, r#"{"made":0,"present":1000}"#);
     let texts = [
         ALPHA,
         refused.as_str(),
@@ -504,38 +447,33 @@ fn import_of_1001_rows_has_no_room(rt: HostRuntime) -> Result<(), Fail> {
         refused.as_str(),
     ];
     let name = "import_of_1001_rows_has_no_room";
-    assert_replies(&rt, alloc, EXAMPLE_POOL, name, &texts, imports::FULL)
+    assert_replies(&rt, alloc, EXAMPLE_POOL, name, &texts, imports::FULL);
 }
 
 #[test]
-fn thousandth_authorization_is_created(rt: HostRuntime) -> Result<(), Fail> {
-    let made = imports::import_of_many(rt.alloc(), 999, r#"{"made":999,"present":0}"#)?;
+fn thousandth_authorization_is_created(rt: HostRuntime) {
+    let made = imports::import_of_many(&rt, rt.alloc(), 999, r#"{"made":999,"present":0}"#);
     let texts = [ALPHA, made.as_str()];
     let name = "thousandth_authorization_is_created";
     let lines = imports::ALMOST_FULL;
-    assert_replies(&rt, rt.alloc(), EXAMPLE_POOL, name, &texts, lines)
+    assert_replies(&rt, rt.alloc(), EXAMPLE_POOL, name, &texts, lines);
 }
 
 #[test]
-fn families_are_asked_apart(rt: HostRuntime) -> Result<(), Fail> {
+fn families_are_asked_apart(rt: HostRuntime) {
     let name = "families_are_asked_apart";
     let lines = resources::FAMILIES_OF_ZEROS;
-    assert_replies(&rt, rt.alloc(), resources::ZEROS, name, &[], lines)
+    assert_replies(&rt, rt.alloc(), resources::ZEROS, name, &[], lines);
 }
 
 #[test]
-fn what_if_takes_a_thousand_changes(rt: HostRuntime) -> Result<(), Fail> {
+fn what_if_takes_a_thousand_changes(rt: HostRuntime) {
     let alloc = rt.alloc();
-    let most = imports::what_if_of_many(alloc, 1000, r#"{"report":[["NotFound","Valid"]]}"#)?;
-    let more = imports::what_if_of_many(alloc, 1001, r#"{"malformed":12}"#)?;
+    let report = r#"{"report":[["NotFound","Valid"]]}"#;
+    let most = imports::what_if_of_many(&rt, alloc, 1000, report);
+    let more = imports::what_if_of_many(&rt, alloc, 1001, r#"{"malformed":12}"#);
     let texts = [ALPHA, most.as_str(), more.as_str()];
     let name = "what_if_takes_a_thousand_changes";
-    assert_replies(
-        &rt,
-        alloc,
-        EXAMPLE_POOL,
-        name,
-        &texts,
-        imports::NOTHING_LISTED,
-    )
+    let lines = imports::NOTHING_LISTED;
+    assert_replies(&rt, alloc, EXAMPLE_POOL, name, &texts, lines);
 }

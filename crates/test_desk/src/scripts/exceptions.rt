@@ -2,9 +2,10 @@
 //!
 //! A row `slurm FILTERS ; ASSERTIONS` is the request of the operator `reg` with the file of these
 //! entries.
+use super::push_item;
 use super::slurm_sets::set_line;
 use std::alloc::Global;
-use std::test::Fail;
+use std::process::Abort;
 
 /// A filter that removes the one VRP, and an assertion of the same VRP.
 pub(crate) const FILTER_AND_ASSERTION: &str = r#"
@@ -97,34 +98,49 @@ bob {"do":"payloads"} => {"payloads":[{"asn":64496,"prefix":"198.51.100.0/24","m
 "#;
 
 /// The file of these filters and these assertions.
-pub(crate) fn slurm_file(alloc: Global, filters: &str, assertions: &str) -> Result<String, Fail> {
+pub(crate) fn slurm_file(
+    rt: &impl Abort,
+    alloc: Global,
+    filters: &str,
+    assertions: &str,
+) -> String {
     let file = format!(in alloc;
         "{{\"slurmVersion\":1,\
          \"validationOutputFilters\":{{\"prefixFilters\":[{filters}],\"bgpsecFilters\":[]}},\
          \"locallyAddedAssertions\":{{\"prefixAssertions\":[{assertions}],\"bgpsecAssertions\":[]}}}}"
-    )?;
-    Ok(file)
+    );
+    file.expect(rt, "a file")
+}
+
+/// The file `FILTERS ; ASSERTIONS` of a row.
+pub(crate) fn file_of(rt: &impl Abort, alloc: Global, lists: &str) -> String {
+    let (filters, assertions) = lists.split_once(';').expect(rt, "two lists");
+    slurm_file(rt, alloc, filters.trim(), assertions.trim())
+}
+
+/// The request of the operator `reg` with this file.
+fn file_line(rt: &impl Abort, alloc: Global, lists: &str) -> String {
+    let file = file_of(rt, alloc, lists);
+    format!(in alloc; "reg {{\"do\":\"slurm\",\"file\":{file}}}").expect(rt, "a request")
 }
 
 /// The request of a row that begins with `slurm ` or `slurms `; any other as it is.
-pub(crate) fn request_line(alloc: Global, row: &str) -> Result<String, Fail> {
+pub(crate) fn request_line(rt: &impl Abort, alloc: Global, row: &str) -> String {
     if let Some(files) = row.strip_prefix("slurms ") {
-        return set_line(alloc, files);
+        set_line(rt, alloc, files)
+    } else if let Some(lists) = row.strip_prefix("slurm ") {
+        file_line(rt, alloc, lists)
+    } else {
+        String::from_str(alloc, row).expect(rt, "a request")
     }
-    let Some(lists) = row.strip_prefix("slurm ") else {
-        return Ok(String::from_str(alloc, row)?);
-    };
-    let (filters, assertions) = lists.split_once(';').ok_or("no two lists")?;
-    let file = slurm_file(alloc, filters.trim(), assertions.trim())?;
-    let request = format!(in alloc; "reg {{\"do\":\"slurm\",\"file\":{file}}}")?;
-    Ok(request)
 }
 
 /// The file of so many filters, and one assertion.
-pub(crate) fn file_of_many(alloc: Global, filters: u32) -> Result<String, Fail> {
-    let mut list = String::from_str(alloc, r#"{"asn":64499}"#)?;
-    for _ in 1..filters {
-        list.push_str(r#",{"asn":64499}"#)?;
+pub(crate) fn file_of_many(rt: &impl Abort, alloc: Global, filters: u32) -> String {
+    let mut list = String::new(alloc);
+    for _ in 0..filters {
+        push_item(rt, &mut list, r#"{"asn":64499}"#);
     }
-    slurm_file(alloc, &list, r#"{"asn":64500,"prefix":"198.51.100.0/24"}"#)
+    let assertion = r#"{"asn":64500,"prefix":"198.51.100.0/24"}"#;
+    slurm_file(rt, alloc, &list, assertion)
 }

@@ -1,7 +1,7 @@
 //! Imports: what is made, what is present already, and what an import is denied for.
 use super::push_item;
 use std::alloc::Global;
-use std::test::Fail;
+use std::process::Abort;
 
 /// Two rows, one for each half of the one prefix.
 pub(crate) const TWO_ROWS: &str = r#"
@@ -114,33 +114,33 @@ ann {"do":"create","holder":"alpha","asn":64497,"prefix":"192.0.2.0/25","max":25
 "#;
 
 /// So many objects that begin with these members, one for each AS from 1 on.
-fn terms_of_many(alloc: Global, members: &str, count: u32) -> Result<String, Fail> {
+fn terms_of_many(rt: &impl Abort, alloc: Global, members: &str, count: u32) -> String {
     let mut objects = String::new(alloc);
     for asn in 1..=count {
         let object = format!(in alloc;
             "{{{members}\"asn\":{asn},\"prefix\":\"192.0.2.0/24\",\"max\":24,\
              \"from\":\"2026-01-01\",\"until\":\"2026-12-31\"}}"
-        )?;
-        push_item(&mut objects, &object)?;
+        );
+        push_item(rt, &mut objects, &object.expect(rt, "an object"));
     }
-    Ok(objects)
+    objects
 }
 
 /// The import of so many rows, with its reply.
-pub(crate) fn import_of_many(alloc: Global, count: u32, reply: &str) -> Result<String, Fail> {
-    let rows = terms_of_many(alloc, "", count)?;
+pub(crate) fn import_of_many(rt: &impl Abort, alloc: Global, count: u32, reply: &str) -> String {
+    let rows = terms_of_many(rt, alloc, "", count);
     let line = format!(in alloc;
         "ann {{\"do\":\"import\",\"holder\":\"alpha\",\"rows\":[{rows}]}} => {reply}"
-    )?;
-    Ok(line)
+    );
+    line.expect(rt, "a line")
 }
 
 /// The question what so many creates would do, with its reply.
-pub(crate) fn what_if_of_many(alloc: Global, count: u32, reply: &str) -> Result<String, Fail> {
-    let changes = terms_of_many(alloc, "\"do\":\"create\",", count)?;
+pub(crate) fn what_if_of_many(rt: &impl Abort, alloc: Global, count: u32, reply: &str) -> String {
+    let changes = terms_of_many(rt, alloc, "\"do\":\"create\",", count);
     let line = format!(in alloc;
         "ann {{\"do\":\"whatif\",\"holder\":\"alpha\",\"changes\":[{changes}],\
          \"routes\":[{{\"prefix\":\"192.0.2.0/24\",\"origin\":1000}}]}} => {reply}"
-    )?;
-    Ok(line)
+    );
+    line.expect(rt, "a line")
 }

@@ -2,10 +2,10 @@
 //!
 //! A row `slurms NAME FILTERS ; ASSERTIONS | NAME FILTERS ; ASSERTIONS ..` is the request of the
 //! operator `reg` with the files of these entries.
-use super::exceptions::slurm_file;
+use super::exceptions::file_of;
 use super::push_item;
 use std::alloc::Global;
-use std::test::Fail;
+use std::process::Abort;
 
 pub(crate) const SCRIPTS: &str = r#"
 # slurm_files_that_do_not_overlap after holder, authorization
@@ -83,21 +83,17 @@ bob {"do":"payloads"} => {"payloads":[{"asn":64500,"prefix":"198.51.100.0/24","m
 "#;
 
 /// The request of the operator `reg` with the files of a row `slurms`.
-pub(crate) fn set_line(alloc: Global, files: &str) -> Result<String, Fail> {
+pub(crate) fn set_line(rt: &impl Abort, alloc: Global, files: &str) -> String {
     let mut list = String::new(alloc);
     for named in files.split(" | ") {
-        let file = named_file(alloc, named)?;
-        push_item(&mut list, &file)?;
+        push_item(rt, &mut list, &named_file(rt, alloc, named));
     }
-    let request = format!(in alloc; "reg {{\"do\":\"slurm\",\"files\":[{list}]}}")?;
-    Ok(request)
+    format!(in alloc; "reg {{\"do\":\"slurm\",\"files\":[{list}]}}").expect(rt, "a request")
 }
 
 /// The file `NAME FILTERS ; ASSERTIONS` with its name.
-fn named_file(alloc: Global, named: &str) -> Result<String, Fail> {
-    let (name, lists) = named.split_once(' ').ok_or("no name")?;
-    let (filters, assertions) = lists.split_once(';').ok_or("no two lists")?;
-    let file = slurm_file(alloc, filters.trim(), assertions.trim())?;
-    let named = format!(in alloc; "{{\"name\":\"{name}\",\"file\":{file}}}")?;
-    Ok(named)
+fn named_file(rt: &impl Abort, alloc: Global, named: &str) -> String {
+    let (name, lists) = named.split_once(' ').expect(rt, "a name");
+    let file = file_of(rt, alloc, lists);
+    format!(in alloc; "{{\"name\":\"{name}\",\"file\":{file}}}").expect(rt, "a named file")
 }

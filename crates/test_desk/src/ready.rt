@@ -1,0 +1,63 @@
+//! What tests begin with, and their one comparison. A test that lacks something ends here, so that
+//! the functions which call these have no early end of their own to prove.
+use crate::desks::{desk_of, example_desk, opened};
+use desk::Desk;
+use sqlite::{Connection, MemStore};
+use std::alloc::Global;
+use std::fmt::Debug;
+use std::process::Abort;
+use std::test::Fail;
+use test_library::rows::split_row;
+use test_store::example_database::{TABLES, made, made_old};
+
+/// What a helper of another crate made.
+pub(crate) fn value_of<T>(rt: &impl Abort, given: Result<T, Fail>, what: &str) -> T {
+    match given {
+        Ok(value) => value,
+        Err(_) => rt.panic(format_args!("no {what}")),
+    }
+}
+
+/// What was found is what was expected. The message names the case where it is not.
+pub(crate) fn assert_same<T: PartialEq + Debug + Drop, C: Debug + Drop>(
+    rt: &impl Abort,
+    found: T,
+    expected: T,
+    case: C,
+) {
+    assert_eq!(rt; found, expected, "at {case:?}");
+}
+
+/// A new desk with the operator `reg` and this pool.
+pub(crate) fn new_desk_of(rt: &impl Abort, alloc: Global, pool: &[&str]) -> Desk<MemStore> {
+    value_of(rt, desk_of(alloc, pool), "desk")
+}
+
+/// A new desk with the charter of the example.
+pub(crate) fn new_desk(rt: &impl Abort, alloc: Global) -> Desk<MemStore> {
+    value_of(rt, example_desk(alloc), "desk")
+}
+
+/// The desk of a database.
+pub(crate) fn opened_desk(
+    rt: &impl Abort,
+    alloc: Global,
+    conn: Connection<MemStore>,
+) -> Desk<MemStore> {
+    value_of(rt, opened(alloc, conn), "open desk")
+}
+
+/// The database that another program made.
+pub(crate) fn database(rt: &impl Abort, alloc: Global) -> Connection<MemStore> {
+    value_of(rt, made(alloc, TABLES), "database")
+}
+
+/// The same of schema 1.
+pub(crate) fn old_database(rt: &impl Abort, alloc: Global) -> Connection<MemStore> {
+    value_of(rt, made_old(alloc), "database of schema 1")
+}
+
+/// The input and the output of a row.
+pub(crate) fn row_of<'a>(rt: &impl Abort, row: &'a str) -> (&'a str, &'a str) {
+    value_of(rt, split_row(row), row)
+}
