@@ -4,14 +4,12 @@ use cli_tasks::serve::{Connections, Incoming, Network, Printed, serve_on};
 use cli_texts::charter_from;
 use desk::Desk;
 use sqlite::{Alter, MemStore};
-use std::alloc::{AllocError, Global};
+use std::alloc::Global;
 use std::io::{self, ErrorKind, Read, Write};
 use std::net::{Shutdown, SocketAddr, TcpListener, TcpStream};
 use std::process::Abort;
 use std::rt::HostRuntime;
-use std::test::Fail;
 use std::time::Clock;
-use web::Failed;
 
 pub(crate) const CHARTER: &str = "kind,value\noperator,reg\npool,192.0.2.0/24\n";
 
@@ -54,36 +52,39 @@ pub(crate) struct Served {
 }
 
 fn request(
+    test: &impl Abort,
     alloc: Global,
     (caller, method, path, body): (&str, &str, &str, &str),
-) -> Result<String, AllocError> {
-    format!(in alloc;
+) -> String {
+    let text = format!(in alloc;
         "{method} {path} HTTP/1.1\r\nDesk-Caller: {caller}\r\n\
         Content-Length: {}\r\n\r\n{body}",
         body.len()
-    )
+    );
+    text.expect(test, "a text")
 }
 
 /// Adds the requests as texts.
 pub(crate) fn add_requests(
+    test: &impl Abort,
     alloc: Global,
     parts: &[(&str, &str, &str, &str)],
     texts: &mut Vec<String>,
-) -> Result<(), AllocError> {
+) {
     for one in parts {
-        texts.push(request(alloc, *one)?)?;
+        texts.push(request(test, alloc, *one)).expect(test, "texts");
     }
-    Ok(())
 }
 
 /// The requests as texts.
 pub(crate) fn requests(
+    test: &impl Abort,
     alloc: Global,
     parts: &[(&str, &str, &str, &str)],
-) -> Result<Vec<String>, AllocError> {
+) -> Vec<String> {
     let mut texts = Vec::new(alloc);
-    add_requests(alloc, parts, &mut texts)?;
-    Ok(texts)
+    add_requests(test, alloc, parts, &mut texts);
+    texts
 }
 
 /// What a client does once its text is sent.
@@ -168,91 +169,65 @@ impl Network for Bound {
 }
 
 /// A client that waits for its connection to be accepted, and the socket that has to accept it.
-pub(crate) fn waiting_client(rt: &HostRuntime) -> io::Result<(TcpStream, TcpListener)> {
-    let listener = TcpListener::bind(rt, "127.0.0.1:0")?;
-    let client = TcpStream::connect(rt, listener.local_addr()?)?;
-    Ok((client, listener))
+pub(crate) fn waiting_client(test: &impl Abort, rt: &HostRuntime) -> (TcpStream, TcpListener) {
+    let listener = TcpListener::bind(rt, "127.0.0.1:0").expect(test, "a socket");
+    let address = listener.local_addr().expect(test, "an address");
+    let client = TcpStream::connect(rt, address).expect(test, "a client");
+    (client, listener)
 }
 
 /// What the client is answered.
-pub(crate) fn answer_to(alloc: Global, client: &mut TcpStream) -> Result<String, Fail> {
+pub(crate) fn answer_to(test: &impl Abort, alloc: Global, client: &mut TcpStream) -> String {
     let mut answer = String::new(alloc);
-    client.read_to_string(&mut answer)?;
-    Ok(answer)
-}
-
-fn add_answers(
-    alloc: Global,
-    clients: &mut Vec<TcpStream>,
-    answers: &mut Vec<String>,
-) -> Result<(), Fail> {
-    for client in clients {
-        answers.push(answer_to(alloc, client)?)?;
-    }
-    Ok(())
+    client.read_to_string(&mut answer).expect(test, "an answer");
+    answer
 }
 
 /// What each client is answered.
-pub(crate) fn answers_to(alloc: Global, clients: &mut Vec<TcpStream>) -> Result<Vec<String>, Fail> {
-    let mut answers = Vec::new(alloc);
-    add_answers(alloc, clients, &mut answers)?;
-    Ok(answers)
-}
-
-/// The desk answers this many connections, and adds the lines on them.
-fn answer_all<C: Connections, S: Alter>(
+pub(crate) fn answers_to(
+    test: &impl Abort,
     alloc: Global,
-    connections: &mut C,
-    count: u32,
-    desk: &mut Desk<S>,
-    day: Day,
-    errors: &mut Vec<u8>,
-) -> Result<(), Fail> {
-    connections.listen()?;
-    let mut log = Printed::new(errors);
-    match serve_on(alloc, connections, count, desk, day, &mut log) {
-        Ok(()) => Ok(()),
-        Err(Failed) => Err(io::Error::from(ErrorKind::Other).into()),
+    clients: &mut Vec<TcpStream>,
+) -> Vec<String> {
+    let mut answers = Vec::new(alloc);
+    for client in clients {
+        let answer = answer_to(test, alloc, client);
+        answers.push(answer).expect(test, "answers");
     }
+    answers
 }
 
 /// The desk serves this many connections over the network. The lines on them.
 pub(crate) fn serve_over<R: Clock, N: Network, S: Alter>(
-    rt: &HostRuntime,
+    test: &impl Abort,
+    alloc: Global,
     clock: &R,
     network: &mut N,
     count: u32,
     desk: &mut Desk<S>,
-    day: Day,
-) -> Result<Vec<u8>, Fail> {
-    let mut errors = Vec::new(rt.alloc());
+) -> Vec<u8> {
+    let day = first_of_march(test);
+    let mut errors = Vec::new(alloc);
     let mut connections = Incoming::new(clock, network, "127.0.0.1:0");
-    answer_all(rt.alloc(), &mut connections, count, desk, day, &mut errors)?;
-    Ok(errors)
-}
-
-fn serve_callers<R: Clock, S: Alter>(
-    rt: &HostRuntime,
-    clock: &R,
-    desk: &mut Desk<S>,
-    day: Day,
-    callers: &mut Callers<'_>,
-) -> Result<Served, Fail> {
-    let count = callers.count();
-    let errors = serve_over(rt, clock, callers, count, desk, day)?;
-    let answers = answers_to(rt.alloc(), &mut callers.clients)?;
-    Ok(Served { answers, errors })
+    connections.listen().expect(test, "a socket");
+    let mut log = Printed::new(&mut errors);
+    let served = serve_on(alloc, &mut connections, count, desk, day, &mut log);
+    served.expect(test, "connections");
+    errors
 }
 
 /// Each client connects and sends its text, the desk serves them all, and each client reads.
 pub(crate) fn serve<R: Clock, S: Alter>(
+    test: &impl Abort,
     rt: &HostRuntime,
     clock: &R,
     desk: &mut Desk<S>,
-    day: Day,
     texts: &[String],
     after: AfterText,
-) -> Result<Served, Fail> {
+) -> Served {
     let mut callers = Callers::new(rt, texts, after);
-    serve_callers(rt, clock, desk, day, &mut callers)
+    let count = callers.count();
+    let errors = serve_over(test, rt.alloc(), clock, &mut callers, count, desk);
+    let answers = answers_to(test, rt.alloc(), &mut callers.clients);
+    Served { answers, errors }
 }

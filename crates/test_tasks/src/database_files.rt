@@ -2,20 +2,19 @@
 use crate::clients::{
     AfterText, CHARTER, Callers, SETUP, Served, answers_to, first_of_march, requests, serve,
 };
+use crate::comparison::assert_same;
 use addr::Day;
 use cli_tasks::help::help_text;
 use cli_tasks::{Host, run_task};
 use cli_texts::{ProgramFault, Task};
 use desk::Desk;
 use desk_files::{close_desk, open_desk};
-use sqlite::{Alter, Connection};
+use sqlite::Connection;
 use sqlite_std_file::{FileFrom, Unknown};
 use sqlite_store::FileStore;
 use std::fs;
-use std::io::{self, ErrorKind};
 use std::process::Abort;
 use std::rt::HostRuntime;
-use std::test::Fail;
 
 const FOLDER: &str = "roadesk_test";
 
@@ -59,20 +58,23 @@ fn serve_once(
 }
 
 /// The desk in the database of these tests.
-fn open(rt: &HostRuntime) -> Result<Desk<FileStore<FileFrom<Unknown>>>, Fail> {
+fn open(test: &impl Abort, rt: &HostRuntime) -> Desk<FileStore<FileFrom<Unknown>>> {
     match open_desk(rt, DATABASE, Unknown) {
-        Ok(desk) => Ok(desk),
-        Err(_) => Err(io::Error::from(ErrorKind::Other).into()),
+        Ok(desk) => desk,
+        Err(_) => test.panic("no desk"),
     }
 }
 
 /// An empty folder with a charter in it.
-fn make_folder(rt: &HostRuntime) -> Result<(), Fail> {
+fn make_folder(test: &impl Abort, rt: &HostRuntime) {
     // Only a run that was cut off has left the folder.
     let _ = fs::remove_dir_all(rt, FOLDER);
-    fs::create_dir(rt, FOLDER)?;
-    fs::write(rt, CHARTER_FILE, CHARTER.as_bytes())?;
-    Ok(())
+    fs::create_dir(rt, FOLDER).expect(test, FOLDER);
+    fs::write(rt, CHARTER_FILE, CHARTER.as_bytes()).expect(test, CHARTER_FILE);
+}
+
+fn remove_folder(test: &impl Abort, rt: &HostRuntime) {
+    fs::remove_dir_all(rt, FOLDER).expect(test, FOLDER);
 }
 
 const USAGES: [&str; 5] = [
@@ -84,53 +86,34 @@ const USAGES: [&str; 5] = [
 ];
 
 #[test]
-fn help_names_the_five_tasks(rt: HostRuntime) -> Result<(), Fail> {
-    let text = help_text(rt.alloc())?;
+fn help_names_the_five_tasks(rt: HostRuntime) {
+    let text = help_text(rt.alloc()).expect(&rt, "a text");
     for usage in USAGES {
-        assert!(rt; text.as_str().contains(usage));
+        assert!(rt; text.as_str().contains(usage), "{usage}");
     }
-    Ok(())
 }
 
 /// If there is no database, none is served, and one is made once there is a folder for it.
-fn make_database(test: &impl Abort, rt: &HostRuntime, day: Day) -> Result<(), Fail> {
-    assert_eq!(test;
-        serve_once(rt, DATABASE, "127.0.0.1:0", day),
-        Err(ProgramFault::Database)
-    );
-    assert!(test; !fs::exists(rt, DATABASE)?);
-    assert_eq!(test;
-        init(rt, "roadesk_test/none/a.db"),
-        Err(ProgramFault::Database)
-    );
-    fs::write(rt, DATABASE, b"".as_slice())?;
-    assert_eq!(test; init(rt, DATABASE), Ok(()));
-    Ok(())
+fn make_database(test: &impl Abort, rt: &HostRuntime, day: Day) {
+    let ended = serve_once(rt, DATABASE, "127.0.0.1:0", day);
+    assert_same(test, ended, Err(ProgramFault::Database), "no database");
+    assert!(test; !fs::exists(rt, DATABASE).expect(test, DATABASE));
+    let ended = init(rt, "roadesk_test/none/a.db");
+    assert_same(test, ended, Err(ProgramFault::Database), "no folder");
+    fs::write(rt, DATABASE, b"".as_slice()).expect(test, DATABASE);
+    assert_same(test, init(rt, DATABASE), Ok(()), "an empty file");
 }
 
 /// What there is already is not replaced, and neither another file nor another word is served.
 fn assert_refused(test: &impl Abort, rt: &HostRuntime, day: Day) {
-    assert_eq!(test; init(rt, DATABASE), Err(ProgramFault::Exists));
-    assert_eq!(test; init(rt, CHARTER_FILE), Err(ProgramFault::Exists));
-    assert_eq!(test;
-        serve_once(rt, CHARTER_FILE, "127.0.0.1:0", day),
-        Err(ProgramFault::Database)
-    );
-    assert_eq!(test;
-        serve_once(rt, DATABASE, "no address", day),
-        Err(ProgramFault::Socket)
-    );
-}
-
-/// The desk answers these requests, each on a connection of its own.
-fn serve_parts<S: Alter>(
-    rt: &HostRuntime,
-    desk: &mut Desk<S>,
-    day: Day,
-    parts: &[(&str, &str, &str, &str)],
-) -> Result<Served, Fail> {
-    let texts = requests(rt.alloc(), parts)?;
-    serve(rt, rt, desk, day, &texts, AfterText::ShutsWriting)
+    let ended = init(rt, DATABASE);
+    assert_same(test, ended, Err(ProgramFault::Exists), "a database");
+    let ended = init(rt, CHARTER_FILE);
+    assert_same(test, ended, Err(ProgramFault::Exists), "another file");
+    let ended = serve_once(rt, CHARTER_FILE, "127.0.0.1:0", day);
+    assert_same(test, ended, Err(ProgramFault::Database), "no database");
+    let ended = serve_once(rt, DATABASE, "no address", day);
+    assert_same(test, ended, Err(ProgramFault::Socket), "no address");
 }
 
 /// Ends the desk, and returns whether its files were closed.
@@ -144,97 +127,74 @@ fn closes(desk: Desk<FileStore<FileFrom<Unknown>>>) -> bool {
     }
 }
 
-/// The desk in the database answers these requests, and is closed.
+/// The desk in the database answers these requests, each on a connection of its own, and is closed.
 fn serve_database(
     test: &impl Abort,
     rt: &HostRuntime,
-    day: Day,
     parts: &[(&str, &str, &str, &str)],
-) -> Result<Served, Fail> {
-    let mut desk = open(rt)?;
-    let served = serve_parts(rt, &mut desk, day, parts);
+) -> Served {
+    let texts = requests(test, rt.alloc(), parts);
+    let mut desk = open(test, rt);
+    let served = serve(test, rt, rt, &mut desk, &texts, AfterText::ShutsWriting);
     assert!(test; closes(desk));
     served
 }
 
 /// The desk in the database has the authorization of `SETUP`.
-fn assert_authorization(test: &impl Abort, rt: &HostRuntime, day: Day) -> Result<(), Fail> {
-    let served = serve_database(
-        test,
-        rt,
-        day,
-        &[("ann", "GET", "/holders/alpha/auths/1", "")],
-    )?;
-    assert_eq!(test; served.answers.len(), 1);
+fn assert_authorization(test: &impl Abort, rt: &HostRuntime) {
+    let served = serve_database(test, rt, &[("ann", "GET", "/holders/alpha/auths/1", "")]);
+    assert_same(test, served.answers.len(), 1, "answers");
+    let answer = served.answers.first().expect(test, "an answer");
     assert!(test;
-        served.answers[0].ends_with(
+        answer.ends_with(
             "{\"shown\":{\"number\":1,\"asn\":64496,\"prefix\":\"192.0.2.0/24\",\"max\":24,\
             \"from\":\"2026-01-01\",\"until\":\"2026-12-31\"}}\n"
-        )
+        ),
+        "{}",
+        answer.as_str()
     );
-    Ok(())
-}
-
-/// The desk in the database answers the requests of `SETUP` without a fault.
-fn assert_setup(test: &impl Abort, rt: &HostRuntime, day: Day) -> Result<(), Fail> {
-    let served = serve_database(test, rt, day, &SETUP)?;
-    assert_eq!(test; served.errors.len(), 0);
-    Ok(())
 }
 
 #[test]
-fn a_desk_in_a_file_is_served_again(rt: HostRuntime) -> Result<(), Fail> {
+fn a_desk_in_a_file_is_served_again(rt: HostRuntime) {
     let day = first_of_march(&rt);
-    make_folder(&rt)?;
-    make_database(&rt, &rt, day)?;
+    make_folder(&rt, &rt);
+    make_database(&rt, &rt, day);
     assert_refused(&rt, &rt, day);
-    assert_setup(&rt, &rt, day)?;
-    assert_authorization(&rt, &rt, day)?;
-    fs::remove_dir_all(&rt, FOLDER)?;
-    Ok(())
+    let served = serve_database(&rt, &rt, &SETUP);
+    assert_same(&rt, served.errors.len(), 0, "lines on connections");
+    assert_authorization(&rt, &rt);
+    remove_folder(&rt, &rt);
 }
 
 #[test]
-fn an_empty_file_is_not_served(rt: HostRuntime) -> Result<(), Fail> {
-    let day = first_of_march(&rt);
+fn an_empty_file_is_not_served(rt: HostRuntime) {
     let empty = "roadesk_test_empty.db";
-    fs::write(&rt, empty, b"".as_slice())?;
-    assert_eq!(rt;
-        serve_once(&rt, empty, "127.0.0.1:0", day),
-        Err(ProgramFault::Schema)
-    );
-    assert_eq!(rt; fs::metadata(&rt, empty)?.len(), 0);
-    fs::remove_file(&rt, empty)?;
-    Ok(())
+    fs::write(&rt, empty, b"".as_slice()).expect(&rt, empty);
+    let ended = serve_once(&rt, empty, "127.0.0.1:0", first_of_march(&rt));
+    assert_same(&rt, ended, Err(ProgramFault::Schema), empty);
+    let size = fs::metadata(&rt, empty).expect(&rt, empty).len();
+    assert_same(&rt, size, 0, empty);
+    fs::remove_file(&rt, empty).expect(&rt, empty);
 }
 
-/// Runs the task `serve` for these callers, and returns their answers.
-fn serve_callers(
+/// Runs the task `serve` for a connection for each of the requests, and returns the answers.
+fn serve_requests(
+    test: &impl Abort,
     rt: &HostRuntime,
     day: Day,
-    callers: &mut Callers<'_>,
-) -> Result<Vec<String>, Fail> {
+    parts: &[(&str, &str, &str, &str)],
+) -> Vec<String> {
+    let texts = requests(test, rt.alloc(), parts);
+    let mut callers = Callers::new(rt, &texts, AfterText::ShutsWriting);
     let task = Task::Serve {
         database: DATABASE,
         address: "127.0.0.1:0",
         count: callers.count(),
         day,
     };
-    match run_task(rt, &task, callers) {
-        Ok(()) => answers_to(rt.alloc(), &mut callers.clients),
-        Err(_) => Err(io::Error::from(ErrorKind::Other).into()),
-    }
-}
-
-/// Runs the task `serve` for a connection for each of the requests, and returns the answers.
-fn serve_requests(
-    rt: &HostRuntime,
-    day: Day,
-    parts: &[(&str, &str, &str, &str)],
-) -> Result<Vec<String>, Fail> {
-    let texts = requests(rt.alloc(), parts)?;
-    let mut callers = Callers::new(rt, &texts, AfterText::ShutsWriting);
-    serve_callers(rt, day, &mut callers)
+    run_task(rt, &task, &mut callers).expect(test, "the task serve");
+    answers_to(test, rt.alloc(), &mut callers.clients)
 }
 
 /// Days, and the payloads that a desk exports on them which has the authorization of `SETUP`.
@@ -252,46 +212,34 @@ const DAYS: [(&str, &str); 4] = [
 ];
 
 /// Each request of `SETUP` is accepted.
-fn serve_setup(test: &impl Abort, rt: &HostRuntime, day: Day) -> Result<(), Fail> {
-    let answers = serve_requests(rt, day, &SETUP)?;
-    assert_eq!(test; answers.len(), SETUP.len());
+fn serve_setup(test: &impl Abort, rt: &HostRuntime) {
+    let answers = serve_requests(test, rt, first_of_march(test), &SETUP);
+    assert_same(test, answers.len(), SETUP.len(), "answers");
     for (number, answer) in answers.iter().enumerate() {
         assert!(test;
             answer.starts_with("HTTP/1.1 200 OK\r\n"),
             "request {number}"
         );
     }
-    Ok(())
 }
 
-/// The desk exports these payloads on the day.
-fn assert_payloads(
-    test: &impl Abort,
-    rt: &HostRuntime,
-    (text, payloads): (&str, &str),
-) -> Result<(), Fail> {
-    let day = Day::read(text.as_bytes()).expect(test, text);
-    let answers = serve_requests(rt, day, &[("bob", "GET", "/payloads", "")])?;
-    let answer = answers.first().expect(test, text);
-    assert!(test; answer.ends_with(payloads), "{text}");
-    Ok(())
-}
-
-fn assert_days(test: &impl Abort, rt: &HostRuntime) -> Result<(), Fail> {
-    for row in &DAYS {
-        assert_payloads(test, rt, *row)?;
+/// The desk exports the payloads of each of `DAYS`.
+fn assert_days(test: &impl Abort, rt: &HostRuntime) {
+    for (text, payloads) in DAYS {
+        let day = Day::read(text.as_bytes()).expect(test, text);
+        let answers = serve_requests(test, rt, day, &[("bob", "GET", "/payloads", "")]);
+        let answer = answers.first().expect(test, text);
+        assert!(test; answer.ends_with(payloads), "{text}");
     }
-    Ok(())
 }
 
 #[test]
-fn serve_answers_each_connection_on_its_day(rt: HostRuntime) -> Result<(), Fail> {
-    make_folder(&rt)?;
-    assert_eq!(rt; init(&rt, DATABASE), Ok(()));
-    serve_setup(&rt, &rt, first_of_march(&rt))?;
-    assert_days(&rt, &rt)?;
-    fs::remove_dir_all(&rt, FOLDER)?;
-    Ok(())
+fn serve_answers_each_connection_on_its_day(rt: HostRuntime) {
+    make_folder(&rt, &rt);
+    assert_same(&rt, init(&rt, DATABASE), Ok(()), DATABASE);
+    serve_setup(&rt, &rt);
+    assert_days(&rt, &rt);
+    remove_folder(&rt, &rt);
 }
 
 /// Statements over the database of a desk, and the line and the status of `serve` on what they
@@ -307,11 +255,10 @@ const OTHER_TABLES: [(&str, &str, &str, u8); 2] = [
 ];
 
 /// Executes the statement over the database.
-fn execute(rt: &HostRuntime, statement: &str) -> Result<(), Fail> {
-    let mut conn = Connection::open(rt, DATABASE)?;
-    conn.execute_batch(statement)?;
-    conn.close()?;
-    Ok(())
+fn execute(test: &impl Abort, rt: &HostRuntime, statement: &str) {
+    let mut conn = Connection::open(rt, DATABASE).expect(test, DATABASE);
+    conn.execute_batch(statement).expect(test, statement);
+    conn.close().expect(test, DATABASE);
 }
 
 /// What a row of `OTHER_TABLES` leaves is not served.
@@ -319,24 +266,22 @@ fn assert_not_served(
     test: &impl Abort,
     rt: &HostRuntime,
     (name, statement, line, status): (&str, &str, &str, u8),
-) -> Result<(), Fail> {
-    make_folder(rt)?;
-    assert_eq!(test; init(rt, DATABASE), Ok(()), "{name}");
-    execute(rt, statement)?;
+) {
+    make_folder(test, rt);
+    assert_same(test, init(rt, DATABASE), Ok(()), name);
+    execute(test, rt, statement);
     let ended = serve_once(rt, DATABASE, "127.0.0.1:0", first_of_march(test));
     let fault = ended.err().expect(test, name);
-    assert_eq!(test; fault.line().as_str(), line, "{name}");
-    assert_eq!(test; fault.status(), status, "{name}");
-    Ok(())
+    assert_same(test, fault.line().as_str(), line, name);
+    assert_same(test, fault.status(), status, name);
 }
 
 #[test]
-fn a_file_of_other_tables_is_not_served(rt: HostRuntime) -> Result<(), Fail> {
+fn a_file_of_other_tables_is_not_served(rt: HostRuntime) {
     for row in &OTHER_TABLES {
-        assert_not_served(&rt, &rt, *row)?;
+        assert_not_served(&rt, &rt, *row);
     }
-    fs::remove_dir_all(&rt, FOLDER)?;
-    Ok(())
+    remove_folder(&rt, &rt);
 }
 
 /// Files of payloads and of routes, and the line of the fault of their check, which is empty where
@@ -361,26 +306,24 @@ fn assert_checked(
     test: &impl Abort,
     rt: &HostRuntime,
     (name, payloads, routes, line): (&str, &str, &str, &str),
-) -> Result<(), Fail> {
-    fs::write(rt, PAYLOADS, payloads.as_bytes())?;
-    fs::write(rt, ROUTES, routes.as_bytes())?;
+) {
+    fs::write(rt, PAYLOADS, payloads.as_bytes()).expect(test, PAYLOADS);
+    fs::write(rt, ROUTES, routes.as_bytes()).expect(test, ROUTES);
     let task = Task::Check {
         payloads: PAYLOADS,
         routes: ROUTES,
     };
     match run(rt, &task) {
-        Ok(()) => assert_eq!(test; "", line, "{name}"),
-        Err(fault) => assert_eq!(test; fault.line().as_str(), line, "{name}"),
+        Ok(()) => assert_same(test, "", line, name),
+        Err(fault) => assert_same(test, fault.line().as_str(), line, name),
     }
-    Ok(())
 }
 
 #[test]
-fn check_judges_the_routes_on_the_payloads(rt: HostRuntime) -> Result<(), Fail> {
-    make_folder(&rt)?;
+fn check_judges_the_routes_on_the_payloads(rt: HostRuntime) {
+    make_folder(&rt, &rt);
     for row in &CHECKED {
-        assert_checked(&rt, &rt, *row)?;
+        assert_checked(&rt, &rt, *row);
     }
-    fs::remove_dir_all(&rt, FOLDER)?;
-    Ok(())
+    remove_folder(&rt, &rt);
 }

@@ -7,6 +7,8 @@ mod clients;
 #[cfg(test)]
 mod clocks;
 #[cfg(test)]
+mod comparison;
+#[cfg(test)]
 mod database_files;
 #[cfg(test)]
 mod lines_on_faults;

@@ -2,6 +2,7 @@
 ghost use Rattle.std.specs.Prelude.{None, true};
 
 use crate::clients::{desk_in_memory, first_of_march};
+use crate::comparison::assert_same;
 use addr::Day;
 use cli_tasks::serve::{AnswerConnections, Connections, Printed, answer_each};
 use desk::Desk;
@@ -145,8 +146,8 @@ fn assert_run(
 ) {
     let mut errors = Vec::new(alloc);
     let ended = answer_clients(test, alloc, desk, (clients, count), &mut errors);
-    assert_eq!(test; ended, expected);
-    assert_eq!(test; errors.as_slice(), lines.as_bytes());
+    assert_same(test, ended, expected, lines);
+    assert_same(test, errors.as_slice(), lines.as_bytes(), lines);
 }
 
 #[test]
@@ -188,9 +189,7 @@ fn a_line_that_cannot_be_written_is_lost(rt: HostRuntime) {
     };
     let clients: [(Option<&str>, usize); 2] = [(Some(""), 0), (Some(""), 0)];
     let ended = answer_clients(&rt, rt.alloc(), &mut desk, (&clients, 2), &mut errors);
-    assert_eq!(rt; ended, Ok(()));
-    assert_eq!(rt;
-        taken.as_slice(),
-        b"roadesk: connection 2: fault 1\n".as_slice()
-    );
+    assert_same(&rt, ended, Ok(()), "two clients");
+    let line = b"roadesk: connection 2: fault 1\n".as_slice();
+    assert_same(&rt, taken.as_slice(), line, "two clients");
 }

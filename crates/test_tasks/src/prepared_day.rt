@@ -2,9 +2,9 @@
 ghost use Rattle.std.specs.Prelude.{⊤};
 
 use crate::clients::{
-    AfterText, Bound, CHARTER, SETUP, Served, add_requests, desk_in_memory, first_of_march,
-    requests, serve,
+    AfterText, Bound, CHARTER, SETUP, add_requests, desk_in_memory, first_of_march, requests, serve,
 };
+use crate::comparison::assert_same;
 use crate::lines_on_faults::Clients;
 use addr::Day;
 use cli_tasks::serve::{AnswerConnections, Incoming, Printed, answer_each, serve_on};
@@ -15,7 +15,6 @@ use sqlite::MemStore;
 use std::alloc::Global;
 use std::process::Abort;
 use std::rt::HostRuntime;
-use std::test::Fail;
 use web::{Device, Drain, Extent, Failed, Source, WebFault, run_script};
 
 /// The desk serves no connection.
@@ -32,7 +31,8 @@ fn the_day_is_kept_before_the_first_connection(rt: HostRuntime) {
     let mut desk = desk_in_memory(&rt);
     let day = first_of_march(&rt);
     assert!(rt; desk.kept().is_none());
-    assert_eq!(rt; serve_none(&rt, &mut desk, day), Ok(()));
+    let served = serve_none(&rt, &mut desk, day);
+    assert_same(&rt, served, Ok(()), "no connection");
     assert!(rt; desk.kept() == Some(day));
 }
 
@@ -49,40 +49,28 @@ const AFTER_SETUP: [((&str, &str, &str, &str), &str); 4] = [
     (("reg", "PUT", "/slurms", "{"), "HTTP/1.1 400 "),
 ];
 
-/// The desk answers the requests of `SETUP`, and then this one.
-fn serve_after_setup(
-    rt: &HostRuntime,
-    desk: &mut Desk<MemStore>,
-    day: Day,
-    last: (&str, &str, &str, &str),
-) -> Result<Served, Fail> {
-    let mut texts = requests(rt.alloc(), &SETUP)?;
-    add_requests(rt.alloc(), &[last], &mut texts)?;
-    serve(rt, rt, desk, day, &texts, AfterText::ShutsWriting)
-}
-
-/// A row of `AFTER_SETUP` is answered so, and the day is kept then.
+/// The desk answers the requests of `SETUP`, and then that of a row of `AFTER_SETUP` so, and the
+/// day is kept then.
 fn assert_kept_after(
     test: &impl Abort,
     rt: &HostRuntime,
     desk: &mut Desk<MemStore>,
     (last, begins): ((&str, &str, &str, &str), &str),
-) -> Result<(), Fail> {
-    let day = first_of_march(test);
-    let served = serve_after_setup(rt, desk, day, last)?;
-    let answer = served.answers.last().ok_or("an answer")?;
+) {
+    let mut texts = requests(test, rt.alloc(), &SETUP);
+    add_requests(test, rt.alloc(), &[last], &mut texts);
+    let served = serve(test, rt, rt, desk, &texts, AfterText::ShutsWriting);
+    let answer = served.answers.last().expect(test, "an answer");
     assert!(test; answer.as_str().starts_with(begins), "{}", answer.as_str());
-    assert!(test; desk.kept() == Some(day), "{begins}");
-    Ok(())
+    assert!(test; desk.kept() == Some(first_of_march(test)), "{begins}");
 }
 
 #[test]
-fn the_day_is_kept_after_each_connection(rt: HostRuntime) -> Result<(), Fail> {
+fn the_day_is_kept_after_each_connection(rt: HostRuntime) {
     for row in &AFTER_SETUP {
         let mut desk = desk_in_memory(&rt);
-        assert_kept_after(&rt, &rt, &mut desk, *row)?;
+        assert_kept_after(&rt, &rt, &mut desk, *row);
     }
-    Ok(())
 }
 
 /// Loses at some connections what was ready, and finds memory for it at some tries.
@@ -160,9 +148,9 @@ fn assert_tries(
     let mut log = Printed::new(&mut errors);
     let day = first_of_march(test);
     let ended = answer_each(alloc, None, &mut connections, 3, &mut engine, day, &mut log);
-    assert_eq!(test; ended, Ok(()));
-    assert_eq!(test; engine.tries, tries);
-    assert_eq!(test; engine.is_ready, is_ready);
+    assert_same(test, ended, Ok(()), finds_memory);
+    assert_same(test, engine.tries, tries, finds_memory);
+    assert_same(test, engine.is_ready, is_ready, finds_memory);
 }
 
 #[test]
@@ -203,26 +191,22 @@ fn try_desk(alloc: Global) -> Option<Desk<MemStore>> {
 }
 
 /// A desk with one authorization, if one allocation is refused at most.
-fn desk_with_one(alloc: Global) -> Result<Desk<MemStore>, Fail> {
-    if let Some(desk) = try_desk(alloc) {
-        return Ok(desk);
+fn desk_with_one(test: &impl Abort, alloc: Global) -> Desk<MemStore> {
+    match try_desk(alloc) {
+        Some(desk) => desk,
+        None => try_desk(alloc).expect(test, "a desk"),
     }
-    Ok(try_desk(alloc).ok_or("no desk")?)
 }
 
-/// The VRPs of the day are answered. If they were not kept, an allocation was refused for them.
-fn assert_answers(test: &impl Abort, desk: &mut Desk<MemStore>, day: Day) {
-    let is_lent = desk.payloads(day).is_some();
-    assert!(test; is_lent);
-    assert!(test; desk.kept() == Some(day));
-}
-
-/// Holds whichever one allocation is refused.
+/// Holds whichever one allocation is refused. If the VRPs of the day were not kept, it was refused
+/// for them, and they are answered.
 #[test]
-fn a_desk_without_memory_for_its_day_answers(rt: HostRuntime) -> Result<(), Fail> {
-    let day = Day::read(b"2026-03-01").ok_or("a day")?;
-    let mut desk = desk_with_one(rt.alloc())?;
-    assert_eq!(rt; serve_none(&rt, &mut desk, day), Ok(()));
-    assert_answers(&rt, &mut desk, day);
-    Ok(())
+fn a_desk_without_memory_for_its_day_answers(rt: HostRuntime) {
+    let day = first_of_march(&rt);
+    let mut desk = desk_with_one(&rt, rt.alloc());
+    let served = serve_none(&rt, &mut desk, day);
+    assert_same(&rt, served, Ok(()), "no connection");
+    let is_lent = desk.payloads(day).is_some();
+    assert!(rt; is_lent);
+    assert!(rt; desk.kept() == Some(day));
 }

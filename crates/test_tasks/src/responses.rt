@@ -1,17 +1,16 @@
 //! Responses over sockets of the loopback, and connections that are out of time.
 use crate::clients::{
-    AfterText, Bound, CREATE, SETUP, Served, add_requests, answer_to, desk_in_memory,
-    first_of_march, requests, serve, serve_over, waiting_client,
+    AfterText, Bound, CREATE, SETUP, add_requests, answer_to, desk_in_memory, requests, serve,
+    serve_over, waiting_client,
 };
 use crate::clocks::{Sending, Slow};
-use addr::Day;
+use crate::comparison::assert_same;
 use desk::Desk;
 use sqlite::MemStore;
-use std::alloc::{AllocError, Global};
+use std::alloc::Global;
 use std::net::{TcpListener, TcpStream};
 use std::process::Abort;
 use std::rt::HostRuntime;
-use std::test::Fail;
 use std::time::Duration;
 
 /// Requests after those of the setup.
@@ -30,12 +29,6 @@ const LAST_RESPONSES: [&str; 3] = [
     Connection: close\r\n\r\nasn,prefix,maxlength\nAS64496,192.0.2.0/24,24\n",
 ];
 
-fn requests_of_setup(alloc: Global) -> Result<Vec<String>, AllocError> {
-    let mut texts = requests(alloc, &SETUP)?;
-    add_requests(alloc, &AFTER_SETUP, &mut texts)?;
-    Ok(texts)
-}
-
 /// These are the last of the answers.
 fn assert_last(rt: &impl Abort, answers: &[String], expected: &[&str]) {
     let skipped = answers.len().saturating_sub(expected.len());
@@ -45,27 +38,24 @@ fn assert_last(rt: &impl Abort, answers: &[String], expected: &[&str]) {
     }
 }
 
-fn serve_setup(rt: &HostRuntime, desk: &mut Desk<MemStore>, day: Day) -> Result<Served, Fail> {
-    let texts = requests_of_setup(rt.alloc())?;
-    serve(rt, rt, desk, day, &texts, AfterText::ShutsWriting)
-}
-
-/// The desk answers the requests of `SETUP`, and those after them, without a fault.
-fn assert_setup(
-    test: &impl Abort,
-    rt: &HostRuntime,
-    desk: &mut Desk<MemStore>,
-) -> Result<(), Fail> {
-    let served = serve_setup(rt, desk, first_of_march(test))?;
-    assert!(test; served.errors.is_empty());
-    assert_last(test, &served.answers, &LAST_RESPONSES);
-    Ok(())
-}
-
 #[test]
-fn denial_is_403_and_payloads_are_csv(rt: HostRuntime) -> Result<(), Fail> {
+fn denial_is_403_and_payloads_are_csv(rt: HostRuntime) {
+    let mut texts = requests(&rt, rt.alloc(), &SETUP);
+    add_requests(&rt, rt.alloc(), &AFTER_SETUP, &mut texts);
     let mut desk = desk_in_memory(&rt);
-    assert_setup(&rt, &rt, &mut desk)
+    let served = serve(&rt, &rt, &rt, &mut desk, &texts, AfterText::ShutsWriting);
+    assert!(rt; served.errors.is_empty());
+    assert_last(&rt, &served.answers, &LAST_RESPONSES);
+}
+
+/// Copies of the texts.
+fn copies(test: &impl Abort, alloc: Global, texts: &[&str]) -> Vec<String> {
+    let mut copies = Vec::new(alloc);
+    for text in texts {
+        let copy = String::from_str(alloc, text).expect(test, "a text");
+        copies.push(copy).expect(test, "texts");
+    }
+    copies
 }
 
 /// Requests that are refused before their bodies are read, and the responses.
@@ -89,70 +79,29 @@ const REFUSED: [(&str, &str); 3] = [
     ),
 ];
 
-fn refused_requests(alloc: Global) -> Result<Vec<String>, AllocError> {
-    let mut texts = Vec::new(alloc);
-    for (text, _) in &REFUSED {
-        texts.push(String::from_str(alloc, text)?)?;
-    }
-    Ok(texts)
-}
-
-fn serve_refused(rt: &HostRuntime, desk: &mut Desk<MemStore>, day: Day) -> Result<Served, Fail> {
-    let texts = refused_requests(rt.alloc())?;
-    serve(rt, rt, desk, day, &texts, AfterText::ShutsWriting)
-}
-
-/// The desk has the responses of `REFUSED`.
-fn assert_refused(
-    test: &impl Abort,
-    rt: &HostRuntime,
-    desk: &mut Desk<MemStore>,
-) -> Result<(), Fail> {
-    let served = serve_refused(rt, desk, first_of_march(test))?;
-    assert_eq!(test; served.errors.len(), 0);
-    for ((_, response), answer) in REFUSED.iter().zip(&served.answers) {
-        assert_eq!(test; answer.as_str(), *response);
-    }
-    Ok(())
-}
-
 #[test]
-fn a_response_arrives_whose_request_has_its_body_unread(rt: HostRuntime) -> Result<(), Fail> {
+fn a_response_arrives_whose_request_has_its_body_unread(rt: HostRuntime) {
+    let texts = copies(&rt, rt.alloc(), REFUSED.map(|(text, _)| text).as_slice());
     let mut desk = desk_in_memory(&rt);
-    assert_refused(&rt, &rt, &mut desk)
+    let served = serve(&rt, &rt, &rt, &mut desk, &texts, AfterText::ShutsWriting);
+    assert_same(&rt, served.errors.len(), 0, "lines on connections");
+    for ((text, response), answer) in REFUSED.iter().zip(&served.answers) {
+        assert_same(&rt, answer.as_str(), *response, *text);
+    }
 }
 
 /// What clients send that stay open.
 const UNFINISHED: [&str; 2] = ["", "GET "];
 
-fn unfinished_requests(alloc: Global) -> Result<Vec<String>, AllocError> {
-    let mut texts = Vec::new(alloc);
-    for text in &UNFINISHED {
-        texts.push(String::from_str(alloc, text)?)?;
-    }
-    Ok(texts)
-}
-
-/// Serves clients that stay open, whose connections are soon out of time.
-fn serve_late(rt: &HostRuntime, desk: &mut Desk<MemStore>, day: Day) -> Result<Served, Fail> {
-    let texts = unfinished_requests(rt.alloc())?;
-    let clock = Slow::by(Duration::from_millis(29_950));
-    serve(rt, &clock, desk, day, &texts, AfterText::StaysOpen)
-}
-
-fn assert_late(test: &impl Abort, rt: &HostRuntime, desk: &mut Desk<MemStore>) -> Result<(), Fail> {
-    let served = serve_late(rt, desk, first_of_march(test))?;
-    assert_eq!(test;
-        served.errors.as_slice(),
-        b"roadesk: connection 1: fault 1\nroadesk: connection 2: fault 1\n".as_slice()
-    );
-    Ok(())
-}
-
 #[test]
-fn a_connection_has_to_end_in_time(rt: HostRuntime) -> Result<(), Fail> {
+fn a_connection_has_to_end_in_time(rt: HostRuntime) {
+    let texts = copies(&rt, rt.alloc(), &UNFINISHED);
+    // The connections are soon out of time.
+    let clock = Slow::by(Duration::from_millis(29_950));
     let mut desk = desk_in_memory(&rt);
-    assert_late(&rt, &rt, &mut desk)
+    let served = serve(&rt, &rt, &clock, &mut desk, &texts, AfterText::StaysOpen);
+    let lines = b"roadesk: connection 1: fault 1\nroadesk: connection 2: fault 1\n".as_slice();
+    assert_same(&rt, served.errors.as_slice(), lines, "out of time");
 }
 
 /// Heads of requests whose bodies are not read, how many bytes follow them, and the responses.
@@ -172,53 +121,24 @@ const LONG: [(&str, usize, &str); 2] = [
 ];
 
 /// The head, and so many bytes after it.
-fn long_request(alloc: Global, head: &str, length: usize) -> Result<String, AllocError> {
-    let letters = "a".repeat(alloc, length)?;
-    [head, letters.as_str()].concat(alloc)
+fn long_request(test: &impl Abort, alloc: Global, head: &str, length: usize) -> String {
+    let letters = "a".repeat(alloc, length).expect(test, "a text");
+    let text = [head, letters.as_str()].concat(alloc);
+    text.expect(test, "a text")
 }
 
-/// The desk serves the client while it sends its text. The lines on the connection.
-fn serve_sending(
-    rt: &HostRuntime,
-    desk: &mut Desk<MemStore>,
-    day: Day,
-    clock: &Sending<'_>,
-    listener: TcpListener,
-) -> Result<Vec<u8>, Fail> {
-    let mut network = Bound(Some(listener));
-    serve_over(rt, clock, &mut network, 1, desk, day)
-}
-
-/// What the client is answered that has sent its text without waiting.
-fn answer_to_sender(alloc: Global, client: &mut TcpStream) -> Result<String, Fail> {
-    client.set_nonblocking(false)?;
-    answer_to(alloc, client)
-}
-
-/// The client sends the text, and is served by the desk without a fault.
+/// The desk serves the client without a fault while it sends the text.
 fn send_long(
     test: &impl Abort,
-    rt: &HostRuntime,
+    alloc: Global,
     desk: &mut Desk<MemStore>,
     (client, listener): (&TcpStream, TcpListener),
     text: &str,
-) -> Result<(), Fail> {
-    let clock = Sending::new(client, text.as_bytes())?;
-    let errors = serve_sending(rt, desk, first_of_march(test), &clock, listener)?;
-    assert_eq!(test; errors.len(), 0);
-    Ok(())
-}
-
-/// A client sends the text, and is answered by the desk without a fault.
-fn answer_long(
-    test: &impl Abort,
-    rt: &HostRuntime,
-    desk: &mut Desk<MemStore>,
-    text: &str,
-) -> Result<String, Fail> {
-    let (mut client, listener) = waiting_client(rt)?;
-    send_long(test, rt, desk, (&client, listener), text)?;
-    answer_to_sender(rt.alloc(), &mut client)
+) {
+    let clock = Sending::new(client, text.as_bytes()).expect(test, "a client");
+    let mut network = Bound(Some(listener));
+    let errors = serve_over(test, alloc, &clock, &mut network, 1, desk);
+    assert_same(test, errors.len(), 0, "lines on connections");
 }
 
 /// The desk has this response to a row of `LONG`.
@@ -227,26 +147,20 @@ fn assert_long(
     rt: &HostRuntime,
     desk: &mut Desk<MemStore>,
     (head, length, response): (&str, usize, &str),
-) -> Result<(), Fail> {
-    let text = long_request(rt.alloc(), head, length)?;
-    let answer = answer_long(test, rt, desk, text.as_str())?;
-    assert_eq!(test; answer.as_str(), response);
-    Ok(())
-}
-
-fn assert_each_long(
-    test: &impl Abort,
-    rt: &HostRuntime,
-    desk: &mut Desk<MemStore>,
-) -> Result<(), Fail> {
-    for row in &LONG {
-        assert_long(test, rt, desk, *row)?;
-    }
-    Ok(())
+) {
+    let text = long_request(test, rt.alloc(), head, length);
+    let (mut client, listener) = waiting_client(test, rt);
+    send_long(test, rt.alloc(), desk, (&client, listener), text.as_str());
+    // It has sent its text without waiting.
+    client.set_nonblocking(false).expect(test, "a client");
+    let answer = answer_to(test, rt.alloc(), &mut client);
+    assert_same(test, answer.as_str(), response, head);
 }
 
 #[test]
-fn a_response_arrives_whose_request_is_long(rt: HostRuntime) -> Result<(), Fail> {
+fn a_response_arrives_whose_request_is_long(rt: HostRuntime) {
     let mut desk = desk_in_memory(&rt);
-    assert_each_long(&rt, &rt, &mut desk)
+    for row in &LONG {
+        assert_long(&rt, &rt, &mut desk, *row);
+    }
 }

@@ -1,4 +1,5 @@
 //! The lines and statuses of faults of scripts and of the store.
+use crate::comparison::assert_same;
 use cli_tasks::fault::{fault_of_script, fault_of_store};
 use std::rt::HostRuntime;
 use store::StoreFault;
@@ -14,7 +15,7 @@ fn lines_and_statuses_of_scripts_and_the_store(rt: HostRuntime) {
         (fault_of_script(ScriptFault::Memory), "roadesk: memory", 4),
     ];
     for (fault, line, status) in cases {
-        assert_eq!(rt; fault.line().as_str(), line);
-        assert_eq!(rt; fault.status(), status);
+        assert_same(&rt, fault.line().as_str(), line, line);
+        assert_same(&rt, fault.status(), status, line);
     }
 }

@@ -3,23 +3,23 @@ ghost use Rattle.std.specs.Prelude.{⊤};
 
 use crate::clients::{AfterText, Bound, Callers, first_of_march, waiting_client};
 use crate::clocks::Slow;
+use crate::comparison::assert_same;
 use addr::Day;
 use cli_tasks::serve::{AnswerConnections, Connections, Incoming, Socket, Timed};
 use requests::Routes;
 use std::alloc::Global;
-use std::io::{self, Read, Write};
+use std::io::{Read, Write};
 use std::net::{TcpListener, TcpStream};
 use std::process::Abort;
 use std::rt::HostRuntime;
-use std::test::Fail;
 use std::time::{Duration, Instant};
 use web::{Drain, Extent, Failed, Source, WebFault};
 
 /// The two ends of a connection.
-fn connect(rt: &HostRuntime) -> io::Result<(TcpStream, TcpStream)> {
-    let (client, listener) = waiting_client(rt)?;
-    let (stream, _) = listener.accept()?;
-    Ok((client, stream))
+fn connect(test: &impl Abort, rt: &HostRuntime) -> (TcpStream, TcpStream) {
+    let (client, listener) = waiting_client(test, rt);
+    let (stream, _) = listener.accept().expect(test, "a connection");
+    (client, stream)
 }
 
 /// How long a connection has lasted at a call, and the timeout that the socket then has, in
@@ -37,34 +37,28 @@ fn assert_timeout(
     let timeout = Some(timeout);
     let mut peer = Socket::new(clock, stream, began);
     let mut socket = Timed::new(&mut peer);
-    assert_eq!(test; socket.read(&mut [0; 4]).ok(), Some(1), "{timeout:?}");
-    assert_eq!(test; stream.read_timeout().ok(), Some(timeout));
-    assert_eq!(test; stream.write_timeout().ok(), Some(None), "{timeout:?}");
-    assert_eq!(test; socket.write(b"a").ok(), Some(1), "{timeout:?}");
-    assert_eq!(test; stream.write_timeout().ok(), Some(timeout));
+    assert_same(test, socket.read(&mut [0; 4]).ok(), Some(1), timeout);
+    assert_same(test, stream.read_timeout().ok(), Some(timeout), timeout);
+    assert_same(test, stream.write_timeout().ok(), Some(None), timeout);
+    assert_same(test, socket.write(b"a").ok(), Some(1), timeout);
+    assert_same(test, stream.write_timeout().ok(), Some(timeout), timeout);
 }
 
 /// A row of `TIMEOUTS` holds of a connection.
-fn assert_time_left(
-    test: &impl Abort,
-    rt: &HostRuntime,
-    (elapsed, timeout): (u64, u64),
-) -> io::Result<()> {
-    let (mut client, stream) = connect(rt)?;
-    client.write_all(b"a")?;
+fn assert_time_left(test: &impl Abort, rt: &HostRuntime, (elapsed, timeout): (u64, u64)) {
+    let (mut client, stream) = connect(test, rt);
+    client.write_all(b"a").expect(test, "a client");
     let clock = Slow::by(Duration::ZERO);
     let began = Instant::now(&clock).ok();
     clock.advance(Duration::from_millis(elapsed));
     assert_timeout(test, &clock, &stream, began, Duration::from_millis(timeout));
-    Ok(())
 }
 
 #[test]
-fn a_call_has_the_time_that_is_left(rt: HostRuntime) -> Result<(), Fail> {
+fn a_call_has_the_time_that_is_left(rt: HostRuntime) {
     for row in &TIMEOUTS {
-        assert_time_left(&rt, &rt, *row)?;
+        assert_time_left(&rt, &rt, *row);
     }
-    Ok(())
 }
 
 /// Each of the streams has a call a second for 29 seconds, and fails then.
@@ -72,8 +66,8 @@ fn assert_calls<R: Read, W: Write>(test: &impl Abort, from: &mut R, to: &mut W) 
     let mut piece = [0; 1];
     for number in 1..=31 {
         let is_in_time = number <= 29;
-        assert_eq!(test; from.read(&mut piece).is_ok(), is_in_time, "{number}");
-        assert_eq!(test; to.write(b"a").is_ok(), is_in_time, "{number}");
+        assert_same(test, from.read(&mut piece).is_ok(), is_in_time, number);
+        assert_same(test, to.write(b"a").is_ok(), is_in_time, number);
     }
 }
 
@@ -87,11 +81,11 @@ fn assert_seconds(test: &impl Abort, stream: &TcpStream) {
 }
 
 #[test]
-fn calls_a_second_apart_are_made_for_30_seconds(rt: HostRuntime) -> Result<(), Fail> {
-    let (mut client, stream) = connect(&rt)?;
-    client.write_all([b'a'; 31].as_slice())?;
+fn calls_a_second_apart_are_made_for_30_seconds(rt: HostRuntime) {
+    let (mut client, stream) = connect(&rt, &rt);
+    let sent = client.write_all([b'a'; 31].as_slice());
+    sent.expect(&rt, "a client");
     assert_seconds(&rt, &stream);
-    Ok(())
 }
 
 /// What is done of a connection whose client sends and takes nothing.
@@ -189,12 +183,13 @@ fn answer_soon<C: Connections>(
     rt: &HostRuntime,
     connections: &mut C,
     late: &mut Late<'_>,
-) -> Result<Result<Result<Extent, WebFault>, Failed>, Fail> {
-    connections.listen()?;
-    let start = Instant::now(rt)?;
+) -> Result<Result<Extent, WebFault>, Failed> {
+    connections.listen().expect(test, "a socket");
+    let start = Instant::now(rt).expect(test, "the time");
     let ended = connections.answer_next(rt.alloc(), None, late, first_of_march(test));
-    assert!(test; start.elapsed(rt)? < Duration::from_secs(10));
-    Ok(ended)
+    let taken = start.elapsed(rt).expect(test, "the time");
+    assert!(test; taken < Duration::from_secs(10), "{taken:?}");
+    ended
 }
 
 /// Has a connection of the callers answered, in less than ten seconds.
@@ -203,36 +198,23 @@ fn answer_late(
     rt: &HostRuntime,
     callers: &mut Callers<'_>,
     late: &mut Late<'_>,
-) -> Result<Result<Result<Extent, WebFault>, Failed>, Fail> {
+) -> Result<Result<Extent, WebFault>, Failed> {
     let mut connections = Incoming::new(late.clock, callers, "127.0.0.1:0");
     answer_soon(test, rt, &mut connections, late)
 }
 
 /// How many bytes a client still has to take.
-fn bytes_left(client: &mut TcpStream) -> io::Result<usize> {
+fn bytes_left(test: &impl Abort, client: &mut TcpStream) -> usize {
     let mut piece = [0; 16_384];
     let mut left = 0usize;
     for _ in 0..u64::MAX {
-        let count = client.read(&mut piece)?;
+        let count = client.read(&mut piece).expect(test, "bytes");
         if count == 0 {
             break;
         }
         left = left.saturating_add(count);
     }
-    Ok(left)
-}
-
-/// Each client has so many bytes to take.
-fn assert_left(
-    test: &impl Abort,
-    clients: &mut Vec<TcpStream>,
-    count: usize,
-    name: &str,
-) -> io::Result<()> {
-    for client in clients {
-        assert_eq!(test; bytes_left(client)?, count, "{name}");
-    }
-    Ok(())
+    left
 }
 
 /// A row of `SILENT` becomes of the connection of the client with this text.
@@ -241,34 +223,30 @@ fn assert_silent(
     rt: &HostRuntime,
     callers: &mut Callers<'_>,
     (name, action, expected, readings): (&str, Action, Result<Extent, WebFault>, Option<u32>),
-) -> Result<(), Fail> {
+) {
     let clock = Slow::by(Duration::ZERO);
     let mut late = Late {
         clock: &clock,
         action,
         written: 0,
     };
-    let ended = answer_late(test, rt, callers, &mut late)?;
-    assert_eq!(test; ended, Ok(expected), "{name}");
+    let ended = answer_late(test, rt, callers, &mut late);
+    assert_same(test, ended, Ok(expected), name);
     if let Some(count) = readings {
-        assert_eq!(test; clock.readings(), count, "{name}");
+        assert_same(test, clock.readings(), count, name);
     }
-    assert_left(test, &mut callers.clients, late.written, name)?;
-    Ok(())
-}
-
-fn assert_each_silent(test: &impl Abort, rt: &HostRuntime, texts: &[String]) -> Result<(), Fail> {
-    for row in &SILENT {
-        let mut callers = Callers::new(rt, texts, AfterText::StaysOpen);
-        assert_silent(test, rt, &mut callers, *row)?;
+    for client in &mut callers.clients {
+        assert_same(test, bytes_left(test, client), late.written, name);
     }
-    Ok(())
 }
 
 #[test]
-fn a_silent_client_does_not_hold_the_desk(rt: HostRuntime) -> Result<(), Fail> {
-    let texts = vec![in rt.alloc(); String::new(rt.alloc())]?;
-    assert_each_silent(&rt, &rt, &texts)
+fn a_silent_client_does_not_hold_the_desk(rt: HostRuntime) {
+    let texts = vec![in rt.alloc(); String::new(rt.alloc())].expect(&rt, "texts");
+    for row in &SILENT {
+        let mut callers = Callers::new(&rt, &texts, AfterText::StaysOpen);
+        assert_silent(&rt, &rt, &mut callers, *row);
+    }
 }
 
 /// A connection that cannot be accepted has not read the clock.
@@ -277,27 +255,25 @@ fn assert_not_begun<C: Connections>(
     alloc: Global,
     connections: &mut C,
     clock: &Slow,
-) -> io::Result<()> {
+) {
     let mut late = Late {
         clock,
         action: Action::AnswerWhole,
         written: 0,
     };
-    connections.listen()?;
+    connections.listen().expect(test, "a socket");
     let ended = connections.answer_next(alloc, None, &mut late, first_of_march(test));
-    assert_eq!(test; ended, Err(Failed));
-    assert_eq!(test; clock.readings(), 0);
-    Ok(())
+    assert_same(test, ended, Err(Failed), "no client");
+    assert_same(test, clock.readings(), 0, "no client");
 }
 
 #[test]
-fn time_begins_once_a_connection_is_accepted(rt: HostRuntime) -> Result<(), Fail> {
-    let listener = TcpListener::bind(&rt, "127.0.0.1:0")?;
+fn time_begins_once_a_connection_is_accepted(rt: HostRuntime) {
+    let listener = TcpListener::bind(&rt, "127.0.0.1:0").expect(&rt, "a socket");
     // With no client to wait for, accepting fails.
-    listener.set_nonblocking(true)?;
+    listener.set_nonblocking(true).expect(&rt, "a socket");
     let clock = Slow::by(Duration::ZERO);
     let mut network = Bound(Some(listener));
     let mut connections = Incoming::new(&clock, &mut network, "");
-    assert_not_begun(&rt, rt.alloc(), &mut connections, &clock)?;
-    Ok(())
+    assert_not_begun(&rt, rt.alloc(), &mut connections, &clock);
 }

@@ -5,6 +5,7 @@ ghost use Rattle.std.specs.Time.{instant_nanos};
 
 use crate::clients::{desk_in_memory, first_of_march};
 use crate::clocks::Slow;
+use crate::comparison::assert_same;
 use cli_tasks::serve::{Peer, answer_in_time};
 use desk::Desk;
 use sqlite::MemStore;
@@ -156,9 +157,9 @@ fn assert_trickle(
     let mut taken = Vec::new(alloc);
     let pace = (most, reading, writing);
     let ended = answer_trickling(test, alloc, desk, pace, &unread, &mut taken);
-    assert_eq!(test; ended, expected);
-    assert_eq!(test; taken.as_slice(), response.as_bytes());
-    assert_eq!(test; unread.get(), left);
+    assert_same(test, ended, expected, pace);
+    assert_same(test, taken.as_slice(), response.as_bytes(), pace);
+    assert_same(test, unread.get(), left, pace);
 }
 
 #[test]
