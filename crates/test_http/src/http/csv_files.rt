@@ -1,14 +1,13 @@
 //! Imports and exports over HTTP: bodies and answers that are CSV.
 use super::{
-    Each, Exchange, assert_csv, assert_cut, assert_holder, assert_json, assert_rows, assert_writes,
-    response_of,
+    assert_csv, assert_cut, assert_json, assert_rows, assert_same, assert_writes, csv_response,
+    holder_desk, rows_of,
 };
 use desk::Desk;
 use sqlite::MemStore;
-use std::alloc::{AllocError, Global};
+use std::alloc::Global;
+use std::fmt::Write;
 use std::process::Abort;
-use std::test::Fail;
-use test_library::rows::{Row, table_rows};
 
 const IMPORT_HEADER: &[u8] = b"asn,prefix,maxlength,from,until\n";
 
@@ -139,39 +138,39 @@ asn,prefix,maxlength;AS64496,192.0.2.0/24,24; => 400 {"malformed":2}
 asn,prefix,maxlength,from,until; => 400 {"malformed":12}
 "#;
 
-/// Bodies of other bytes, and the last line of the response.
-const BYTES: [Body; 7] = [
-    Body(
+/// Names, bodies of other bytes, and the last line of the response.
+const BYTES: [(&str, &[u8], &str); 7] = [
+    (
         "carriage_returns_and_line_feeds",
         b"asn,prefix,maxlength,from,until\r\nAS64496,192.0.2.0/24,24,2026-01-01,2026-12-31\r\n",
         "200 {\"made\":1,\"present\":0}",
     ),
-    Body(
+    (
         "carriage_returns_alone",
         b"asn,prefix,maxlength,from,until\rAS64496,192.0.2.0/24,24,2026-01-01,2026-12-31\r",
         "200 {\"made\":0,\"present\":1}",
     ),
-    Body(
+    (
         "byte_order_mark",
         b"\xef\xbb\xbfasn,prefix,maxlength,from,until\nAS64496,192.0.2.0/24,24,2026-01-01,2026-12-31\n",
         "200 {\"made\":0,\"present\":1}",
     ),
-    Body(
+    (
         "empty_lines_are_no_records",
         b"\n\r\nasn,prefix,maxlength,from,until\n\nAS64496,192.0.2.0/24,24,2026-01-01,2026-12-31\n\n",
         "200 {\"made\":0,\"present\":1}",
     ),
-    Body(
+    (
         "byte_order_mark_alone",
         b"\xef\xbb\xbf",
         "400 {\"malformed\":2}",
     ),
-    Body(
+    (
         "header_and_empty_lines",
         b"asn,prefix,maxlength,from,until\r\n\r\n\n",
         "400 {\"malformed\":12}",
     ),
-    Body(
+    (
         "prefix_that_is_no_text",
         b"asn,prefix,maxlength,from,until\nAS64496,192.0.2.0\xff/24,24,2026-01-01,2026-12-31\n",
         "400 {\"malformed\":5}",
@@ -179,39 +178,39 @@ const BYTES: [Body; 7] = [
 ];
 
 /// Holders, callers and bodies of imports, and the last line of the response.
-const LOWEST: [Import; 7] = [
-    Import("Alpha", "Ann", b"", "400 {\"malformed\":2}"),
-    Import(
+const LOWEST: [(&str, &str, &[u8], &str); 7] = [
+    ("Alpha", "Ann", b"", "400 {\"malformed\":2}"),
+    (
         "Alpha",
         "Ann",
         b"asn,prefix,maxlength,from,until\n1,2,3,4,5\n",
         "400 {\"malformed\":3}",
     ),
-    Import(
+    (
         "alpha",
         "Ann",
         b"asn,prefix,maxlength,from,until\n1,2,3,4,5\n",
         "400 {\"malformed\":4}",
     ),
-    Import(
+    (
         "alpha",
         "Ann",
         b"asn,prefix,maxlength,from,until\n",
         "400 {\"malformed\":4}",
     ),
-    Import(
+    (
         "alpha",
         "bob",
         b"asn,prefix,maxlength,from,until\n",
         "400 {\"malformed\":12}",
     ),
-    Import(
+    (
         "alpha",
         "bob",
         b"asn,prefix,maxlength,from,until\nAS1,192.0.2.0/24,24,2026-01-01,2026-12-31\n",
         "403 {\"denied\":\"grant\",\"row\":1}",
     ),
-    Import(
+    (
         "zeta",
         "ann",
         b"asn,prefix,maxlength,from,until\nAS1,192.0.2.0/24,24,2026-01-01,2026-12-31\n",
@@ -223,10 +222,10 @@ const LOWEST: [Import; 7] = [
 const ROW: &[u8] = b"AS64496,192.0.2.0/24,24,2026-01-01,2026-12-31\n";
 
 /// How many rows an import has, the row after them, and the last line of the response.
-const MANY: [ManyRows; 3] = [
-    ManyRows(9_999, ROW, "200 {\"made\":1,\"present\":9999}"),
-    ManyRows(10_000, ROW, "400 {\"malformed\":12}"),
-    ManyRows(
+const MANY: [(usize, &[u8], &str); 3] = [
+    (9_999, ROW, "200 {\"made\":1,\"present\":9999}"),
+    (10_000, ROW, "400 {\"malformed\":12}"),
+    (
         10_000,
         b"AS64496,192.0.2.0/24,24,2026-01-01,\n",
         "400 {\"malformed\":8}",
@@ -289,36 +288,18 @@ const BOTH_EXPORTED: &str =
 
 /// The request of an import whose body is one part and then the other.
 fn import_of(
+    rt: &impl Abort,
     alloc: Global,
     holder: &str,
     caller: &str,
     [first, second]: [&[u8]; 2],
-) -> Result<Vec<u8>, AllocError> {
+) -> Vec<u8> {
     let length = first.len().saturating_add(second.len());
     let head = format!(in alloc;
         "POST /holders/{holder}/imports HTTP/1.1\r\nDesk-Caller: {caller}\r\nContent-Length: {length}\r\n\r\n"
-    )?;
-    [head.as_bytes(), first, second].concat(alloc)
-}
-
-/// The import by `ann` of these rows has this response.
-fn assert_import(
-    rt: &impl Abort,
-    alloc: Global,
-    desk: &mut Desk<MemStore>,
-    rows: &[u8],
-    output: &str,
-) -> Result<(), Fail> {
-    assert_body(rt, alloc, desk, [IMPORT_HEADER, rows], output)
-}
-
-/// The bytes of a text, a line feed for each semicolon.
-fn body_of(alloc: Global, text: &str) -> Result<Vec<u8>, AllocError> {
-    let mut body = Vec::new(alloc);
-    for byte in text.bytes() {
-        body.push(if byte == b';' { b'\n' } else { byte })?;
-    }
-    Ok(body)
+    ).expect(rt, "a head");
+    let parts = [head.as_bytes(), first, second];
+    parts.concat(alloc).expect(rt, "a request")
 }
 
 /// The import by `ann` of a body in two parts has this response.
@@ -328,33 +309,21 @@ fn assert_body(
     desk: &mut Desk<MemStore>,
     parts: [&[u8]; 2],
     output: &str,
-) -> Result<(), Fail> {
-    let request = import_of(alloc, "alpha", "ann", parts)?;
-    assert_json(rt, alloc, desk, &request, output, output)
+    name: &str,
+) {
+    let request = import_of(rt, alloc, "alpha", "ann", parts);
+    assert_json(rt, alloc, desk, &request, output, name);
 }
 
-fn assert_import_row(
+/// The import by `ann` of these rows has this response.
+fn assert_import(
     rt: &impl Abort,
     alloc: Global,
     desk: &mut Desk<MemStore>,
-    header: &[u8],
-    row: Row<'_>,
-) -> Result<(), Fail> {
-    let body = body_of(alloc, row.input)?;
-    assert_body(rt, alloc, desk, [header, &body], row.output)
-}
-
-fn assert_import_rows(
-    rt: &impl Abort,
-    alloc: Global,
-    desk: &mut Desk<MemStore>,
-    header: &[u8],
-    rows: &[Row<'_>],
-) -> Result<(), Fail> {
-    for row in rows {
-        assert_import_row(rt, alloc, desk, header, *row)?;
-    }
-    Ok(())
+    rows: &[u8],
+    output: &str,
+) {
+    assert_body(rt, alloc, desk, [IMPORT_HEADER, rows], output, output);
 }
 
 /// Each row's body, after these bytes, has its response.
@@ -364,324 +333,145 @@ fn assert_imports(
     desk: &mut Desk<MemStore>,
     header: &[u8],
     table: &str,
-) -> Result<(), Fail> {
-    let rows = table_rows(alloc, table)?;
-    assert_import_rows(rt, alloc, desk, header, &rows)
-}
-
-/// Rows after the header, and then whole bodies.
-#[derive(Clone, Copy)]
-struct Bodies;
-
-impl Exchange for Bodies {
-    fn assert(
-        &self,
-        rt: &impl Abort,
-        alloc: Global,
-        desk: &mut Desk<MemStore>,
-    ) -> Result<(), Fail> {
-        assert_imports(rt, alloc, desk, IMPORT_HEADER, ROWS)?;
-        assert_imports(rt, alloc, desk, b"", HEADERS)
+) {
+    for row in &rows_of(rt, alloc, table) {
+        let body = row.input.replace(alloc, ';', "\n").expect(rt, "a body");
+        let parts = [header, body.as_bytes()];
+        assert_body(rt, alloc, desk, parts, row.output, row.name);
     }
 }
 
 #[test]
-fn bodies_of_imports(rt: HostRuntime) -> Result<(), Fail> {
-    assert_holder(&rt, rt.alloc(), &Bodies)
+fn bodies_of_imports(rt: HostRuntime) {
+    let mut desk = holder_desk(&rt, rt.alloc());
+    assert_imports(&rt, rt.alloc(), &mut desk, IMPORT_HEADER, ROWS);
+    assert_imports(&rt, rt.alloc(), &mut desk, b"", HEADERS);
 }
 
-/// A name, the body of an import, and the last line of the response.
-#[derive(Clone, Copy)]
-struct Body(&'static str, &'static [u8], &'static str);
-
-impl Exchange for Body {
-    fn assert(
-        &self,
-        rt: &impl Abort,
-        alloc: Global,
-        desk: &mut Desk<MemStore>,
-    ) -> Result<(), Fail> {
-        let Body(name, body, output) = *self;
-        let request = import_of(alloc, "alpha", "ann", [body, b""])?;
-        assert_json(rt, alloc, desk, &request, output, name)
+#[test]
+fn bytes_of_imports(rt: HostRuntime) {
+    let mut desk = holder_desk(&rt, rt.alloc());
+    for (name, body, output) in BYTES {
+        assert_body(&rt, rt.alloc(), &mut desk, [body, b""], output, name);
     }
 }
 
 #[test]
-fn bytes_of_imports(rt: HostRuntime) -> Result<(), Fail> {
-    assert_holder(&rt, rt.alloc(), &Each(&BYTES))
-}
-
-/// A holder, a caller, the body of an import, and the last line of the response.
-#[derive(Clone, Copy)]
-struct Import(&'static str, &'static str, &'static [u8], &'static str);
-
-impl Exchange for Import {
-    fn assert(
-        &self,
-        rt: &impl Abort,
-        alloc: Global,
-        desk: &mut Desk<MemStore>,
-    ) -> Result<(), Fail> {
-        let Import(holder, caller, rows, output) = *self;
-        let request = import_of(alloc, holder, caller, [rows, b""])?;
-        assert_json(rt, alloc, desk, &request, output, output)
+fn lowest_faults_of_imports(rt: HostRuntime) {
+    let mut desk = holder_desk(&rt, rt.alloc());
+    for (holder, caller, body, output) in LOWEST {
+        let request = import_of(&rt, rt.alloc(), holder, caller, [body, b""]);
+        assert_json(&rt, rt.alloc(), &mut desk, &request, output, output);
     }
 }
 
 #[test]
-fn lowest_faults_of_imports(rt: HostRuntime) -> Result<(), Fail> {
-    assert_holder(&rt, rt.alloc(), &Each(&LOWEST))
-}
-
-/// So many rows like the one above, and then another.
-fn rows_of_many(alloc: Global, count: usize, last: &[u8]) -> Result<Vec<u8>, AllocError> {
-    let rows = ROW.repeat(alloc, count)?;
-    [rows.as_slice(), last].concat(alloc)
-}
-
-/// How many rows an import has, the row after them, and the last line of the response.
-#[derive(Clone, Copy)]
-struct ManyRows(usize, &'static [u8], &'static str);
-
-impl Exchange for ManyRows {
-    fn assert(
-        &self,
-        rt: &impl Abort,
-        alloc: Global,
-        desk: &mut Desk<MemStore>,
-    ) -> Result<(), Fail> {
-        let ManyRows(count, last, output) = *self;
-        let rows = rows_of_many(alloc, count, last)?;
-        assert_import(rt, alloc, desk, &rows, output)
-    }
-}
-
-#[test]
-fn limits_of_rows(rt: HostRuntime) -> Result<(), Fail> {
-    assert_holder(&rt, rt.alloc(), &Each(&MANY))
-}
-
-fn assert_exports(rt: &impl Abort, alloc: Global, desk: &mut Desk<MemStore>) -> Result<(), Fail> {
-    assert_csv(rt, alloc, desk, EXPORT, EXPORT_HEADER)?;
-    assert_two_made(rt, alloc, desk)?;
-    assert_csv(rt, alloc, desk, EXPORT, TWO_EXPORTED)
-}
-
-/// What a clerk of one of the two may see, and an auditor of neither.
-fn assert_exports_by_grants(
-    rt: &impl Abort,
-    alloc: Global,
-    desk: &mut Desk<MemStore>,
-) -> Result<(), Fail> {
-    assert_rows(rt, alloc, desk, GRANTS)?;
-    assert_csv(
-        rt,
-        alloc,
-        desk,
-        "GET /holders/alpha/export cleo",
-        FIRST_EXPORTED,
-    )?;
-    assert_csv(
-        rt,
-        alloc,
-        desk,
-        "GET /holders/alpha/export cora",
-        EXPORT_HEADER,
-    )?;
-    assert_rows(rt, alloc, desk, DENIED)?;
-    assert_csv(rt, alloc, desk, EXPORT, FIRST_EXPORTED)
-}
-
-/// The exports of an empty holder and of two authorizations.
-#[derive(Clone, Copy)]
-struct TwoExported;
-
-impl Exchange for TwoExported {
-    fn assert(
-        &self,
-        rt: &impl Abort,
-        alloc: Global,
-        desk: &mut Desk<MemStore>,
-    ) -> Result<(), Fail> {
-        assert_exports(rt, alloc, desk)?;
-        assert_exports_by_grants(rt, alloc, desk)
-    }
-}
-
-#[test]
-fn export_two_authorizations(rt: HostRuntime) -> Result<(), Fail> {
-    assert_eq!(rt; TWO_EXPORTED.len(), 137);
-    assert_holder(&rt, rt.alloc(), &TwoExported)
-}
-
-/// Each beginning of this response to an export is taken.
-#[derive(Clone, Copy)]
-struct CutExport<'a>(&'a str);
-
-impl Exchange for CutExport<'_> {
-    fn assert(
-        &self,
-        rt: &impl Abort,
-        alloc: Global,
-        desk: &mut Desk<MemStore>,
-    ) -> Result<(), Fail> {
-        assert_two_made(rt, alloc, desk)?;
-        for room in 0..self.0.len() {
-            assert_cut(rt, alloc, desk, EXPORT, self.0, room)?;
-        }
-        Ok(())
+fn limits_of_rows(rt: HostRuntime) {
+    let mut desk = holder_desk(&rt, rt.alloc());
+    for (count, last, output) in MANY {
+        let mut rows = ROW.repeat(rt.alloc(), count).expect(&rt, "rows");
+        rows.extend_from_slice(last).expect(&rt, "a row");
+        assert_import(&rt, rt.alloc(), &mut desk, &rows, output);
     }
 }
 
 /// The two rows are made.
-fn assert_two_made(rt: &impl Abort, alloc: Global, desk: &mut Desk<MemStore>) -> Result<(), Fail> {
-    assert_import(rt, alloc, desk, TWO_ROWS, "200 {\"made\":2,\"present\":0}")
+fn assert_two_made(rt: &impl Abort, alloc: Global, desk: &mut Desk<MemStore>) {
+    assert_import(rt, alloc, desk, TWO_ROWS, "200 {\"made\":2,\"present\":0}");
 }
 
+/// What `ann` exports is this.
+fn assert_export(rt: &impl Abort, alloc: Global, desk: &mut Desk<MemStore>, body: &str) {
+    assert_csv(rt, alloc, desk, EXPORT, body);
+}
+
+/// The exports of an empty holder and of two authorizations, of which a clerk of one of them may
+/// see one, and an auditor of neither sees none.
 #[test]
-fn export_that_is_cut_short(rt: HostRuntime) -> Result<(), Fail> {
-    let response = response_of(rt.alloc(), "200", "text/csv", "", TWO_EXPORTED)?;
-    assert_holder(&rt, rt.alloc(), &CutExport(&response))
+fn export_two_authorizations(rt: HostRuntime) {
+    assert_same(&rt, TWO_EXPORTED.len(), 137, "the length");
+    let mut desk = holder_desk(&rt, rt.alloc());
+    assert_export(&rt, rt.alloc(), &mut desk, EXPORT_HEADER);
+    assert_two_made(&rt, rt.alloc(), &mut desk);
+    assert_export(&rt, rt.alloc(), &mut desk, TWO_EXPORTED);
+    assert_rows(&rt, rt.alloc(), &mut desk, GRANTS);
+    let clerk = "GET /holders/alpha/export cleo";
+    assert_csv(&rt, rt.alloc(), &mut desk, clerk, FIRST_EXPORTED);
+    let auditor = "GET /holders/alpha/export cora";
+    assert_csv(&rt, rt.alloc(), &mut desk, auditor, EXPORT_HEADER);
+    assert_rows(&rt, rt.alloc(), &mut desk, DENIED);
+    assert_export(&rt, rt.alloc(), &mut desk, FIRST_EXPORTED);
+}
+
+/// Each beginning of the response to an export is taken.
+#[test]
+fn export_that_is_cut_short(rt: HostRuntime) {
+    let mut desk = holder_desk(&rt, rt.alloc());
+    assert_two_made(&rt, rt.alloc(), &mut desk);
+    let response = csv_response(&rt, rt.alloc(), TWO_EXPORTED);
+    for room in 0..response.len() {
+        assert_cut(&rt, rt.alloc(), &mut desk, EXPORT, &response, room);
+    }
 }
 
 /// An import of which one row is denied makes none.
-#[derive(Clone, Copy)]
-struct DeniedImport;
-
-impl Exchange for DeniedImport {
-    fn assert(
-        &self,
-        rt: &impl Abort,
-        alloc: Global,
-        desk: &mut Desk<MemStore>,
-    ) -> Result<(), Fail> {
-        assert_two_made(rt, alloc, desk)?;
-        let denied = "403 {\"denied\":\"held\",\"row\":2}";
-        assert_import(rt, alloc, desk, ONE_NOT_HELD, denied)?;
-        assert_rows(rt, alloc, desk, TWO_LISTED)
-    }
+#[test]
+fn import_that_is_denied_makes_nothing(rt: HostRuntime) {
+    let mut desk = holder_desk(&rt, rt.alloc());
+    assert_two_made(&rt, rt.alloc(), &mut desk);
+    let denied = "403 {\"denied\":\"held\",\"row\":2}";
+    assert_import(&rt, rt.alloc(), &mut desk, ONE_NOT_HELD, denied);
+    assert_rows(&rt, rt.alloc(), &mut desk, TWO_LISTED);
 }
 
 #[test]
-fn import_that_is_denied_makes_nothing(rt: HostRuntime) -> Result<(), Fail> {
-    assert_holder(&rt, rt.alloc(), &DeniedImport)
-}
-
-/// The import and the export of rows of both families.
-#[derive(Clone, Copy)]
-struct BothFamilies;
-
-impl Exchange for BothFamilies {
-    fn assert(
-        &self,
-        rt: &impl Abort,
-        alloc: Global,
-        desk: &mut Desk<MemStore>,
-    ) -> Result<(), Fail> {
-        assert_rows(rt, alloc, desk, IPV6_HOLDING)?;
-        let made = "200 {\"made\":2,\"present\":0}";
-        assert_import(rt, alloc, desk, BOTH_FAMILIES, made)?;
-        assert_csv(rt, alloc, desk, EXPORT, BOTH_EXPORTED)
-    }
-}
-
-#[test]
-fn import_of_both_families(rt: HostRuntime) -> Result<(), Fail> {
-    assert_holder(&rt, rt.alloc(), &BothFamilies)
-}
-
-/// Adds a row of this AS.
-fn add_row(alloc: Global, asn: u32, rows: &mut String) -> Result<(), AllocError> {
-    let row = format!(in alloc; "AS{asn},192.0.2.0/24,24,2026-01-01,2026-12-31\n")?;
-    rows.push_str(&row)
-}
-
-/// Adds what is exported of the row of this AS, whose number is that of the AS.
-fn add_exported(alloc: Global, asn: u32, exported: &mut String) -> Result<(), AllocError> {
-    let number = format!(in alloc; "{asn},")?;
-    exported.push_str(&number)?;
-    add_row(alloc, asn, exported)
+fn import_of_both_families(rt: HostRuntime) {
+    let mut desk = holder_desk(&rt, rt.alloc());
+    assert_rows(&rt, rt.alloc(), &mut desk, IPV6_HOLDING);
+    let made = "200 {\"made\":2,\"present\":0}";
+    assert_import(&rt, rt.alloc(), &mut desk, BOTH_FAMILIES, made);
+    assert_export(&rt, rt.alloc(), &mut desk, BOTH_EXPORTED);
 }
 
 /// So many rows, one for each AS from 1 on.
-fn rows_of_each(alloc: Global, count: u32) -> Result<String, AllocError> {
+fn rows_of_each(rt: &impl Abort, alloc: Global, count: u32) -> String {
     let mut rows = String::new(alloc);
     for asn in 1..=count {
-        add_row(alloc, asn, &mut rows)?;
+        write!(rows, "AS{asn},192.0.2.0/24,24,2026-01-01,2026-12-31\n").expect(rt, "a row");
     }
-    Ok(rows)
+    rows
 }
 
-/// What is exported of them.
-fn export_of_each(alloc: Global, count: u32) -> Result<String, AllocError> {
-    let mut exported = String::from_str(alloc, EXPORT_HEADER)?;
+/// What is exported of them: the number of each is that of its AS.
+fn export_of_each(rt: &impl Abort, alloc: Global, count: u32) -> String {
+    let mut exported = String::from_str(alloc, EXPORT_HEADER).expect(rt, "a header");
     for asn in 1..=count {
-        add_exported(alloc, asn, &mut exported)?;
+        write!(
+            exported,
+            "{asn},AS{asn},192.0.2.0/24,24,2026-01-01,2026-12-31\n"
+        )
+        .expect(rt, "a row");
     }
-    Ok(exported)
+    exported
 }
 
 /// An import that has one row too many is denied whole.
-#[derive(Clone, Copy)]
-struct OneRowTooMany;
-
-impl Exchange for OneRowTooMany {
-    fn assert(
-        &self,
-        rt: &impl Abort,
-        alloc: Global,
-        desk: &mut Desk<MemStore>,
-    ) -> Result<(), Fail> {
-        let rows = rows_of_each(alloc, 1001)?;
-        let denied = "403 {\"denied\":\"room\",\"row\":1001}";
-        assert_import(rt, alloc, desk, rows.as_bytes(), denied)?;
-        assert_rows(rt, alloc, desk, NOTHING_LISTED)
-    }
+#[test]
+fn import_of_1001_rows_makes_nothing(rt: HostRuntime) {
+    let mut desk = holder_desk(&rt, rt.alloc());
+    let rows = rows_of_each(&rt, rt.alloc(), 1001);
+    let denied = "403 {\"denied\":\"room\",\"row\":1001}";
+    assert_import(&rt, rt.alloc(), &mut desk, rows.as_bytes(), denied);
+    assert_rows(&rt, rt.alloc(), &mut desk, NOTHING_LISTED);
 }
 
 #[test]
-fn import_of_1001_rows_makes_nothing(rt: HostRuntime) -> Result<(), Fail> {
-    assert_holder(&rt, rt.alloc(), &OneRowTooMany)
-}
-
-fn assert_1000_rows_are_made(
-    rt: &impl Abort,
-    alloc: Global,
-    desk: &mut Desk<MemStore>,
-) -> Result<(), Fail> {
-    let rows = rows_of_each(alloc, 1000)?;
+fn export_a_thousand_authorizations(rt: HostRuntime) {
+    let mut desk = holder_desk(&rt, rt.alloc());
+    let rows = rows_of_each(&rt, rt.alloc(), 1000);
     let made = "200 {\"made\":1000,\"present\":0}";
-    assert_import(rt, alloc, desk, rows.as_bytes(), made)
-}
-
-fn assert_1000_rows_are_exported(
-    rt: &impl Abort,
-    alloc: Global,
-    desk: &mut Desk<MemStore>,
-) -> Result<(), Fail> {
-    let exported = export_of_each(alloc, 1000)?;
-    assert_csv(rt, alloc, desk, EXPORT, &exported)?;
-    assert_writes(rt, alloc, desk, EXPORT, 2)
-}
-
-/// The import and the export of a thousand rows.
-#[derive(Clone, Copy)]
-struct ThousandRows;
-
-impl Exchange for ThousandRows {
-    fn assert(
-        &self,
-        rt: &impl Abort,
-        alloc: Global,
-        desk: &mut Desk<MemStore>,
-    ) -> Result<(), Fail> {
-        assert_1000_rows_are_made(rt, alloc, desk)?;
-        assert_1000_rows_are_exported(rt, alloc, desk)
-    }
-}
-
-#[test]
-fn export_a_thousand_authorizations(rt: HostRuntime) -> Result<(), Fail> {
-    assert_holder(&rt, rt.alloc(), &ThousandRows)
+    assert_import(&rt, rt.alloc(), &mut desk, rows.as_bytes(), made);
+    let exported = export_of_each(&rt, rt.alloc(), 1000);
+    assert_export(&rt, rt.alloc(), &mut desk, &exported);
+    assert_writes(&rt, rt.alloc(), &mut desk, EXPORT, 2);
 }

@@ -1,13 +1,12 @@
 //! The limits of heads, of fields and of bodies.
 use super::{
-    AT_ONCE, Each, Exchange, Manner, assert_json, assert_new_desk, assert_response, json_response,
-    request_text, response_of, serve,
+    AT_ONCE, Manner, assert_json, assert_response, assert_same, assert_served, csv_response,
+    json_response, new_desk, request_text, serve,
 };
 use desk::Desk;
 use sqlite::MemStore;
-use std::alloc::{AllocError, Global};
+use std::alloc::Global;
 use std::process::Abort;
-use std::test::Fail;
 use test_library::rows::nested;
 
 const HEAD_LIMIT: usize = 8192;
@@ -18,24 +17,18 @@ const BODY_LIMIT: usize = 1_048_576;
 const HEAD: &str = "GET /payloads HTTP/1.1\r\nDesk-Caller: bob\r\n";
 
 /// A request for VRPs whose head has so many bytes.
-fn long_head(alloc: Global, length: usize) -> Result<String, AllocError> {
+fn long_head(rt: &impl Abort, alloc: Global, length: usize) -> String {
     let others = HEAD.len() + "Filler: ".len() + "\r\n\r\n".len();
-    let filler = "x".repeat(alloc, length.saturating_sub(others))?;
-    format!(in alloc; "{HEAD}Filler: {filler}\r\n\r\n")
+    let filler = "x".repeat(alloc, length.saturating_sub(others));
+    let filler = filler.expect(rt, "a filler");
+    format!(in alloc; "{HEAD}Filler: {filler}\r\n\r\n").expect(rt, "a head")
 }
 
 /// A request for VRPs with so many fields.
-fn many_fields(alloc: Global, count: usize) -> Result<String, AllocError> {
-    let fillers = "Filler: x\r\n".repeat(alloc, count.saturating_sub(1))?;
-    format!(in alloc; "{HEAD}{fillers}\r\n")
-}
-
-/// A request whose body is this text and then spaces.
-fn padded(alloc: Global, text: &str, length: usize) -> Result<String, AllocError> {
-    let spaces = " ".repeat(alloc, length.saturating_sub(text.len()))?;
-    format!(in alloc;
-        "POST /validity HTTP/1.1\r\nDesk-Caller: bob\r\nContent-Length: {length}\r\n\r\n{text}{spaces}"
-    )
+fn many_fields(rt: &impl Abort, alloc: Global, count: usize) -> String {
+    let fillers = "Filler: x\r\n".repeat(alloc, count.saturating_sub(1));
+    let fillers = fillers.expect(rt, "fillers");
+    format!(in alloc; "{HEAD}{fillers}\r\n").expect(rt, "a head")
 }
 
 /// A head is answered with the VRPs, of which there are none.
@@ -45,9 +38,9 @@ fn assert_head_is_read(
     desk: &mut Desk<MemStore>,
     head: &str,
     name: &str,
-) -> Result<(), Fail> {
-    let csv = response_of(alloc, "200", "text/csv", "", "asn,prefix,maxlength\n")?;
-    assert_response(rt, alloc, desk, head.as_bytes(), &csv, name)
+) {
+    let csv = csv_response(rt, alloc, "asn,prefix,maxlength\n");
+    assert_response(rt, alloc, desk, head.as_bytes(), &csv, name);
 }
 
 fn assert_head_is_refused(
@@ -56,61 +49,29 @@ fn assert_head_is_refused(
     desk: &mut Desk<MemStore>,
     head: &str,
     name: &str,
-) -> Result<(), Fail> {
-    assert_json(
-        rt,
-        alloc,
-        desk,
-        head.as_bytes(),
-        "400 {\"error\":400}",
-        name,
-    )
+) {
+    let refused = "400 {\"error\":400}";
+    assert_json(rt, alloc, desk, head.as_bytes(), refused, name);
 }
 
 /// The longest head, and one that is too long.
-#[derive(Clone, Copy)]
-struct HeadLimit;
-
-impl Exchange for HeadLimit {
-    fn assert(
-        &self,
-        rt: &impl Abort,
-        alloc: Global,
-        desk: &mut Desk<MemStore>,
-    ) -> Result<(), Fail> {
-        let head = long_head(alloc, HEAD_LIMIT)?;
-        assert_head_is_read(rt, alloc, desk, &head, "8192 bytes")?;
-        let longer = long_head(alloc, HEAD_LIMIT + 1)?;
-        assert_head_is_refused(rt, alloc, desk, &longer, "8193 bytes")
-    }
-}
-
 #[test]
-fn head_limit(rt: HostRuntime) -> Result<(), Fail> {
-    assert_new_desk(&rt, rt.alloc(), &HeadLimit)
+fn head_limit(rt: HostRuntime) {
+    let mut desk = new_desk(&rt, rt.alloc());
+    let head = long_head(&rt, rt.alloc(), HEAD_LIMIT);
+    assert_head_is_read(&rt, rt.alloc(), &mut desk, &head, "8192 bytes");
+    let longer = long_head(&rt, rt.alloc(), HEAD_LIMIT + 1);
+    assert_head_is_refused(&rt, rt.alloc(), &mut desk, &longer, "8193 bytes");
 }
 
 /// As many fields as a head may have, and one more.
-#[derive(Clone, Copy)]
-struct FieldLimit;
-
-impl Exchange for FieldLimit {
-    fn assert(
-        &self,
-        rt: &impl Abort,
-        alloc: Global,
-        desk: &mut Desk<MemStore>,
-    ) -> Result<(), Fail> {
-        let fields = many_fields(alloc, 32)?;
-        assert_head_is_read(rt, alloc, desk, &fields, "32 fields")?;
-        let more = many_fields(alloc, 33)?;
-        assert_head_is_refused(rt, alloc, desk, &more, "33 fields")
-    }
-}
-
 #[test]
-fn field_limit(rt: HostRuntime) -> Result<(), Fail> {
-    assert_new_desk(&rt, rt.alloc(), &FieldLimit)
+fn field_limit(rt: HostRuntime) {
+    let mut desk = new_desk(&rt, rt.alloc());
+    let fields = many_fields(&rt, rt.alloc(), 32);
+    assert_head_is_read(&rt, rt.alloc(), &mut desk, &fields, "32 fields");
+    let more = many_fields(&rt, rt.alloc(), 33);
+    assert_head_is_refused(&rt, rt.alloc(), &mut desk, &more, "33 fields");
 }
 
 /// A connection that fails after these bytes is answered before, and so many of them are left unread.
@@ -120,46 +81,29 @@ fn assert_refused_before(
     desk: &mut Desk<MemStore>,
     bytes: &[u8],
     unread: usize,
-) -> Result<(), Fail> {
-    let refused = json_response(alloc, "400 {\"error\":400}")?;
+) {
+    let refused = json_response(rt, alloc, "400 {\"error\":400}");
     let manner = Manner {
         fails: true,
         ..AT_ONCE
     };
-    let outcome = serve(alloc, desk, bytes, manner)?;
-    assert!(rt; outcome.result == Ok(()), "{unread} unread");
-    assert!(rt;
-        outcome.written.as_slice() == refused.as_bytes(),
-        "{unread} unread"
-    );
-    assert!(rt; outcome.unread == unread, "{unread} unread");
-    Ok(())
+    let outcome = serve(rt, alloc, desk, bytes, manner);
+    assert_served(rt, &outcome, &refused, ("unread", unread));
+    assert_same(rt, outcome.unread, unread, "unread");
 }
 
 /// A head that has no end within the limit is refused, and what follows the limit is not read.
-#[derive(Clone, Copy)]
-struct EndlessHeads;
-
-impl Exchange for EndlessHeads {
-    fn assert(
-        &self,
-        rt: &impl Abort,
-        alloc: Global,
-        desk: &mut Desk<MemStore>,
-    ) -> Result<(), Fail> {
-        let head = long_head(alloc, HEAD_LIMIT + 1)?;
-        let beginning = head.as_bytes().get(..HEAD_LIMIT).ok_or("a short head")?;
-        assert_refused_before(rt, alloc, desk, beginning, 0)?;
-        assert_refused_before(rt, alloc, desk, head.as_bytes(), 1)
-    }
-}
-
 #[test]
-fn head_without_an_end(rt: HostRuntime) -> Result<(), Fail> {
-    assert_new_desk(&rt, rt.alloc(), &EndlessHeads)
+fn head_without_an_end(rt: HostRuntime) {
+    let mut desk = new_desk(&rt, rt.alloc());
+    let head = long_head(&rt, rt.alloc(), HEAD_LIMIT + 1);
+    let beginning = head.as_bytes().get(..HEAD_LIMIT);
+    let beginning = beginning.expect(&rt, "a long head");
+    assert_refused_before(&rt, rt.alloc(), &mut desk, beginning, 0);
+    assert_refused_before(&rt, rt.alloc(), &mut desk, head.as_bytes(), 1);
 }
 
-/// A body that is padded to so many bytes has this response.
+/// A body that is padded with spaces to so many bytes has this response.
 fn assert_padded(
     rt: &impl Abort,
     alloc: Global,
@@ -167,105 +111,67 @@ fn assert_padded(
     body: &str,
     length: usize,
     output: &str,
-) -> Result<(), Fail> {
-    let request = padded(alloc, body, length)?;
-    assert_json(rt, alloc, desk, request.as_bytes(), output, output)
+) {
+    let spaces = " ".repeat(alloc, length.saturating_sub(body.len()));
+    let spaces = spaces.expect(rt, "spaces");
+    let request = format!(in alloc;
+        "POST /validity HTTP/1.1\r\nDesk-Caller: bob\r\nContent-Length: {length}\r\n\r\n{body}{spaces}"
+    ).expect(rt, "a request");
+    assert_json(rt, alloc, desk, request.as_bytes(), output, output);
 }
 
 /// The longest body, and one that is too long.
-#[derive(Clone, Copy)]
-struct BodyLimit;
-
-impl Exchange for BodyLimit {
-    fn assert(
-        &self,
-        rt: &impl Abort,
-        alloc: Global,
-        desk: &mut Desk<MemStore>,
-    ) -> Result<(), Fail> {
-        let routes = "{\"routes\":[{\"prefix\":\"192.0.2.0/24\",\"origin\":null}]}";
-        let answered = "200 {\"answers\":[\"NotFound\"]}";
-        assert_padded(rt, alloc, desk, routes, BODY_LIMIT, answered)?;
-        let refused = "413 {\"error\":413}";
-        assert_padded(rt, alloc, desk, routes, BODY_LIMIT + 1, refused)
-    }
-}
-
 #[test]
-fn body_limit(rt: HostRuntime) -> Result<(), Fail> {
-    assert_new_desk(&rt, rt.alloc(), &BodyLimit)
+fn body_limit(rt: HostRuntime) {
+    let mut desk = new_desk(&rt, rt.alloc());
+    let routes = "{\"routes\":[{\"prefix\":\"192.0.2.0/24\",\"origin\":null}]}";
+    let answered = "200 {\"answers\":[\"NotFound\"]}";
+    assert_padded(&rt, rt.alloc(), &mut desk, routes, BODY_LIMIT, answered);
+    let refused = "413 {\"error\":413}";
+    assert_padded(&rt, rt.alloc(), &mut desk, routes, BODY_LIMIT + 1, refused);
 }
 
 /// Requests, how deep the array that is their body nests, and their responses.
-const NESTED_BODIES: [NestedBody; 6] = [
-    NestedBody(
+const NESTED_BODIES: [(&str, u32, &str); 6] = [
+    (
         "POST /holders/alpha/auths ann",
         127,
         "400 {\"malformed\":2}",
     ),
-    NestedBody(
+    (
         "POST /holders/alpha/auths ann",
         128,
         "400 {\"malformed\":1}",
     ),
-    NestedBody("PUT /slurm reg", 127, "400 {\"malformed\":11,\"slurm\":2}"),
-    NestedBody("PUT /slurm reg", 128, "400 {\"malformed\":11,\"slurm\":1}"),
-    NestedBody("PUT /slurms reg", 127, "400 {\"malformed\":2}"),
-    NestedBody("PUT /slurms reg", 128, "400 {\"malformed\":1}"),
+    ("PUT /slurm reg", 127, "400 {\"malformed\":11,\"slurm\":2}"),
+    ("PUT /slurm reg", 128, "400 {\"malformed\":11,\"slurm\":1}"),
+    ("PUT /slurms reg", 127, "400 {\"malformed\":2}"),
+    ("PUT /slurms reg", 128, "400 {\"malformed\":1}"),
 ];
 
-/// The request of a row, whose body is an array that nests so deep, has the response.
-#[derive(Clone, Copy)]
-struct NestedBody(&'static str, u32, &'static str);
-
-impl Exchange for NestedBody {
-    fn assert(
-        &self,
-        rt: &impl Abort,
-        alloc: Global,
-        desk: &mut Desk<MemStore>,
-    ) -> Result<(), Fail> {
-        let NestedBody(path, depth, output) = *self;
-        let body = nested(alloc, depth)?;
-        let line = format!(in alloc; "{path} {body}")?;
-        let request = request_text(alloc, &line)?;
-        assert_json(rt, alloc, desk, request.as_bytes(), output, path)
-    }
-}
-
 #[test]
-fn nesting_limits(rt: HostRuntime) -> Result<(), Fail> {
-    for row in &NESTED_BODIES {
-        assert_new_desk(&rt, rt.alloc(), row)?;
+fn nesting_limits(rt: HostRuntime) {
+    for (path, depth, output) in NESTED_BODIES {
+        let mut desk = new_desk(&rt, rt.alloc());
+        let body = nested(rt.alloc(), depth).expect(&rt, "a body");
+        let row = format!(in rt.alloc(); "{path} {body}").expect(&rt, "a row");
+        let request = request_text(&rt, rt.alloc(), &row);
+        assert_json(&rt, rt.alloc(), &mut desk, request.as_bytes(), output, path);
     }
-    Ok(())
 }
 
 /// How deep routes nest within their body, and the response.
-const DEPTHS: [Depth; 2] = [
-    Depth(126, "400 {\"malformed\":2}"),
-    Depth(127, "400 {\"malformed\":1}"),
+const DEPTHS: [(u32, &str); 2] = [
+    (126, "400 {\"malformed\":2}"),
+    (127, "400 {\"malformed\":1}"),
 ];
 
-/// How deep routes nest within their body, and the response.
-#[derive(Clone, Copy)]
-struct Depth(u32, &'static str);
-
-impl Exchange for Depth {
-    fn assert(
-        &self,
-        rt: &impl Abort,
-        alloc: Global,
-        desk: &mut Desk<MemStore>,
-    ) -> Result<(), Fail> {
-        let Depth(depth, output) = *self;
-        let routes = nested(alloc, depth)?;
-        let body = format!(in alloc; "{{\"routes\":{routes}}}")?;
-        assert_padded(rt, alloc, desk, &body, body.len(), output)
-    }
-}
-
 #[test]
-fn body_nests_at_most_127_levels(rt: HostRuntime) -> Result<(), Fail> {
-    assert_new_desk(&rt, rt.alloc(), &Each(&DEPTHS))
+fn body_nests_at_most_127_levels(rt: HostRuntime) {
+    let mut desk = new_desk(&rt, rt.alloc());
+    for (depth, output) in DEPTHS {
+        let routes = nested(rt.alloc(), depth).expect(&rt, "routes");
+        let body = format!(in rt.alloc(); "{{\"routes\":{routes}}}").expect(&rt, "a body");
+        assert_padded(&rt, rt.alloc(), &mut desk, &body, body.len(), output);
+    }
 }

@@ -1,13 +1,11 @@
 //! Requests of every path, and what they are refused for.
 use super::{
-    Each, Exchange, Table, assert_csv, assert_holder, assert_new_desk, assert_response,
-    assert_rows, json_response, response_of,
+    assert_csv, assert_response, assert_rows, holder_desk, json_response, new_desk, response_of,
 };
 use desk::Desk;
 use sqlite::MemStore;
 use std::alloc::Global;
 use std::process::Abort;
-use std::test::Fail;
 
 pub(crate) const REGISTERED_HOLDER: &str = r#"
 # registered_holder
@@ -160,157 +158,110 @@ const NOT_FOUND: [&str; 16] = [
 ];
 
 /// Paths, and the methods that each has in the order of the table of routes.
-const ALLOWED: [Allowed; 16] = [
-    Allowed("/holders/alpha", "PUT"),
-    Allowed("/holders/alpha/delegations", "POST"),
-    Allowed("/holders/alpha/reclaims", "POST"),
-    Allowed("/transfers", "POST"),
-    Allowed("/holders/alpha/grants", "POST"),
-    Allowed("/holders/alpha/grants/1", "DELETE"),
-    Allowed("/holders/alpha/auths", "GET, POST"),
-    Allowed("/holders/alpha/auths/1", "GET, PATCH, DELETE"),
-    Allowed("/holders/alpha/auths/1/content", "GET"),
-    Allowed("/holders/alpha/export", "GET"),
-    Allowed("/holders/alpha/imports", "POST"),
-    Allowed("/holders/alpha/whatif", "POST"),
-    Allowed("/slurm", "PUT"),
-    Allowed("/slurms", "PUT"),
-    Allowed("/payloads", "GET"),
-    Allowed("/validity", "POST"),
+const ALLOWED: [(&str, &str); 16] = [
+    ("/holders/alpha", "PUT"),
+    ("/holders/alpha/delegations", "POST"),
+    ("/holders/alpha/reclaims", "POST"),
+    ("/transfers", "POST"),
+    ("/holders/alpha/grants", "POST"),
+    ("/holders/alpha/grants/1", "DELETE"),
+    ("/holders/alpha/auths", "GET, POST"),
+    ("/holders/alpha/auths/1", "GET, PATCH, DELETE"),
+    ("/holders/alpha/auths/1/content", "GET"),
+    ("/holders/alpha/export", "GET"),
+    ("/holders/alpha/imports", "POST"),
+    ("/holders/alpha/whatif", "POST"),
+    ("/slurm", "PUT"),
+    ("/slurms", "PUT"),
+    ("/payloads", "GET"),
+    ("/validity", "POST"),
 ];
 
 const METHODS: [&str; 9] = [
     "GET", "PUT", "POST", "PATCH", "DELETE", "HEAD", "OPTIONS", "get", "TRACE",
 ];
 
-/// A request without a caller.
-fn bare_request(alloc: Global, method: &str, target: &str, fields: &str) -> Result<String, Fail> {
-    Ok(format!(in alloc; "{method} {target} HTTP/1.1\r\n{fields}\r\n")?)
+#[test]
+fn every_path_is_answered(rt: HostRuntime) {
+    let mut desk = holder_desk(&rt, rt.alloc());
+    assert_rows(&rt, rt.alloc(), &mut desk, EVERY_PATH);
 }
 
 #[test]
-fn every_path_is_answered(rt: HostRuntime) -> Result<(), Fail> {
-    assert_holder(&rt, rt.alloc(), &Table(EVERY_PATH))
+fn slurm_files_are_put(rt: HostRuntime) {
+    let mut desk = new_desk(&rt, rt.alloc());
+    assert_rows(&rt, rt.alloc(), &mut desk, SLURM_FILES);
 }
 
 #[test]
-fn slurm_files_are_put(rt: HostRuntime) -> Result<(), Fail> {
-    assert_new_desk(&rt, rt.alloc(), &Table(SLURM_FILES))
-}
-
-#[test]
-fn malformed_requests_have_their_lowest_number(rt: HostRuntime) -> Result<(), Fail> {
-    assert_holder(&rt, rt.alloc(), &Table(MALFORMED))
+fn malformed_requests_have_their_lowest_number(rt: HostRuntime) {
+    let mut desk = holder_desk(&rt, rt.alloc());
+    assert_rows(&rt, rt.alloc(), &mut desk, MALFORMED);
 }
 
 /// The payloads before a create and after it.
-#[derive(Clone, Copy)]
-struct Payloads;
-
-impl Exchange for Payloads {
-    fn assert(
-        &self,
-        rt: &impl Abort,
-        alloc: Global,
-        desk: &mut Desk<MemStore>,
-    ) -> Result<(), Fail> {
-        assert_csv(rt, alloc, desk, PAYLOADS, "asn,prefix,maxlength\n")?;
-        assert_rows(rt, alloc, desk, CREATED)?;
-        assert_csv(rt, alloc, desk, PAYLOADS, ONE_PAYLOAD)
-    }
-}
-
 #[test]
-fn payloads_are_answered_as_csv(rt: HostRuntime) -> Result<(), Fail> {
-    assert_holder(&rt, rt.alloc(), &Payloads)
+fn payloads_are_answered_as_csv(rt: HostRuntime) {
+    let mut desk = holder_desk(&rt, rt.alloc());
+    assert_csv(
+        &rt,
+        rt.alloc(),
+        &mut desk,
+        PAYLOADS,
+        "asn,prefix,maxlength\n",
+    );
+    assert_rows(&rt, rt.alloc(), &mut desk, CREATED);
+    assert_csv(&rt, rt.alloc(), &mut desk, PAYLOADS, ONE_PAYLOAD);
 }
 
-/// A request with the fields of a head, whose response has this body and these further fields.
+/// A request without a caller, with these fields, has this response.
 fn assert_refused(
     rt: &impl Abort,
     alloc: Global,
     desk: &mut Desk<MemStore>,
-    request: (&str, &str, &str),
+    (method, target, fields): (&str, &str, &str),
     response: &str,
-) -> Result<(), Fail> {
-    let (method, target, fields) = request;
-    let request = bare_request(alloc, method, target, fields)?;
-    assert_response(rt, alloc, desk, request.as_bytes(), response, target)
-}
-
-fn assert_not_found(
-    rt: &impl Abort,
-    alloc: Global,
-    desk: &mut Desk<MemStore>,
-    target: &str,
-    response: &str,
-) -> Result<(), Fail> {
-    for method in &METHODS {
-        assert_refused(rt, alloc, desk, (method, target, ""), response)?;
-    }
-    Ok(())
-}
-
-/// Targets that no path has are answered so.
-#[derive(Clone, Copy)]
-struct NoPaths<'a>(&'a str);
-
-impl Exchange for NoPaths<'_> {
-    fn assert(
-        &self,
-        rt: &impl Abort,
-        alloc: Global,
-        desk: &mut Desk<MemStore>,
-    ) -> Result<(), Fail> {
-        for target in &NOT_FOUND {
-            assert_not_found(rt, alloc, desk, target, self.0)?;
-        }
-        Ok(())
-    }
+) {
+    let request = format!(in alloc; "{method} {target} HTTP/1.1\r\n{fields}\r\n");
+    let request = request.expect(rt, "a request");
+    assert_response(rt, alloc, desk, request.as_bytes(), response, target);
 }
 
 #[test]
-fn target_without_a_path_is_not_found(rt: HostRuntime) -> Result<(), Fail> {
-    let response = json_response(rt.alloc(), "404 {\"error\":404}")?;
-    assert_new_desk(&rt, rt.alloc(), &NoPaths(&response))
+fn target_without_a_path_is_not_found(rt: HostRuntime) {
+    let mut desk = new_desk(&rt, rt.alloc());
+    let response = json_response(&rt, rt.alloc(), "404 {\"error\":404}");
+    for target in NOT_FOUND {
+        for method in METHODS {
+            let request = (method, target, "");
+            assert_refused(&rt, rt.alloc(), &mut desk, request, &response);
+        }
+    }
 }
 
-/// Every method but those allowed has this response.
+/// Every method but those allowed is answered with them.
 fn assert_others_refused(
     rt: &impl Abort,
     alloc: Global,
     desk: &mut Desk<MemStore>,
-    (path, allowed): (&str, &str),
-    response: &str,
-) -> Result<(), Fail> {
-    for method in &METHODS {
-        if !allowed.split(", ").any(|name| name == *method) {
-            let request = (*method, path, "Transfer-Encoding: chunked\r\n");
-            assert_refused(rt, alloc, desk, request, response)?;
+    path: &str,
+    allowed: &str,
+) {
+    let fields = format!(in alloc; "Allow: {allowed}\r\n").expect(rt, "a field");
+    let body = "{\"error\":405}\n";
+    let response = response_of(rt, alloc, "405", "application/json", &fields, body);
+    for method in METHODS {
+        if !allowed.split(", ").any(|name| name == method) {
+            let request = (method, path, "Transfer-Encoding: chunked\r\n");
+            assert_refused(rt, alloc, desk, request, &response);
         }
-    }
-    Ok(())
-}
-
-/// A path and its methods: every other method is answered with them.
-#[derive(Clone, Copy)]
-struct Allowed(&'static str, &'static str);
-
-impl Exchange for Allowed {
-    fn assert(
-        &self,
-        rt: &impl Abort,
-        alloc: Global,
-        desk: &mut Desk<MemStore>,
-    ) -> Result<(), Fail> {
-        let fields = format!(in alloc; "Allow: {}\r\n", self.1)?;
-        let body = "{\"error\":405}\n";
-        let response = response_of(alloc, "405", "application/json", &fields, body)?;
-        assert_others_refused(rt, alloc, desk, (self.0, self.1), &response)
     }
 }
 
 #[test]
-fn other_methods_are_answered_with_those_allowed(rt: HostRuntime) -> Result<(), Fail> {
-    assert_new_desk(&rt, rt.alloc(), &Each(&ALLOWED))
+fn other_methods_are_answered_with_those_allowed(rt: HostRuntime) {
+    let mut desk = new_desk(&rt, rt.alloc());
+    for (path, allowed) in ALLOWED {
+        assert_others_refused(&rt, rt.alloc(), &mut desk, path, allowed);
+    }
 }
