@@ -2,12 +2,12 @@
 use crate::example_requests::{
     Answers, COUNT_BEFORE_CREATE, COUNT_WITH_CREATE, ask_first, assert_answered, sheet_of,
 };
-use crate::sweep::{Course, Sweep, copying_options, small_options, sound_desk};
+use crate::sweep::{Course, FailingFile, Sweep, copying_options, small_options, sound_desk};
 use addr::Day;
 use desk::Desk;
 use desk_files::stop;
 use sqlite::Alter;
-use sqlite_disk::{Fuse, Memory};
+use sqlite_disk::{Files, Fuse, Memory};
 use sqlite_pager::Options;
 use std::alloc::Global;
 use std::process::Abort;
@@ -91,13 +91,18 @@ fn create_untaken<S: Alter>(rt: &impl Abort, alloc: Global, desk: &mut Desk<S>) 
     assert!(rt; sheet.bytes.is_empty());
 }
 
+/// These files have all requests with the create, as they are and after a power cut.
+fn assert_all_left<D: FailingFile + Drop>(rt: &impl Abort, alloc: Global, mut files: Files<D>) {
+    let mut sweep = Sweep::new(alloc, small_options(), Course::HttpCreate);
+    sweep.open_both(rt, &mut files, COUNT_WITH_CREATE);
+    let found = [COUNT_WITH_CREATE, COUNT_WITH_CREATE];
+    assert_eq!(rt; sweep.lost.as_slice(), found.as_slice());
+}
+
 /// It was made, and is there after a stop: nothing was in progress then.
 #[test]
 fn response_that_is_not_taken(rt: HostRuntime) {
     let mut desk = sound_desk::<Fuse<Memory>>(&rt, rt.alloc(), small_options());
     create_untaken(&rt, rt.alloc(), &mut desk);
-    let mut sweep = Sweep::new(rt.alloc(), small_options(), Course::HttpCreate);
-    sweep.open_both(&rt, &mut stop(desk), COUNT_WITH_CREATE);
-    let found = [COUNT_WITH_CREATE, COUNT_WITH_CREATE];
-    assert_eq!(rt; sweep.lost.as_slice(), found.as_slice());
+    assert_all_left(&rt, rt.alloc(), stop(desk));
 }

@@ -3,9 +3,9 @@ use crate::example_requests::{
     COUNT_BEFORE_CREATE, REQUEST_COUNT, asked_requests, count_found, first_replies, text_of,
 };
 use crate::sweep::{small_options, sound_desk};
-use desk::{Asked, Reply};
+use desk::Asked;
 use desk_files::{Lived, live};
-use sqlite::FileStore;
+use sqlite::{Alter, FileStore};
 use sqlite_disk::{Fuse, Memory};
 use std::alloc::Global;
 use std::process::Abort;
@@ -23,23 +23,21 @@ fn desk_after(
     }
 }
 
-/// All requests were answered as those that are sent for the first time.
-fn assert_first_replies(rt: &impl Abort, alloc: Global, replies: &[Vec<Reply>]) {
-    let text = text_of(rt, alloc, replies);
+/// The desk answered all requests in its lives as those that are sent for the first time, and has
+/// them.
+fn assert_lived<S: Alter + Drop>(rt: &impl Abort, alloc: Global, mut lived: Lived<S>) {
+    let text = text_of(rt, alloc, &lived.replies);
     let expected = first_replies(rt, alloc);
     assert_eq!(rt; text.as_str(), expected.as_str());
+    assert!(rt; count_found(rt, alloc, &mut lived.desk) == REQUEST_COUNT);
 }
 
-/// A desk answers all requests in its lives, and has what it answered before each crash.
+/// A desk has what it answered before each crash.
 #[test]
 fn each_life_goes_on_with_the_one_before(rt: HostRuntime) {
     let asked = asked_requests(&rt, rt.alloc());
     let before = asked.get(..COUNT_BEFORE_CREATE).expect(&rt, "requests");
     let after = asked.get(COUNT_BEFORE_CREATE..).expect(&rt, "requests");
-    let mut lived = desk_after(&rt, rt.alloc(), &[before, &[], after]);
-    assert_first_replies(&rt, rt.alloc(), &lived.replies);
-    assert_eq!(rt;
-        count_found(&rt, rt.alloc(), &mut lived.desk),
-        REQUEST_COUNT
-    );
+    let lists = [before, &[], after];
+    assert_lived(&rt, rt.alloc(), desk_after(&rt, rt.alloc(), &lists));
 }

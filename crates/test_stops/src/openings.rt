@@ -7,7 +7,7 @@ use crate::sweep::{
 };
 use desk::Desk;
 use desk_files::{OpenFault, close_desk, open_files, stop};
-use sqlite::FileStore;
+use sqlite::{Connection, FileStore};
 use sqlite_disk::{Disk, Files, Fuse, Memory};
 use sqlite_pager::Options;
 use std::alloc::Global;
@@ -146,20 +146,25 @@ UPDATE meta SET value = 1;
 CREATE INDEX holding_of ON holding (holder);
 ";
 
-/// The files of a desk of schema 1 that has all requests, closed.
-fn old_files(rt: &impl Abort, alloc: Global) -> Files<Refusing<Memory>> {
-    let mut conn = desk_after(rt, alloc, options(), REQUEST_COUNT).close();
-    conn.execute_batch(OLD).expect(rt, "an old schema");
+/// The files of this connection, closed.
+fn closed<D: Disk + Drop>(conn: Connection<FileStore<D>>) -> Files<D> {
     match conn.close_files() {
         Ok(files) => files,
         Err((_, store)) => store.close(),
     }
 }
 
+/// The files of a desk of schema 1 that has all requests, closed.
+fn old_files<D: FailingFile + Drop>(rt: &impl Abort, alloc: Global) -> Files<D> {
+    let mut conn = desk_after::<D>(rt, alloc, options(), REQUEST_COUNT).close();
+    conn.execute_batch(OLD).expect(rt, "an old schema");
+    closed(conn)
+}
+
 /// The file fails at each of its calls while a desk of schema 1 is opened, which moves it, and
 /// closed.
 fn fail_move<D: FailingFile + Drop>(rt: &impl Abort, alloc: Global, is_log: bool) {
-    let found = old_files(rt, alloc);
+    let found = old_files::<Refusing<Memory>>(rt, alloc);
     fail_each_call::<D>(rt, alloc, Course::Lines, &found, is_log);
 }
 

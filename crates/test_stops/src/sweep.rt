@@ -210,13 +210,30 @@ pub(crate) fn make_in<D: Disk + Drop>(
     make_with(alloc, files, options, &charter)
 }
 
-/// How many of the requests the desk of these files has.
-fn count_in(rt: &impl Abort, alloc: Global, files: Files<Memory>, options: Options) -> usize {
-    assert!(rt; files.may_be_used(), "files that are refused");
+/// The desk of these files.
+fn open_again(
+    rt: &impl Abort,
+    alloc: Global,
+    files: Files<Memory>,
+    options: Options,
+) -> Desk<FileStore<Memory>> {
+    if !files.may_be_used() {
+        rt.panic("files that are refused");
+    }
     match open_files(alloc, files, options) {
-        Ok(mut desk) => count_found(rt, alloc, &mut desk),
+        Ok(desk) => desk,
         Err(_) => rt.panic("a desk that is refused"),
     }
+}
+
+/// How many of the requests the desk of these files has.
+fn count_in(rt: &impl Abort, alloc: Global, files: Files<Memory>, options: Options) -> usize {
+    count_of(rt, alloc, open_again(rt, alloc, files, options))
+}
+
+/// How many of the requests the desk has.
+fn count_of<S: Alter + Drop>(rt: &impl Abort, alloc: Global, mut desk: Desk<S>) -> usize {
+    count_found(rt, alloc, &mut desk)
 }
 
 /// A desk that answered the first of the requests, so many.
