@@ -348,20 +348,42 @@ fn bodies_of_imports(rt: HostRuntime) {
     assert_imports(&rt, rt.alloc(), &mut desk, b"", HEADERS);
 }
 
+/// The response to an import with this body.
+fn assert_bytes(
+    rt: &impl Abort,
+    alloc: Global,
+    desk: &mut Desk<MemStore>,
+    row: &(&str, &[u8], &str),
+) {
+    let (name, body, output) = *row;
+    assert_body(rt, alloc, desk, [body, b""], output, name);
+}
+
 #[test]
 fn bytes_of_imports(rt: HostRuntime) {
     let mut desk = holder_desk(&rt, rt.alloc());
-    for (name, body, output) in BYTES {
-        assert_body(&rt, rt.alloc(), &mut desk, [body, b""], output, name);
+    for row in &BYTES {
+        assert_bytes(&rt, rt.alloc(), &mut desk, row);
     }
+}
+
+/// The fault of an import of this caller at the holder.
+fn assert_lowest(
+    rt: &impl Abort,
+    alloc: Global,
+    desk: &mut Desk<MemStore>,
+    row: &(&str, &str, &[u8], &str),
+) {
+    let (holder, caller, body, output) = *row;
+    let request = import_of(rt, alloc, holder, caller, [body, b""]);
+    assert_json(rt, alloc, desk, &request, output, output);
 }
 
 #[test]
 fn lowest_faults_of_imports(rt: HostRuntime) {
     let mut desk = holder_desk(&rt, rt.alloc());
-    for (holder, caller, body, output) in LOWEST {
-        let request = import_of(&rt, rt.alloc(), holder, caller, [body, b""]);
-        assert_json(&rt, rt.alloc(), &mut desk, &request, output, output);
+    for row in &LOWEST {
+        assert_lowest(&rt, rt.alloc(), &mut desk, row);
     }
 }
 

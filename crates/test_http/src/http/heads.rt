@@ -3,6 +3,8 @@ use super::{
     assert_json, assert_not_answered, assert_response, assert_rows, csv_response, holder_desk,
     json_response, new_desk,
 };
+use desk::Desk;
+use sqlite::MemStore;
 use std::alloc::Global;
 use std::process::Abort;
 
@@ -199,29 +201,48 @@ fn response_with(rt: &impl Abort, alloc: Global, output: &str) -> String {
     }
 }
 
+/// The response to a request for VRPs with these fields.
+fn assert_fields(
+    rt: &impl Abort,
+    alloc: Global,
+    desk: &mut Desk<MemStore>,
+    row: &(&str, &str, &str),
+) {
+    let (name, fields, output) = *row;
+    let request = format!(in alloc; "GET /payloads HTTP/1.1\r\n{fields}\r\n");
+    let request = request.expect(rt, "a request");
+    let response = response_with(rt, alloc, output);
+    assert_response(rt, alloc, desk, request.as_bytes(), &response, name);
+}
+
 #[test]
 fn fields_of_a_head(rt: HostRuntime) {
     let mut desk = new_desk(&rt, rt.alloc());
-    for (name, fields, output) in FIELDS {
-        let request = format!(in rt.alloc(); "GET /payloads HTTP/1.1\r\n{fields}\r\n").expect(
-            &rt,
-            "a request",
-        );
-        let response = response_with(&rt, rt.alloc(), output);
-        let bytes = request.as_bytes();
-        assert_response(&rt, rt.alloc(), &mut desk, bytes, &response, name);
+    for row in &FIELDS {
+        assert_fields(&rt, rt.alloc(), &mut desk, row);
     }
+}
+
+/// The response to a request for validity with these fields for its length.
+fn assert_length(
+    rt: &impl Abort,
+    alloc: Global,
+    desk: &mut Desk<MemStore>,
+    row: &(&str, &str, &str),
+) {
+    let (name, length, output) = *row;
+    let request = format!(in alloc;
+        "POST /validity HTTP/1.1\r\nDesk-Caller: bob\r\n{length}\r\n{{}}"
+    );
+    let request = request.expect(rt, "a request");
+    assert_json(rt, alloc, desk, request.as_bytes(), output, name);
 }
 
 #[test]
 fn content_length_spellings(rt: HostRuntime) {
     let mut desk = new_desk(&rt, rt.alloc());
-    for (name, length, output) in LENGTHS {
-        let request = format!(in rt.alloc();
-            "POST /validity HTTP/1.1\r\nDesk-Caller: bob\r\n{length}\r\n{{}}"
-        ).expect(&rt, "a request");
-        let bytes = request.as_bytes();
-        assert_json(&rt, rt.alloc(), &mut desk, bytes, output, name);
+    for row in &LENGTHS {
+        assert_length(&rt, rt.alloc(), &mut desk, row);
     }
 }
 
