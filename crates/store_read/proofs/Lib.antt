@@ -1,6 +1,7 @@
 mod AuthsFound
 mod Finding
 pub mod Loading
+pub mod InTurn
 mod NumberFound
 pub mod GivenAuths
 mod HeldEntries

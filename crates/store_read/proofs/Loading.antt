@@ -30,7 +30,6 @@ use Rattle.store_tables.specs.Groups.{claim_entry}
 use Rattle.store_tables.specs.TablesHold.{items_if_any, TablesHold}
 use Rattle.store_read.specs.Loads.{EachRowsOf, OpenEachRows, AreCounted, AreGrants, AreInOrder, HaveSame, AreLoaded}
 use Rattle.store_read.specs.steps.Queries.{by_column, counters_if_any}
-use Rattle.store_tables.specs.declared.claim.Claim.{Claim}
 use Rattle.store_tables.specs.declared.holder.Counters.{Counters}
 use Rattle.registry.specs.Values.{IsCount, GrantFits, AuthFits, FitIfAny}
 use Rattle.registry.specs.RowsOfAll.{AllRows}
@@ -127,17 +126,9 @@ pub refused_before :
     (so : AllRows → Type 0) (old mid : State) → IsTrue old.is_open → mid.now ≡ old.now → OpenEachRows so mid → OpenEachRows so old
 refused_before so old mid opened same refusal = (opened, λ charter rows holds. refusal.1 charter rows (held_before old mid same charter rows holds))
 
--- rows of which some do not fit after such calls did not fit before
-pub never_fit :
-    {X : Type 0} (fits : X → Type 0) (items : Rows → List X) → ((o : Option Rows) → FitIfAny o → All fits (items_if_any items o))
-    → (h : List ℕ) (old mid : State) → IsTrue old.is_open → mid.now ≡ old.now
-    → OpenEachRows (λ all. ¬ All fits (items_if_any items (all.of_holder h))) mid → OpenEachRows (λ all. ¬ FitIfAny (all.of_holder h)) old
-never_fit fits items each h old mid opened same refusal =
-    refused_before (λ all. ¬ FitIfAny (all.of_holder h)) old mid opened same (refusal.0, λ charter rows holds fit. refusal.1 charter rows holds (each (rows.of_holder h) fit))
-
--- nor do those that do not at the first of them
-pub never_fit_first : {X : Type 0} (fits : X → Type 0) (items : Rows → List X) → ((o : Option Rows) → FitIfAny o → All fits (items_if_any items o)) → (h : List ℕ) (s : State) → OpenEachRows (λ all. ¬ All fits (items_if_any items (all.of_holder h))) s → OpenEachRows (λ all. ¬ FitIfAny (all.of_holder h)) s
-never_fit_first fits items each h s refusal = never_fit fits items each h s s refusal.0 refl refusal
+-- rows of which some do not fit are refused
+pub never_fit : {X : Type 0} (fits : X → Type 0) {items : Rows → List X} {h : List ℕ} (s : State) → ((o : Option Rows) → FitIfAny o → All fits (items_if_any items o)) → OpenEachRows (λ all. ¬ All fits (items_if_any items (all.of_holder h))) s → OpenEachRows (λ all. ¬ FitIfAny (all.of_holder h)) s
+never_fit fits s each refusal = (refusal.0, λ charter rows holds fit. refusal.1 charter rows holds (each (rows.of_holder _) fit))
 
 pub none_counted : (o : Option Rows) → None ≡ counters_if_any o → AreCounted o None
 none_counted None none = record { grants = (IsPermutation-refl [], λ k d low high. absurd (omega (arith, high))); granted = refl; created = refl }

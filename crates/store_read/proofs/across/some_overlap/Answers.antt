@@ -1,10 +1,10 @@
-use Rattle.std.proofs.Common.{[], ◌∷◌, ap, ◌∙◌, arith}
+use Rattle.std.proofs.Common.{[], ◌∷◌, ap, ◌∙◌}
 use Rattle.sqlite.specs.Held.{state}
-use Rattle.sqlite.specs.State.{HasCleanDisk}
 use Rattle.sqlite_value.specs.declared.value.Value.TheVariants.{Blob}
 use Rattle.store_tables.specs.Cells.{address_bytes, number_cell, family_number}
 use Rattle.store_read.proofs.Overlapping.{overlap-iff}
 use Rattle.store_tables.proofs.Texts.{overlap_is}
+use Rattle.store_read.proofs.InTurn.{earlier}
 use Rattle.store_read.proofs.across.some_overlap.Goals as goal
 
 pub ask-requires-clause-plain : goal.ask-requires-clause-plain
@@ -14,7 +14,7 @@ pub returns-clause-found : goal.returns-clause-found
 returns-clause-found g c clean charter all holds =
     let old = state g.S.Store c.args.conn.now in
     let p = c.args.prefix.now in
-    let begun : HasCleanDisk old = omega (arith, clean, c.ask.ensures.asked.survives.clean) in
+    let begun = earlier g.S.Store c.ask.ensures.asked clean in
     let ends = c.address_bytes-last.ensures ∙ ap address_bytes c.last.ensures in
     overlap-iff p old (state g.S.Store c.ask.new.conn) (c.requires.tables begun) _
     (c.run_values.ensures ∙ (λ i. number_cell (family_number p.family) ∷ Blob (c.address_bytes-first.ensures i) ∷ Blob (ends i) ∷ []))

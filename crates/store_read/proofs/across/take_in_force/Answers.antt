@@ -1,15 +1,15 @@
-use Rattle.std.proofs.Common.{List, sym, ap, subst, arith}
+use Rattle.std.proofs.Common.{List, sym, ap, subst}
 use Rattle.std.proofs.lemmas.Result.{IfOk-weaker}
 use Rattle.std.specs.Global.{Vec}
 use Rattle.sqlite.specs.Effect.{Database}
 use Rattle.sqlite.specs.Held.{state}
-use Rattle.sqlite.specs.State.{HasCleanDisk}
 use Rattle.store_tables.specs.declared.entry.TheConstants.{SELECT_PAYLOADS}
 use Rattle.store_tables.proofs.ClaimTexts.{payloads_is}
 use Rattle.store_transactions.specs.steps.Statements.{AnswersSelect}
 use Rattle.store_read.specs.declared.across.ClaimKey.{ClaimKey}
 use Rattle.store_read.specs.steps.InForce.{of_claims, ClaimsRise, ShowVrps}
 use Rattle.store_read.proofs.InForce.{taken_found}
+use Rattle.store_read.proofs.InTurn.{earlier}
 use Rattle.store_read.proofs.across.take_in_force.Goals as goal
 
 pub take_each-requires-clause-plain : goal.take_each-requires-clause-plain
@@ -21,7 +21,7 @@ take_each-requires-clause-unlisted g c = payloads_is.unlisted
 pub returns-clause-taken : goal.returns-clause-taken
 returns-clause-taken g c clean =
     let old = state g.S.Store c.args.conn.now in
-    let mid : HasCleanDisk (state g.S.Store c.claims_in_force.new.conn) = omega (arith, clean, c.take_each.ensures.asked.survives.clean) in
+    let mid = earlier g.S.Store c.take_each.ensures.asked clean in
     let claims = c.in_ok-claims.claims.items in
     let same = (c.in_ok-claims.ensures.asked.same mid).0.now_is in
     let own = ap (λ (v : Vec ClaimKey). v.items) c.in_ok-none.ensures.claims in

@@ -1,39 +1,32 @@
 use Rattle.std.proofs.Common.{arith, refl, sym, subst, ◌∙◌}
 use Rattle.std.proofs.lemmas.Bool.{false≢true}
 use Rattle.std.proofs.lemmas.List.{drop_all}
-use Rattle.sqlite.specs.Held.{state}
-use Rattle.sqlite.specs.State.{HasCleanDisk}
 use Rattle.store_tables.specs.TablesHold.{items_if_any}
 use Rattle.store_read.specs.Loads.{AreHeld}
 use Rattle.store_transactions.proofs.Asking.{asked_then}
 use Rattle.store_read.proofs.HeldEntries.{held_from, none_to_hold}
-use Rattle.store_read.proofs.Loading.{held_before}
+use Rattle.store_read.proofs.InTurn.{earlier, later}
 use Rattle.store_read.proofs.answers.are_held.Goals as goal
 
 pub returns-then-not-branch-clause-found : goal.returns-then-not-branch-clause-found
 returns-then-not-branch-clause-found g c clean charter all holds =
     let a = c.args in
-    let old = state g.S.Store a.conn.now in
-    let mid = state g.S.Store c.loop-entry.conn in
-    let before : HasCleanDisk mid = omega (arith, clean, c.is_held.ensures.asked.survives.clean) in
-    let first = c.loop-entry.invariant.asked.same before in
-    let one = c.in_ok-is_held.ensures.found clean charter all (held_before old mid first.0.now_is charter all holds) in
+    let so_far = c.loop-entry.invariant in
+    let before = earlier g.S.Store c.is_held.ensures.asked clean in
+    let one = c.in_ok-is_held.ensures.found clean charter all (later g.S.Store so_far.asked before charter all holds) in
     let here = held_from (items_if_any (λ r. r.holdings) (all.of_holder a.holder.now)) a.entries.now c.loop-entry.entry-index c.entry-item.result c.loop-entry-test.true c.entry-item.is in
-    (λ yes. absurd (false≢true yes), λ apart every. absurd (false≢true (sym c.if-not-branch.true ∙ one.1 apart (here.0 ((c.loop-entry.invariant.found before charter all holds).0 every)).0)))
+    (λ yes. absurd (false≢true yes), λ apart every. absurd (false≢true (sym c.if-not-branch.true ∙ one.1 apart (here.0 ((so_far.found before charter all holds).0 every)).0)))
 
 pub loop-entry-preserved : goal.loop-entry-preserved
 loop-entry-preserved g c =
     let a = c.args in
-    let old = state g.S.Store a.conn.now in
-    let mid = state g.S.Store c.loop-entry.conn in
     let so_far = c.loop-entry.invariant in
     let asked = asked_then g.S.Store tt _ a.conn.now c.loop-entry.conn c.is_held.new.conn so_far.asked c.in_ok-is_held.ensures.asked in
     record {
       asked = record { idle = asked.idle; same = asked.same; kept = asked.kept; survives = asked.survives };
       found = λ clean charter all holds.
-          let before : HasCleanDisk mid = omega (arith, clean, c.is_held.ensures.asked.survives.clean) in
-          let first = so_far.asked.same before in
-          let one = c.in_ok-is_held.ensures.found clean charter all (held_before old mid first.0.now_is charter all holds) in
+          let before = earlier g.S.Store c.is_held.ensures.asked clean in
+          let one = c.in_ok-is_held.ensures.found clean charter all (later g.S.Store so_far.asked before charter all holds) in
           let here = held_from (items_if_any (λ r. r.holdings) (all.of_holder a.holder.now)) a.entries.now c.loop-entry.entry-index c.entry-item.result c.loop-entry-test.true c.entry-item.is in
           let found = so_far.found before charter all holds in
           (λ every. (here.0 (found.0 every)).1, λ rest. found.1 (here.1 (one.0 c.if-not-branch.false, rest)));

@@ -5,7 +5,7 @@ use Rattle.store_read.proofs.GivenAuths.{gives_out_of}
 use Rattle.store_read.proofs.answers.is_given.Goals as goal
 
 pub returns-in_err-given-clause-schema : goal.returns-in_err-given-clause-schema
-returns-in_err-given-clause-schema g c clean is = c.load_given.ensures.schema clean (refused_by c.load_given.result c.from_residual.result c.in_err-given.field-0.0 c.in_err-given.was c.from_residual.ensures.1 is)
+returns-in_err-given-clause-schema g c clean is = c.load_given.ensures.schema clean (refused_by _ _ _ c.in_err-given.was c.from_residual.ensures.1 is)
 
 pub returns-clause-found : goal.returns-clause-found
 returns-clause-found g c clean charter all holds =

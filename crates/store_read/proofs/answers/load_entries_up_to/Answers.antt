@@ -8,7 +8,7 @@ use Rattle.store_tables.proofs.GroupCells.{by_entry}
 use Rattle.store_read.specs.Loads.{begins_up_to, entries_up_to}
 use Rattle.store_read.proofs.Finding.{selects_up_to, up_to_params}
 use Rattle.store_read.proofs.GivenAuths.{tested_fit}
-use Rattle.store_read.proofs.Loading.{never_fit_first}
+use Rattle.store_read.proofs.Loading.{never_fit}
 use Rattle.store_read.proofs.answers.load_entries_up_to.Goals as goal
 
 pub load_selected-requires-clause-plain : goal.load_selected-requires-clause-plain
@@ -30,5 +30,5 @@ returns-clause-schema g c clean is =
     let bound_as =
     c.up_to_values-values.ensures
     ∙ ap (λ bytes. Text h ∷ number_cell (family_number p.family) ∷ Blob bytes ∷ []) (c.address_bytes-last.ensures ∙ ap address_bytes c.last.ensures) in
-    never_fit_first EntryRowFits (entries_up_to p) (tested_fit (begins_up_to p)) h (state g.S.Store c.args.conn.now)
+    never_fit EntryRowFits (state g.S.Store c.args.conn.now) (tested_fit (begins_up_to p))
     (c.load_selected.ensures.schema h (up_to_params h p) (entries_up_to p) by_entry bound_as (selects_up_to h p) clean is)

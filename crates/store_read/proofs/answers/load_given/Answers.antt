@@ -5,7 +5,7 @@ use Rattle.store_tables.proofs.GroupCells.{by_entry}
 use Rattle.store_read.specs.Loads.{entries_given, gives_entry}
 use Rattle.store_read.proofs.Finding.{given_params, selects_given}
 use Rattle.store_read.proofs.GivenAuths.{tested_fit}
-use Rattle.store_read.proofs.Loading.{never_fit_first}
+use Rattle.store_read.proofs.Loading.{never_fit}
 use Rattle.store_read.proofs.answers.load_given.Goals as goal
 
 pub load_selected-requires-clause-plain : goal.load_selected-requires-clause-plain
@@ -19,5 +19,5 @@ returns-clause-found g c =
 pub returns-clause-schema : goal.returns-clause-schema
 returns-clause-schema g c clean is =
     let a = c.args in
-    never_fit_first EntryRowFits (entries_given a.asn a.entry.now) (tested_fit (gives_entry a.asn a.entry.now)) a.holder.now (state g.S.Store a.conn.now)
+    never_fit EntryRowFits (state g.S.Store a.conn.now) (tested_fit (gives_entry a.asn a.entry.now))
     (c.load_selected.ensures.schema a.holder.now (given_params a.holder.now a.asn a.entry.now) (entries_given a.asn a.entry.now) by_entry c.given_values-values.ensures (selects_given a.holder.now a.asn a.entry.now) clean is)

@@ -1,54 +1,43 @@
 use Rattle.std.proofs.Common.{◌+◌, ◌||◌, drop, arith, ap, sym, ◌∙◌}
 use Rattle.std.proofs.lemmas.List.{drop_all}
-use Rattle.sqlite.specs.Held.{state}
-use Rattle.sqlite.specs.State.{HasCleanDisk}
-use Rattle.registry.specs.Values.{FitIfAny}
 use Rattle.store_transactions.proofs.QueryLemmas.{refused_by}
 use Rattle.store_read.specs.Loads.{auths_held, is_other, some_gives}
 use Rattle.store_transactions.proofs.Asking.{asked_then}
 use Rattle.store_read.proofs.GivenAuths.{gives_from, gives_none}
-use Rattle.store_read.proofs.Loading.{held_before, refused_before}
+use Rattle.store_read.proofs.InTurn.{earlier, later, unfit_later}
 use Rattle.store_read.proofs.answers.some_given.Goals as goal
 
 pub returns-in_err-is_given-clause-schema : goal.returns-in_err-is_given-clause-schema
 returns-in_err-is_given-clause-schema g c clean is =
-    let old = state g.S.Store c.args.conn.now in
-    let mid = state g.S.Store c.loop-entry.conn in
-    let first = c.loop-entry.invariant.asked.same (omega (arith, clean, c.is_given.ensures.asked.survives.clean)) in
-    refused_before (λ all. ¬ FitIfAny (all.of_holder c.args.holder.now)) old mid first.0.was_open first.0.now_is
-    (c.is_given.ensures.schema clean (refused_by c.is_given.result c.from_residual.result c.in_err-is_given.field-0.0 c.in_err-is_given.was c.from_residual.ensures.1 is))
+    unfit_later g.S.Store c.loop-entry.invariant.asked (earlier g.S.Store c.is_given.ensures.asked clean)
+    (c.is_given.ensures.schema clean (refused_by _ _ _ c.in_err-is_given.was c.from_residual.ensures.1 is))
 
 pub returns-then-branch-clause-found : goal.returns-then-branch-clause-found
 returns-then-branch-clause-found g c clean charter all holds =
     let a = c.args in
-    let old = state g.S.Store a.conn.now in
-    let mid = state g.S.Store c.loop-entry.conn in
-    let before : HasCleanDisk mid = omega (arith, clean, c.is_given.ensures.asked.survives.clean) in
-    let first = c.loop-entry.invariant.asked.same before in
+    let so_far = c.loop-entry.invariant in
+    let before = earlier g.S.Store c.is_given.ensures.asked clean in
     let ys = auths_held (all.of_holder a.holder.now) in
-    let one = c.in_ok-is_given.ensures.found clean charter all (held_before old mid first.0.now_is charter all holds) in
-    let later = some_gives a.but a.asn (drop (c.loop-entry.entry-index + 1) a.entries.now) ys in
+    let one = c.in_ok-is_given.ensures.found clean charter all (later g.S.Store so_far.asked before charter all holds) in
+    let others = some_gives a.but a.asn (drop (c.loop-entry.entry-index + 1) a.entries.now) ys in
     sym
-    (c.loop-entry.invariant.found before charter all holds
-    ∙ gives_from (is_other a.but) a.asn a.entries.now c.loop-entry.entry-index c.entry-item.result ys c.loop-entry-test.true c.entry-item.is ∙ ap (λ b. b || later) (sym one ∙ c.if-branch.true))
+    (so_far.found before charter all holds
+    ∙ gives_from (is_other a.but) a.asn a.entries.now c.loop-entry.entry-index c.entry-item.result ys c.loop-entry-test.true c.entry-item.is ∙ ap (λ b. b || others) (sym one ∙ c.if-branch.true))
 
 pub loop-entry-preserved : goal.loop-entry-preserved
 loop-entry-preserved g c =
     let a = c.args in
-    let old = state g.S.Store a.conn.now in
-    let mid = state g.S.Store c.loop-entry.conn in
     let so_far = c.loop-entry.invariant in
     let asked = asked_then g.S.Store tt _ a.conn.now c.loop-entry.conn c.is_given.new.conn so_far.asked c.in_ok-is_given.ensures.asked in
     record {
       asked = record { idle = asked.idle; same = asked.same; kept = asked.kept; survives = asked.survives };
       found = λ clean charter all holds.
-          let before : HasCleanDisk mid = omega (arith, clean, c.is_given.ensures.asked.survives.clean) in
-          let first = so_far.asked.same before in
+          let before = earlier g.S.Store c.is_given.ensures.asked clean in
           let ys = auths_held (all.of_holder a.holder.now) in
-          let one = c.in_ok-is_given.ensures.found clean charter all (held_before old mid first.0.now_is charter all holds) in
-          let later = some_gives a.but a.asn (drop (c.loop-entry.entry-index + 1) a.entries.now) ys in
+          let one = c.in_ok-is_given.ensures.found clean charter all (later g.S.Store so_far.asked before charter all holds) in
+          let others = some_gives a.but a.asn (drop (c.loop-entry.entry-index + 1) a.entries.now) ys in
           so_far.found before charter all holds
-          ∙ gives_from (is_other a.but) a.asn a.entries.now c.loop-entry.entry-index c.entry-item.result ys c.loop-entry-test.true c.entry-item.is ∙ ap (λ b. b || later) (sym one ∙ c.if-branch.false);
+          ∙ gives_from (is_other a.but) a.asn a.entries.now c.loop-entry.entry-index c.entry-item.result ys c.loop-entry-test.true c.entry-item.is ∙ ap (λ b. b || others) (sym one ∙ c.if-branch.false);
     }
 
 pub returns-clause-found : goal.returns-clause-found

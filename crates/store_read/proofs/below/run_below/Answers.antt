@@ -1,9 +1,9 @@
 use Rattle.std.proofs.Common.{◌<◌, ◌^◌, [], ◌∷◌, ◌∙◌, arith}
 use Rattle.sqlite.specs.Held.{state}
-use Rattle.sqlite.specs.State.{HasCleanDisk}
 use Rattle.sqlite_value.specs.declared.value.Value.TheVariants.{Blob}
 use Rattle.store_tables.specs.Cells.{number_cell, family_number}
 use Rattle.store_tables.proofs.Texts.{run_below_is}
+use Rattle.store_read.proofs.InTurn.{earlier}
 use Rattle.store_read.proofs.RunsBelow.{found_below}
 use Rattle.store_read.proofs.below.run_below.Goals as goal
 
@@ -13,7 +13,7 @@ ask-requires-clause-plain g c = run_below_is.plain
 pub returns-clause-found : goal.returns-clause-found
 returns-clause-found g c clean charter all holds =
     let old = state g.S.Store c.args.conn.now in
-    let begun : HasCleanDisk old = omega (arith, clean, c.ask.ensures.asked.survives.clean) in
+    let begun = earlier g.S.Store c.ask.ensures.asked clean in
     let fits : c.args.address < 2 ^ 128 = omega arith in
     let rows = c.in_ok-found.found in
     found_below c.args.family c.args.address fits old (state g.S.Store c.ask.new.conn) (c.requires.tables begun) _

@@ -1,8 +1,7 @@
-use Rattle.std.proofs.Common.{arith, refl, sym, subst, map, ap, ◌∙◌, ◌≡◌, [], List, Any, IsPermutation}
+use Rattle.std.proofs.Common.{refl, sym, subst, map, ap, ◌∙◌, ◌≡◌, [], List, Any, IsPermutation}
 use Rattle.std.specs.List.{AllByRecursion}
 use Rattle.std.proofs.lemmas.Result.{IfOk-weaker}
 use Rattle.sqlite.specs.Held.{state}
-use Rattle.sqlite.specs.State.{HasCleanDisk}
 use Rattle.sqlite_value.specs.Order.{Row}
 use Rattle.sqlite_trees.proofs.ListLemmas.{all-permutation}
 use Rattle.sqlite_rules.proofs.ListLemmas.{all_has, any_has}
@@ -18,6 +17,7 @@ use Rattle.store_transactions.proofs.HeldRows.{files_few, files_read}
 use Rattle.store_transactions.proofs.QueryLemmas.{answered, refused_by}
 use Rattle.store_read.proofs.ExceptionsFound.{exceptions_found}
 use Rattle.store_read.proofs.HeldAlike.{held_alike}
+use Rattle.store_read.proofs.InTurn.{earlier}
 use Rattle.store_read.proofs.exceptions.load_files.Goals as goal
 
 pub ask-requires-clause-plain : goal.ask-requires-clause-plain
@@ -34,10 +34,10 @@ none_refused table rows all same other =
 pub returns-in_err-exceptions-clause-schema : goal.returns-in_err-exceptions-clause-schema
 returns-in_err-exceptions-clause-schema g c clean is =
     let old = state g.S.Store c.args.conn.now in
-    let first : HasCleanDisk old = omega (arith, clean, c.ask.ensures.asked.survives.clean) in
+    let first = earlier g.S.Store c.ask.ensures.asked clean in
     let rows = c.in_ok-rows.rows.items in
     let it = answered SELECT_ALL_EXCEPTIONS.now [] _ old (state g.S.Store c.ask.new.conn) rows all_exceptions_is.plain all_exceptions_is.unlisted (c.requires.tables first) refl (c.in_ok-rows.ensures.shown clean) in
-    let refusal = rw c.deref.ensures.value at (c.read_all.ensures.schema (refused_by c.read_all.result c.from_residual-in_err-exceptions.result c.in_err-exceptions.field-0.0 c.in_err-exceptions.was c.from_residual-in_err-exceptions.ensures.1 is)) in (
+    let refusal = rw c.deref.ensures.value at (c.read_all.ensures.schema (refused_by _ _ _ c.in_err-exceptions.was c.from_residual-in_err-exceptions.ensures.1 is)) in (
       (c.in_ok-rows.ensures.asked.same clean).0.was_open,
       λ charter all holds fit. none_refused (contents (old.now.trees slurm.tree)) _ (files_read all.files _ holds.files fit) (exceptions_found old.now rows it) refusal,
     )
@@ -45,7 +45,7 @@ returns-in_err-exceptions-clause-schema g c clean is =
 pub returns-clause-found : goal.returns-clause-found
 returns-clause-found g c clean =
     let old = state g.S.Store c.args.conn.now in
-    let first : HasCleanDisk old = omega (arith, clean, c.ask.ensures.asked.survives.clean) in
+    let first = earlier g.S.Store c.ask.ensures.asked clean in
     let rows = c.in_ok-rows.rows.items in
     let it = answered SELECT_ALL_EXCEPTIONS.now [] _ old (state g.S.Store c.ask.new.conn) rows all_exceptions_is.plain all_exceptions_is.unlisted (c.requires.tables first) refl (c.in_ok-rows.ensures.shown clean) in
     let shows : ShowsExceptions c.in_ok-exceptions.exceptions.items (contents (old.now.trees slurm.tree)) = record {
@@ -60,7 +60,7 @@ returns-clause-found g c clean =
 pub returns-clause-schema : goal.returns-clause-schema
 returns-clause-schema g c clean refused =
     let old = state g.S.Store c.args.conn.now in
-    let first : HasCleanDisk old = omega (arith, clean, c.ask.ensures.asked.survives.clean) in
+    let first = earlier g.S.Store c.ask.ensures.asked clean in
     let rows = c.in_ok-rows.rows.items in
     let it = answered SELECT_ALL_EXCEPTIONS.now [] _ old (state g.S.Store c.ask.new.conn) rows all_exceptions_is.plain all_exceptions_is.unlisted (c.requires.tables first) refl (c.in_ok-rows.ensures.shown clean) in
     let shows : ShowsExceptions c.in_ok-exceptions.exceptions.items (contents (old.now.trees slurm.tree)) = record {

@@ -5,7 +5,7 @@ use Rattle.store_read.proofs.Loading.{counted}
 use Rattle.store_read.proofs.load.is_registered.Goals as goal
 
 pub returns-in_err-counters-clause-schema : goal.returns-in_err-counters-clause-schema
-returns-in_err-counters-clause-schema g c clean is = c.load_counters.ensures.schema clean (refused_by c.load_counters.result c.from_residual.result c.in_err-counters.field-0.0 c.in_err-counters.was c.from_residual.ensures.1 is)
+returns-in_err-counters-clause-schema g c clean is = c.load_counters.ensures.schema clean (refused_by _ _ _ c.in_err-counters.was c.from_residual.ensures.1 is)
 
 pub returns-clause-found : goal.returns-clause-found
 returns-clause-found g c clean charter all holds =

@@ -1,15 +1,14 @@
 use Rattle.std.proofs.Common.{◌∙◌}
 use Rattle.std.specs.Prelude.{⊤}
 use Rattle.sqlite.specs.Held.{state}
-use Rattle.store_tables.specs.TablesHold.{items_if_any}
 use Rattle.store_transactions.proofs.QueryLemmas.{refused_by}
-use Rattle.store_read.proofs.Loading.{all_spans_fit, never_fit_first, same-permuted}
+use Rattle.store_read.proofs.Loading.{all_spans_fit, never_fit, same-permuted}
 use Rattle.store_read.proofs.load.load_runs.Goals as goal
 
 pub returns-in_err-spans-clause-schema : goal.returns-in_err-spans-clause-schema
 returns-in_err-spans-clause-schema g c clean is =
-    never_fit_first (λ _. ⊤) (λ r. r.holdings) (λ o _. all_spans_fit (items_if_any (λ r. r.holdings) o)) c.args.holder.now (state g.S.Store c.args.conn.now)
-    (c.load_values.ensures.schema clean (refused_by c.load_values.result c.from_residual.result c.in_err-spans.field-0.0 c.in_err-spans.was c.from_residual.ensures.1 is))
+    never_fit (λ _. ⊤) (state g.S.Store c.args.conn.now) (λ o _. all_spans_fit _)
+    (c.load_values.ensures.schema clean (refused_by _ _ _ c.in_err-spans.was c.from_residual.ensures.1 is))
 
 pub returns-clause-found : goal.returns-clause-found
 returns-clause-found g c clean charter all holds a =

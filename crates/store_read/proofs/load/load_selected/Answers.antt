@@ -1,18 +1,18 @@
-use Rattle.std.proofs.Common.{arith, sym, subst, ◌∙◌}
+use Rattle.std.proofs.Common.{sym, subst, ◌∙◌}
 use Rattle.std.proofs.lemmas.Result.{IfOk-weaker}
 use Rattle.std.specs.Prelude.{IsSorted}
 use Rattle.sqlite.specs.Held.{state}
-use Rattle.sqlite.specs.State.{HasCleanDisk}
 use Rattle.store_tables.specs.TablesHold.{items_if_any}
 use Rattle.store_tables.proofs.CellsOnce.{values_shown}
 use Rattle.store_tables.proofs.ReadLemmas.{all_show}
 use Rattle.store_transactions.proofs.QueryLemmas.{answered}
+use Rattle.store_read.proofs.InTurn.{earlier}
 use Rattle.store_read.proofs.load.load_selected.Goals as goal
 
 pub returns-clause-found : goal.returns-clause-found
 returns-clause-found g c h params items cmp are selects clean =
     let old = state g.S.Store c.args.conn.now in
-    let first : HasCleanDisk old = omega (arith, clean, c.ask.ensures.asked.survives.clean) in
+    let first = earlier g.S.Store c.ask.ensures.asked clean in
     let rows = c.in_ok-rows.rows.items in
     let it = answered c.args.sql.now params _ old (state g.S.Store c.ask.new.conn) rows selects.plain selects.unlisted (c.requires.ready.tables first) are (c.in_ok-rows.ensures.shown clean) in
     IfOk-weaker c.read_all.result _ _ (λ values shown charter all holds.
@@ -22,7 +22,7 @@ returns-clause-found g c h params items cmp are selects clean =
 pub returns-clause-rising : goal.returns-clause-rising
 returns-clause-rising g c h params items cmp are selects clean =
     let old = state g.S.Store c.args.conn.now in
-    let first : HasCleanDisk old = omega (arith, clean, c.ask.ensures.asked.survives.clean) in
+    let first = earlier g.S.Store c.ask.ensures.asked clean in
     let rows = c.in_ok-rows.rows.items in
     let it = answered c.args.sql.now params _ old (state g.S.Store c.ask.new.conn) rows selects.plain selects.unlisted (c.requires.ready.tables first) are (c.in_ok-rows.ensures.shown clean) in
     IfOk-weaker c.read_all.result _ _ (λ values shown. subst (IsSorted cmp) (sym (selects.whole old.now rows it) ∙ shown) (selects.rising old.now rows it))
@@ -31,7 +31,7 @@ returns-clause-rising g c h params items cmp are selects clean =
 pub returns-clause-schema : goal.returns-clause-schema
 returns-clause-schema g c h params items cmp are selects clean refused =
     let old = state g.S.Store c.args.conn.now in
-    let first : HasCleanDisk old = omega (arith, clean, c.ask.ensures.asked.survives.clean) in
+    let first = earlier g.S.Store c.ask.ensures.asked clean in
     let rows = c.in_ok-rows.rows.items in
     let it = answered c.args.sql.now params _ old (state g.S.Store c.ask.new.conn) rows selects.plain selects.unlisted (c.requires.ready.tables first) are (c.in_ok-rows.ensures.shown clean) in
     let whole = selects.whole old.now rows it in (

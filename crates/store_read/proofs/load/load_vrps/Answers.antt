@@ -1,16 +1,16 @@
-use Rattle.std.proofs.Common.{refl, arith}
+use Rattle.std.proofs.Common.{refl}
 use Rattle.sqlite.specs.Held.{state}
-use Rattle.sqlite.specs.State.{HasCleanDisk}
 use Rattle.store_tables.specs.Tables.{entry}
 use Rattle.store_read.specs.steps.InForce.{is_claimed_on}
 use Rattle.store_read.proofs.Giving.{each_given, given_once, given_read}
 use Rattle.store_read.proofs.InForce.{each_payload}
+use Rattle.store_read.proofs.InTurn.{earlier}
 use Rattle.store_read.proofs.load.load_vrps.Goals as goal
 
 pub returns-in_default-clause-schema : goal.returns-in_default-clause-schema
 returns-in_default-clause-schema g c clean is =
     let old = state g.S.Store c.args.conn.now in
-    let first : HasCleanDisk old = omega (arith, clean, c.take_in_force.ensures.asked.survives.clean) in
+    let first = earlier g.S.Store c.take_in_force.ensures.asked clean in
     let opened = (c.in_ok-taken.ensures.asked.same clean).0.was_open in
     let it = c.in_ok-taken.ensures.taken clean in
     let each = each_payload c.args.day old c.claims_differ.ensures (c.schema-schema.ensures.live opened).0 (c.requires.tables first opened) it.0 it.1 in
@@ -19,7 +19,7 @@ returns-in_default-clause-schema g c clean is =
 pub returns-clause-found : goal.returns-clause-found
 returns-clause-found g c clean charter all holds =
     let old = state g.S.Store c.args.conn.now in
-    let first : HasCleanDisk old = omega (arith, clean, c.take_in_force.ensures.asked.survives.clean) in
+    let first = earlier g.S.Store c.take_in_force.ensures.asked clean in
     let opened = (c.in_ok-taken.ensures.asked.same clean).0.was_open in
     let it = c.in_ok-taken.ensures.taken clean in
     let each = each_payload c.args.day old c.claims_differ.ensures (c.schema-schema.ensures.live opened).0 (c.requires.tables first opened) it.0 it.1 in
@@ -28,7 +28,7 @@ returns-clause-found g c clean charter all holds =
 pub returns-clause-once : goal.returns-clause-once
 returns-clause-once g c clean charter all holds =
     let old = state g.S.Store c.args.conn.now in
-    let first : HasCleanDisk old = omega (arith, clean, c.take_in_force.ensures.asked.survives.clean) in
+    let first = earlier g.S.Store c.take_in_force.ensures.asked clean in
     let opened = (c.in_ok-taken.ensures.asked.same clean).0.was_open in
     let it = c.in_ok-taken.ensures.taken clean in
     given_once c.in-Some.vrps.items it.0 (rw c.in-Some.ensures.1 (it.2.read c.in-Some.ensures.0))
