@@ -1,8 +1,10 @@
 -- What is loaded of the rows that the tables hold.
-use Rattle.std.specs.Prelude.{◌≡◌, ◌≤◌, ◌==◌, ◌&&◌, ◌↔◌, ℕ, Bool, true, false, not, nat_le, List, map, filter, flat_map, length, Option, Some, None, is_some, option_map, Contains, IfSome, IsSomeAnd, IsPermutation, IsSortedByKey, IsTrue, ⊤}
+use Rattle.std.specs.Prelude.{◌≡◌, ◌≤◌, ◌==◌, ◌&&◌, ◌↔◌, ℕ, Bool, true, false, not, nat_le, List, map, filter, flat_map, length, Option, Some, None, is_some, option_map, Contains, IfSome, IsSomeAnd, IsPermutation, IsSortedByKey, IsTrue, Result, Err, IfOk, ⊤}
 use Rattle.std.specs.List.{list_any}
 use Rattle.std.specs.Ordering.{nat_cmp}
+use Rattle.sqlite.specs.Held.{Held, state}
 use Rattle.sqlite.specs.State.{State}
+use Rattle.sqlite.specs.Store.{Ghosts}
 use Rattle.addr.specs.Address.{Address, last_of}
 use Rattle.addr.specs.Family.{family_eq}
 use Rattle.addr.specs.Spans.{span_has, span_meets, spans_have, AreApart, AreMaximal}
@@ -25,13 +27,16 @@ use Rattle.registry.specs.Rows.{Rows, grants_if_any, auths_if_any}
 use Rattle.registry.specs.RowsOfAll.{AllRows}
 use Rattle.addr.specs.VrpParts.{IsVrpOfEntry, is_entry}
 use Rattle.registry.specs.Terms.{entries_have, gives_some, terms_overlap}
-use Rattle.registry.specs.Values.{VrpFits}
+use Rattle.registry.specs.Values.{FitIfAny, VrpFits}
 use Rattle.registry.specs.Verdict.{auth_of_number, maxes_fit}
 use Rattle.slurm.specs.Exceptions.{Exceptions}
 use Rattle.slurm.specs.declared.set.NamedSlurm.{NamedSlurm}
 use Rattle.store_tables.specs.Authorizations.{entry_rows_of}
 use Rattle.store_tables.specs.TablesHold.{items_if_any, TablesHold}
 use Rattle.store_tables.specs.declared.entry.EntryRow.{EntryRow}
+use Rattle.store_transactions.specs.Queries.{IsClean}
+use Rattle.store_transactions.specs.declared.fault.StoreFault.{StoreFault}
+use Rattle.store_transactions.specs.declared.fault.StoreFault.TheVariants.{Schema}
 use Rattle.store_read.specs.declared.answers.Loaded.{Loaded}
 
 -- this holds for all rows, and for those of one holder, whatever charter and rows the tables hold
@@ -46,6 +51,25 @@ EachRowsOf so h s = EachRows (λ rows. so (rows.of_holder h)) s
 -- the database could be read, and this holds for all rows
 abbrev pub OpenEachRows : (AllRows → Type 0) → State → Type 0
 OpenEachRows so s = IsTrue s.is_open × EachRows so s
+
+-- ---- what a read says, where the disk returned what was written
+
+-- what it answers is so of all rows, and of those of the holder
+abbrev pub Finds : {S X E : Type 0} → Ghosts S → Held S → Held S → Result X E → (AllRows → X → Type 0) → Type 0
+Finds g old new result so = IsClean g new → IfOk result (λ x. EachRows (λ rows. so rows x) (state g old))
+
+abbrev pub FindsOf : {S X E : Type 0} → Ghosts S → Held S → Held S → List ℕ → Result X E → (Option Rows → X → Type 0) → Type 0
+FindsOf g old new h result so = IsClean g new → IfOk result (λ x. EachRowsOf (λ rows. so rows x) h (state g old))
+
+-- where it answers fault `Schema`, the database could be read and this holds for all rows
+abbrev pub Refuses : {S X : Type 0} → Ghosts S → Held S → Held S → Result X StoreFault → (AllRows → Type 0) → Type 0
+Refuses g old new result so = IsClean g new → result ≡ Err Schema → OpenEachRows so (state g old)
+
+-- and there the rows of the holder do not fit
+abbrev pub RefusesUnfit : {S X : Type 0} → Ghosts S → Held S → Held S → List ℕ → Result X StoreFault → Type 0
+RefusesUnfit g old new h result = Refuses g old new result (λ all. ¬ FitIfAny (all.of_holder h))
+
+-- ---- what is loaded
 
 -- the same items, by rising number
 abbrev pub AreInOrder : {X : Type 0} → (X → ℕ) → List X → List X → Type 0

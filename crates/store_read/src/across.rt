@@ -10,7 +10,7 @@ ghost use Rattle.store_tables.specs.Cells.{family_number, number_cell, vrp_cells
 ghost use Rattle.store_tables.specs.Decode.{ShowsNone};
 ghost use Rattle.store_transactions.specs.Queries.{IsAsked, IsClean, IsReadyToAsk};
 ghost use Rattle.store_read.specs.steps.InForce.{ClaimsRise, FindsClaims, FindsInForce, ShowVrps, claim_key, is_claimed, key_cells, key_order, of_claims, payload_key, payload_of};
-ghost use Rattle.store_read.specs.Loads.{EachRows, MeetsSome};
+ghost use Rattle.store_read.specs.Loads.{MeetsSome, Finds};
 
 use addr::{Day, Family, Name, Prefix, Vrp};
 use sqlite::types::{ToSql, ValueRef};
@@ -47,8 +47,8 @@ fn day_values<'a>(day: Day) -> [ValueRef<'a>; 1]
 pub fn some_overlap<S: Alter>(conn: &mut Connection<S>, prefix: &Prefix) -> Result<bool, Error>
     requires { IsReadyToAsk S.Store conn.old }
     ensures asked { IsAsked S.Store conn.old conn.new result }
-    ensures found { IsClean S.Store conn.new → IfOk result (λ some.
-        EachRows (λ rows. IsTrue some ↔ MeetsSome rows prefix.now) (state S.Store conn.old)) }
+    ensures found { Finds S.Store conn.old conn.new result (λ rows some.
+        IsTrue some ↔ MeetsSome rows prefix.now) }
 {
     let first = address_bytes(prefix.first);
     let last = address_bytes(prefix.last());

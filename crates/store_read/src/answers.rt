@@ -1,15 +1,14 @@
 //! What the rules of a command read, loaded from the tables.
-ghost use Rattle.std.specs.Prelude.{◌≡◌, ◌≢◌, ◌∷◌, ◌↔◌, [], true, ℕ, Option, Some, Err, IfOk, IfSome, IsPermutation, IsTrue, length, nat_le, option_copied};
+ghost use Rattle.std.specs.Prelude.{◌≡◌, ◌≢◌, ◌∷◌, [], true, Option, Some, Err, IfOk, IfSome, IsPermutation, IsTrue, length, nat_le, option_copied};
 ghost use Rattle.std.specs.List.{list_any};
 ghost use Rattle.sqlite.specs.Held.{state};
 ghost use Rattle.registry.specs.declared.limits.TheConstants.{MOST_AUTHORIZATIONS};
 ghost use Rattle.registry.specs.RoaPrefixes.{with_maxes};
 ghost use Rattle.registry.specs.Rows.{Rows};
-ghost use Rattle.registry.specs.Values.{FitIfAny};
 ghost use Rattle.registry.specs.Verdict.{maxes_fit};
 ghost use Rattle.store_tables.specs.TablesHold.{items_if_any};
 ghost use Rattle.store_transactions.specs.Queries.{IsAsked, IsClean, IsReadyToAsk};
-ghost use Rattle.store_read.specs.Loads.{AreAnswers, AreCounted, AreHeld, IsForAmend, IsForCreate, IsForDelegate, EachRowsOf, EachRows, OpenEachRows, IsToldWhereApart, auths_held, created_if_any, entries_given, entries_up_to, is_other, some_gives};
+ghost use Rattle.store_read.specs.Loads.{AreAnswers, AreCounted, AreHeld, IsForAmend, IsForCreate, IsForDelegate, EachRowsOf, IsToldWhereApart, auths_held, created_if_any, entries_given, entries_up_to, is_other, some_gives, Finds, FindsOf, RefusesUnfit};
 
 use crate::below::{is_held, is_taken};
 use crate::load::{
@@ -44,10 +43,8 @@ pub fn load_grants_counted<S: Alter>(
 ) -> Result<Option<HolderRows>, StoreFault>
     requires { IsReadyToAsk S.Store conn.old }
     ensures asked { IsAsked S.Store conn.old conn.new result }
-    ensures found { IsClean S.Store conn.new → IfOk result (λ part.
-        EachRowsOf (λ rows. AreCounted rows part) holder.now (state S.Store conn.old)) }
-    ensures schema { IsClean S.Store conn.new → result ≡ Err StoreFault.Schema
-        → OpenEachRows (λ all. ¬ FitIfAny (all.of_holder holder.now)) (state S.Store conn.old) }
+    ensures found { FindsOf S.Store conn.old conn.new holder.now result AreCounted }
+    ensures schema { RefusesUnfit S.Store conn.old conn.new holder.now result }
 {
     let Some(Counters { granted, created }) = load_counters(conn, alloc, holder)? else {
         return Ok(None);
@@ -73,11 +70,8 @@ pub fn load_for_delegate<S: Alter>(
 ) -> Result<Loaded, StoreFault>
     requires { IsReadyToAsk S.Store conn.old }
     ensures asked { IsAsked S.Store conn.old conn.new result }
-    ensures found { IsClean S.Store conn.new → IfOk result (λ loaded.
-        EachRows (λ rows. IsForDelegate holder.now prefix.now rows loaded)
-        (state S.Store conn.old)) }
-    ensures schema { IsClean S.Store conn.new → result ≡ Err StoreFault.Schema
-        → OpenEachRows (λ all. ¬ FitIfAny (all.of_holder holder.now)) (state S.Store conn.old) }
+    ensures found { Finds S.Store conn.old conn.new result (IsForDelegate holder.now prefix.now) }
+    ensures schema { RefusesUnfit S.Store conn.old conn.new holder.now result }
 {
     // All runs, though few are beside the prefix: the edit is made of the maximal runs that the
     // holder has before and after.
@@ -105,12 +99,9 @@ pub fn load_entries_up_to<S: Alter>(
 ) -> Result<Vec<EntryRow>, StoreFault>
     requires { IsReadyToAsk S.Store conn.old }
     ensures asked { IsAsked S.Store conn.old conn.new result }
-    ensures found { IsClean S.Store conn.new → IfOk result (λ entries.
-        EachRowsOf (λ rows.
-        IsPermutation (items_if_any (entries_up_to prefix.now) rows) entries.items)
-        holder.now (state S.Store conn.old)) }
-    ensures schema { IsClean S.Store conn.new → result ≡ Err StoreFault.Schema
-        → OpenEachRows (λ all. ¬ FitIfAny (all.of_holder holder.now)) (state S.Store conn.old) }
+    ensures found { FindsOf S.Store conn.old conn.new holder.now result (λ rows entries.
+        IsPermutation (items_if_any (entries_up_to prefix.now) rows) entries.items) }
+    ensures schema { RefusesUnfit S.Store conn.old conn.new holder.now result }
 {
     let last = address_bytes(prefix.last());
     let values = up_to_values(holder, prefix.family, &last);
@@ -129,12 +120,9 @@ pub fn load_given<S: Alter>(
 ) -> Result<Vec<EntryRow>, StoreFault>
     requires { IsReadyToAsk S.Store conn.old }
     ensures asked { IsAsked S.Store conn.old conn.new result }
-    ensures found { IsClean S.Store conn.new → IfOk result (λ given.
-        EachRowsOf (λ rows.
-        IsPermutation (items_if_any (entries_given asn entry.now) rows) given.items)
-        holder.now (state S.Store conn.old)) }
-    ensures schema { IsClean S.Store conn.new → result ≡ Err StoreFault.Schema
-        → OpenEachRows (λ all. ¬ FitIfAny (all.of_holder holder.now)) (state S.Store conn.old) }
+    ensures found { FindsOf S.Store conn.old conn.new holder.now result (λ rows given.
+        IsPermutation (items_if_any (entries_given asn entry.now) rows) given.items) }
+    ensures schema { RefusesUnfit S.Store conn.old conn.new holder.now result }
 {
     let first = address_bytes(entry.prefix.first);
     let values = given_values(holder, asn, entry, &first);
@@ -169,11 +157,9 @@ fn is_given<S: Alter>(
 ) -> Result<bool, StoreFault>
     requires { IsReadyToAsk S.Store conn.old }
     ensures asked { IsAsked S.Store conn.old conn.new result }
-    ensures found { IsClean S.Store conn.new → IfOk result (λ given.
-        EachRowsOf (λ rows. given ≡ some_gives but asn (entry.now ∷ []) (auths_held rows))
-        holder.now (state S.Store conn.old)) }
-    ensures schema { IsClean S.Store conn.new → result ≡ Err StoreFault.Schema
-        → OpenEachRows (λ all. ¬ FitIfAny (all.of_holder holder.now)) (state S.Store conn.old) }
+    ensures found { FindsOf S.Store conn.old conn.new holder.now result (λ rows given.
+        given ≡ some_gives but asn (entry.now ∷ []) (auths_held rows)) }
+    ensures schema { RefusesUnfit S.Store conn.old conn.new holder.now result }
 {
     let given = load_given(conn, alloc, holder, asn, entry)?;
     Ok(has_other(&given, but))
@@ -192,11 +178,9 @@ fn some_given<S: Alter>(
     requires ready { IsReadyToAsk S.Store conn.old }
     requires is_open { IsClean S.Store conn.old → IsTrue (state S.Store conn.old).is_open }
     ensures asked { IsAsked S.Store conn.old conn.new result }
-    ensures found { IsClean S.Store conn.new → IfOk result (λ given.
-        EachRowsOf (λ rows. given ≡ some_gives but asn entries.now (auths_held rows))
-        holder.now (state S.Store conn.old)) }
-    ensures schema { IsClean S.Store conn.new → result ≡ Err StoreFault.Schema
-        → OpenEachRows (λ all. ¬ FitIfAny (all.of_holder holder.now)) (state S.Store conn.old) }
+    ensures found { FindsOf S.Store conn.old conn.new holder.now result (λ rows given.
+        given ≡ some_gives but asn entries.now (auths_held rows)) }
+    ensures schema { RefusesUnfit S.Store conn.old conn.new holder.now result }
 {
     for entry in entries {
         if is_given(conn, alloc, holder, but, asn, entry)? {
@@ -229,10 +213,9 @@ fn are_held<S: Alter>(
     requires ready { IsReadyToAsk S.Store conn.old }
     requires is_open { IsClean S.Store conn.old → IsTrue (state S.Store conn.old).is_open }
     ensures asked { IsAsked S.Store conn.old conn.new result }
-    ensures found { IsClean S.Store conn.new → IfOk result (λ held.
-        EachRows (λ rows. IsToldWhereApart rows held
-        (AreHeld (items_if_any (λ r. r.holdings) (rows.of_holder holder.now)) entries.now))
-        (state S.Store conn.old)) }
+    ensures found { Finds S.Store conn.old conn.new result (λ rows held.
+        IsToldWhereApart rows held
+        (AreHeld (items_if_any (λ r. r.holdings) (rows.of_holder holder.now)) entries.now)) }
 {
     for entry in entries {
         if !is_held(conn, holder, &entry.prefix)? {
@@ -246,9 +229,8 @@ fn are_held<S: Alter>(
 fn load_full<S: Alter>(conn: &mut Connection<S>, holder: &Name) -> Result<bool, StoreFault>
     requires { IsReadyToAsk S.Store conn.old }
     ensures asked { IsAsked S.Store conn.old conn.new result }
-    ensures found { IsClean S.Store conn.new → IfOk result (λ is_full.
-        EachRowsOf (λ rows. is_full ≡ nat_le MOST_AUTHORIZATIONS (length (auths_held rows)))
-        holder.now (state S.Store conn.old)) }
+    ensures found { FindsOf S.Store conn.old conn.new holder.now result (λ rows is_full.
+        is_full ≡ nat_le MOST_AUTHORIZATIONS (length (auths_held rows))) }
     ensures no_schema { result ≢ Err StoreFault.Schema }
 {
     let count = count_auths(conn, holder)?;
@@ -268,11 +250,10 @@ fn load_answers<S: Alter>(
     requires ready { IsReadyToAsk S.Store conn.old }
     requires is_open { IsClean S.Store conn.old → IsTrue (state S.Store conn.old).is_open }
     ensures asked { IsAsked S.Store conn.old conn.new result }
-    ensures found { IsClean S.Store conn.new → IfOk result (λ answers.
-        EachRows (λ rows. created ≡ created_if_any (rows.of_holder holder.now)
-        → AreAnswers terms.now rows holder.now answers) (state S.Store conn.old)) }
-    ensures schema { IsClean S.Store conn.new → result ≡ Err StoreFault.Schema
-        → OpenEachRows (λ all. ¬ FitIfAny (all.of_holder holder.now)) (state S.Store conn.old) }
+    ensures found { Finds S.Store conn.old conn.new result (λ rows answers.
+        created ≡ created_if_any (rows.of_holder holder.now)
+        → AreAnswers terms.now rows holder.now answers) }
+    ensures schema { RefusesUnfit S.Store conn.old conn.new holder.now result }
 {
     let entries = terms.entries.as_slice();
     let holds = are_held(conn, holder, entries)?;
@@ -301,11 +282,8 @@ pub fn load_for_create<S: Alter>(
 ) -> Result<Loaded, StoreFault>
     requires { IsReadyToAsk S.Store conn.old }
     ensures asked { IsAsked S.Store conn.old conn.new result }
-    ensures found { IsClean S.Store conn.new → IfOk result (λ loaded.
-        EachRows (λ rows. IsForCreate holder.now terms.now rows loaded)
-        (state S.Store conn.old)) }
-    ensures schema { IsClean S.Store conn.new → result ≡ Err StoreFault.Schema
-        → OpenEachRows (λ all. ¬ FitIfAny (all.of_holder holder.now)) (state S.Store conn.old) }
+    ensures found { Finds S.Store conn.old conn.new result (IsForCreate holder.now terms.now) }
+    ensures schema { RefusesUnfit S.Store conn.old conn.new holder.now result }
 {
     let rows = load_grants_counted(conn, alloc, holder)?;
     let created = created_of(rows.as_ref());
@@ -337,8 +315,7 @@ fn load_shared<S: Alter>(
         → EachRowsOf (λ rows. is_shared
         ≡ some_gives (Some number) x.asn (with_maxes maxes.now x.entries) (auths_held rows))
         holder.now (state S.Store conn.old))) }
-    ensures schema { IsClean S.Store conn.new → result ≡ Err StoreFault.Schema
-        → OpenEachRows (λ all. ¬ FitIfAny (all.of_holder holder.now)) (state S.Store conn.old) }
+    ensures schema { RefusesUnfit S.Store conn.old conn.new holder.now result }
 {
     match auth {
         Some(auth) if auth.fits_maxes(maxes) => {
@@ -360,11 +337,9 @@ pub fn load_for_amend<S: Alter>(
 ) -> Result<Loaded, StoreFault>
     requires { IsReadyToAsk S.Store conn.old }
     ensures asked { IsAsked S.Store conn.old conn.new result }
-    ensures found { IsClean S.Store conn.new → IfOk result (λ loaded.
-        EachRowsOf (λ rows. IsForAmend number maxes.now rows loaded)
-        holder.now (state S.Store conn.old)) }
-    ensures schema { IsClean S.Store conn.new → result ≡ Err StoreFault.Schema
-        → OpenEachRows (λ all. ¬ FitIfAny (all.of_holder holder.now)) (state S.Store conn.old) }
+    ensures found { FindsOf S.Store conn.old conn.new holder.now result
+        (IsForAmend number maxes.now) }
+    ensures schema { RefusesUnfit S.Store conn.old conn.new holder.now result }
 {
     let part = load_numbered(conn, alloc, holder, number)?;
     let found = auth_of_number(&part.auths, number);

@@ -1,14 +1,13 @@
 //! The last run that begins at or before an address, and what it decides if runs are apart.
-ghost use Rattle.std.specs.Prelude.{◌≡◌, ◌≤◌, ◌↔◌, [], ◌∷◌, ℕ, List, IsTrue, IfOk};
-ghost use Rattle.sqlite.specs.Held.{state};
+ghost use Rattle.std.specs.Prelude.{◌≡◌, ◌≤◌, ◌↔◌, [], ◌∷◌, ℕ, List, IsTrue};
 ghost use Rattle.sqlite.specs.Values.{bound};
 ghost use Rattle.sqlite_value.specs.declared.value.Value.TheVariants.{Blob};
 ghost use Rattle.addr.specs.Spans.{HaveAll};
 ghost use Rattle.addr.specs.declared.span.Span.{Span};
 ghost use Rattle.store_tables.specs.Cells.{family_number, holding_row, number_cell};
 ghost use Rattle.store_tables.specs.TablesHold.{items_if_any};
-ghost use Rattle.store_transactions.specs.Queries.{IsAsked, IsClean, IsReadyToAsk};
-ghost use Rattle.store_read.specs.Loads.{AreRunsApart, EachRows, IsToldWhereApart, MeetsSome};
+ghost use Rattle.store_transactions.specs.Queries.{IsAsked, IsReadyToAsk};
+ghost use Rattle.store_read.specs.Loads.{AreRunsApart, IsToldWhereApart, MeetsSome, Finds};
 ghost use Rattle.store_read.specs.steps.Below.{IsRowBelow};
 
 use crate::across::cell;
@@ -34,8 +33,8 @@ fn run_below<S: Alter>(
 ) -> Result<Option<Row>, Error>
     requires { IsReadyToAsk S.Store conn.old }
     ensures asked { IsAsked S.Store conn.old conn.new result }
-    ensures found { IsClean S.Store conn.new → IfOk result (λ run.
-        EachRows (λ rows. IsRowBelow rows family address run) (state S.Store conn.old)) }
+    ensures found { Finds S.Store conn.old conn.new result (λ rows run.
+        IsRowBelow rows family address run) }
 {
     let bytes = address_bytes(address);
     let mut found = ask(conn, SELECT_RUN_BELOW, &below_values(family, &bytes))?;
@@ -68,10 +67,9 @@ pub(crate) fn is_held<S: Alter>(
 ) -> Result<bool, Error>
     requires { IsReadyToAsk S.Store conn.old }
     ensures asked { IsAsked S.Store conn.old conn.new result }
-    ensures found { IsClean S.Store conn.new → IfOk result (λ held.
-        EachRows (λ rows. IsToldWhereApart rows held
-        (HaveAll (items_if_any (λ r. r.holdings) (rows.of_holder holder.now)) prefix.now))
-        (state S.Store conn.old)) }
+    ensures found { Finds S.Store conn.old conn.new result (λ rows held.
+        IsToldWhereApart rows held
+        (HaveAll (items_if_any (λ r. r.holdings) (rows.of_holder holder.now)) prefix.now)) }
 {
     match run_below(conn, prefix.family, prefix.first)? {
         Some(run) => Ok(is_of(&run, holder) && reaches(&run, prefix.last())),
@@ -83,9 +81,8 @@ pub(crate) fn is_held<S: Alter>(
 pub(crate) fn is_taken<S: Alter>(conn: &mut Connection<S>, prefix: &Prefix) -> Result<bool, Error>
     requires { IsReadyToAsk S.Store conn.old }
     ensures asked { IsAsked S.Store conn.old conn.new result }
-    ensures found { IsClean S.Store conn.new → IfOk result (λ taken.
-        EachRows (λ rows. AreRunsApart rows → IsTrue taken ↔ MeetsSome rows prefix.now)
-        (state S.Store conn.old)) }
+    ensures found { Finds S.Store conn.old conn.new result (λ rows taken.
+        AreRunsApart rows → IsTrue taken ↔ MeetsSome rows prefix.now) }
 {
     match run_below(conn, prefix.family, prefix.last())? {
         Some(run) => Ok(reaches(&run, prefix.first)),

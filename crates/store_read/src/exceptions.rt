@@ -1,9 +1,7 @@
 //! The SLURM files in force.
-ghost use Rattle.std.specs.Prelude.{◌≡◌, Err, IfOk};
-ghost use Rattle.sqlite.specs.Held.{state};
 ghost use Rattle.registry.specs.Values.{FilesFit};
-ghost use Rattle.store_transactions.specs.Queries.{IsAsked, IsClean, IsReadyToAsk};
-ghost use Rattle.store_read.specs.Loads.{AreFilesOf, EachRows, OpenEachRows};
+ghost use Rattle.store_transactions.specs.Queries.{IsAsked, IsReadyToAsk};
+ghost use Rattle.store_read.specs.Loads.{AreFilesOf, Finds, Refuses};
 
 use slurm::Slurm;
 use sqlite::{Alter, Connection};
@@ -18,10 +16,9 @@ pub fn load_files<S: Alter>(
 ) -> Result<Vec<Slurm>, StoreFault>
     requires { IsReadyToAsk S.Store conn.old }
     ensures asked { IsAsked S.Store conn.old conn.new result }
-    ensures found { IsClean S.Store conn.new → IfOk result (λ files.
-        EachRows (λ rows. AreFilesOf rows.files files.items) (state S.Store conn.old)) }
-    ensures schema { IsClean S.Store conn.new → result ≡ Err StoreFault.Schema
-        → OpenEachRows (λ rows. ¬ FilesFit rows.files) (state S.Store conn.old) }
+    ensures found { Finds S.Store conn.old conn.new result (λ rows files.
+        AreFilesOf rows.files files.items) }
+    ensures schema { Refuses S.Store conn.old conn.new result (λ rows. ¬ FilesFit rows.files) }
 {
     let rows = ask(conn, SELECT_ALL_EXCEPTIONS, &[])?;
     let exceptions = read_all(alloc, &rows)?;

@@ -5,14 +5,12 @@ ghost use Rattle.sqlite.specs.Given.{IsPlain};
 ghost use Rattle.sqlite.specs.Listing.{understood};
 ghost use Rattle.sqlite.specs.Values.{bound};
 ghost use Rattle.sqlite_value.specs.Order.{Row as Cells};
-ghost use Rattle.sqlite.specs.Held.{state};
 ghost use Rattle.addr.specs.Spans.{AreMaximal};
 ghost use Rattle.addr.specs.declared.vrp.Vrp.{Vrp};
 ghost use Rattle.registry.specs.declared.authorization.Auth.{Auth};
 ghost use Rattle.registry.specs.Rows.{Rows};
 ghost use Rattle.registry.specs.RowsOfAll.{IsGivenOn};
-ghost use Rattle.registry.specs.Values.{FitIfAny};
-ghost use Rattle.store_read.specs.Loads.{HaveSame, AreGrants, AreHoldings, AreInOrder, AreListed, AreLoaded, AreNumbered, AllGiveOn, EachRowsOf, EachRows, OpenEachRows, auths_held};
+ghost use Rattle.store_read.specs.Loads.{HaveSame, AreGrants, AreHoldings, AreInOrder, AreListed, AreLoaded, AreNumbered, AllGiveOn, auths_held, Finds, FindsOf, Refuses, RefusesUnfit};
 ghost use Rattle.store_tables.specs.Tables.{OverDesk};
 ghost use Rattle.store_tables.specs.TablesHold.{items_if_any};
 ghost use Rattle.store_transactions.specs.Queries.{IsAsked, IsClean, IsReadyToAsk};
@@ -57,20 +55,18 @@ pub(crate) fn load_selected<T: FromRow, S: Alter>(
     ensures asked { IsAsked S.Store conn.old conn.new result }
     ensures found { (h : List ℕ) (params : Cells) (items : Rows → List T)
         (cmp : Cells → Cells → Ordering) → bound values.now ≡ params
-        → SelectsWith T.cells T.width items cmp sql.now h params → IsClean S.Store conn.new
-        → IfOk result (λ values.
-        EachRowsOf (λ rows. IsPermutation (items_if_any items rows) values.items)
-        h (state S.Store conn.old)) }
+        → SelectsWith T.cells T.width items cmp sql.now h params
+        → FindsOf S.Store conn.old conn.new h result (λ rows values.
+        IsPermutation (items_if_any items rows) values.items) }
     ensures rising { (h : List ℕ) (params : Cells) (items : Rows → List T)
         (cmp : Cells → Cells → Ordering) → bound values.now ≡ params
         → SelectsWith T.cells T.width items cmp sql.now h params → IsClean S.Store conn.new
         → IfOk result (λ values. IsSorted cmp (map T.cells values.items)) }
     ensures schema { (h : List ℕ) (params : Cells) (items : Rows → List T)
         (cmp : Cells → Cells → Ordering) → bound values.now ≡ params
-        → SelectsWith T.cells T.width items cmp sql.now h params → IsClean S.Store conn.new
-        → result ≡ Err StoreFault.Schema
-        → OpenEachRows (λ all. ¬ All T.fits (items_if_any items (all.of_holder h)))
-        (state S.Store conn.old) }
+        → SelectsWith T.cells T.width items cmp sql.now h params
+        → Refuses S.Store conn.old conn.new result (λ all.
+        ¬ All T.fits (items_if_any items (all.of_holder h))) }
 {
     let rows = ask(conn, sql, values)?;
     read_all(alloc, &rows)
@@ -84,14 +80,12 @@ pub(crate) fn load_values<T: OfHolder, S: Alter>(
 ) -> Result<Vec<T>, StoreFault>
     requires { IsReadyToAsk S.Store conn.old }
     ensures asked { IsAsked S.Store conn.old conn.new result }
-    ensures found { IsClean S.Store conn.new → IfOk result (λ values.
-        EachRowsOf (λ rows. IsPermutation (items_if_any T.items rows) values.items)
-        holder.now (state S.Store conn.old)) }
+    ensures found { FindsOf S.Store conn.old conn.new holder.now result (λ rows values.
+        IsPermutation (items_if_any T.items rows) values.items) }
     ensures rising { IsClean S.Store conn.new → IfOk result (λ values.
         IsSorted T.order (map T.cells values.items)) }
-    ensures schema { IsClean S.Store conn.new → result ≡ Err StoreFault.Schema
-        → OpenEachRows (λ all. ¬ All T.fits (items_if_any T.items (all.of_holder holder.now)))
-        (state S.Store conn.old) }
+    ensures schema { Refuses S.Store conn.old conn.new result (λ all.
+        ¬ All T.fits (items_if_any T.items (all.of_holder holder.now))) }
 {
     load_selected(conn, alloc, T::select(), &name_values(holder))
 }
@@ -104,10 +98,9 @@ pub(crate) fn load_counters<S: Alter>(
 ) -> Result<Option<Counters>, StoreFault>
     requires { IsReadyToAsk S.Store conn.old }
     ensures asked { IsAsked S.Store conn.old conn.new result }
-    ensures found { IsClean S.Store conn.new → IfOk result (λ counters.
-        EachRowsOf (λ rows. counters ≡ counters_if_any rows) holder.now (state S.Store conn.old)) }
-    ensures schema { IsClean S.Store conn.new → result ≡ Err StoreFault.Schema
-        → OpenEachRows (λ all. ¬ FitIfAny (all.of_holder holder.now)) (state S.Store conn.old) }
+    ensures found { FindsOf S.Store conn.old conn.new holder.now result (λ rows counters.
+        counters ≡ counters_if_any rows) }
+    ensures schema { RefusesUnfit S.Store conn.old conn.new holder.now result }
 {
     let counters: Vec<Counters> = load_values(conn, alloc, holder)?;
     Ok(counters.first().copied())
@@ -121,10 +114,9 @@ pub fn is_registered<S: Alter>(
 ) -> Result<bool, StoreFault>
     requires { IsReadyToAsk S.Store conn.old }
     ensures asked { IsAsked S.Store conn.old conn.new result }
-    ensures found { IsClean S.Store conn.new → IfOk result (λ registered.
-        EachRowsOf (λ rows. registered ≡ is_some rows) holder.now (state S.Store conn.old)) }
-    ensures schema { IsClean S.Store conn.new → result ≡ Err StoreFault.Schema
-        → OpenEachRows (λ all. ¬ FitIfAny (all.of_holder holder.now)) (state S.Store conn.old) }
+    ensures found { FindsOf S.Store conn.old conn.new holder.now result (λ rows registered.
+        registered ≡ is_some rows) }
+    ensures schema { RefusesUnfit S.Store conn.old conn.new holder.now result }
 {
     let counters = load_counters(conn, alloc, holder)?;
     Ok(counters.is_some())
@@ -138,12 +130,10 @@ pub fn load_runs<S: Alter>(
 ) -> Result<Holdings, StoreFault>
     requires { IsReadyToAsk S.Store conn.old }
     ensures asked { IsAsked S.Store conn.old conn.new result }
-    ensures found { IsClean S.Store conn.new → IfOk result (λ runs.
-        EachRowsOf (λ rows. HaveSame (items_if_any (λ r. r.holdings) rows) runs)
-        holder.now (state S.Store conn.old)) }
+    ensures found { FindsOf S.Store conn.old conn.new holder.now result (λ rows runs.
+        HaveSame (items_if_any (λ r. r.holdings) rows) runs) }
     ensures maximal { IfOk result AreMaximal }
-    ensures schema { IsClean S.Store conn.new → result ≡ Err StoreFault.Schema
-        → OpenEachRows (λ all. ¬ FitIfAny (all.of_holder holder.now)) (state S.Store conn.old) }
+    ensures schema { RefusesUnfit S.Store conn.old conn.new holder.now result }
 {
     let spans: Vec<Span> = load_values(conn, alloc, holder)?;
     Ok(holdings_of(alloc, &spans)?)
@@ -157,10 +147,8 @@ pub fn load_holdings<S: Alter>(
 ) -> Result<Option<HolderRows>, StoreFault>
     requires { IsReadyToAsk S.Store conn.old }
     ensures asked { IsAsked S.Store conn.old conn.new result }
-    ensures found { IsClean S.Store conn.new → IfOk result (λ part.
-        EachRowsOf (λ rows. AreHoldings rows part) holder.now (state S.Store conn.old)) }
-    ensures schema { IsClean S.Store conn.new → result ≡ Err StoreFault.Schema
-        → OpenEachRows (λ all. ¬ FitIfAny (all.of_holder holder.now)) (state S.Store conn.old) }
+    ensures found { FindsOf S.Store conn.old conn.new holder.now result AreHoldings }
+    ensures schema { RefusesUnfit S.Store conn.old conn.new holder.now result }
 {
     if !is_registered(conn, alloc, holder)? {
         return Ok(None);
@@ -183,10 +171,9 @@ pub(crate) fn load_grants<S: Alter>(
 ) -> Result<Vec<Granted>, StoreFault>
     requires { IsReadyToAsk S.Store conn.old }
     ensures asked { IsAsked S.Store conn.old conn.new result }
-    ensures found { IsClean S.Store conn.new → IfOk result (λ grants.
-        EachRowsOf (λ rows. AreGrants rows grants.items) holder.now (state S.Store conn.old)) }
-    ensures schema { IsClean S.Store conn.new → result ≡ Err StoreFault.Schema
-        → OpenEachRows (λ all. ¬ FitIfAny (all.of_holder holder.now)) (state S.Store conn.old) }
+    ensures found { FindsOf S.Store conn.old conn.new holder.now result (λ rows grants.
+        AreGrants rows grants.items) }
+    ensures schema { RefusesUnfit S.Store conn.old conn.new holder.now result }
 {
     load_values(conn, alloc, holder)
 }
@@ -199,11 +186,9 @@ fn load_auths<S: Alter>(
 ) -> Result<Vec<Auth>, StoreFault>
     requires { IsReadyToAsk S.Store conn.old }
     ensures asked { IsAsked S.Store conn.old conn.new result }
-    ensures found { IsClean S.Store conn.new → IfOk result (λ auths.
-        EachRowsOf (λ rows. AreInOrder (λ (x : Auth). x.number) (items_if_any (λ r. r.auths) rows)
-        auths.items) holder.now (state S.Store conn.old)) }
-    ensures schema { IsClean S.Store conn.new → result ≡ Err StoreFault.Schema
-        → OpenEachRows (λ all. ¬ FitIfAny (all.of_holder holder.now)) (state S.Store conn.old) }
+    ensures found { FindsOf S.Store conn.old conn.new holder.now result (λ rows auths.
+        AreInOrder (λ (x : Auth). x.number) (items_if_any (λ r. r.auths) rows) auths.items) }
+    ensures schema { RefusesUnfit S.Store conn.old conn.new holder.now result }
 {
     // For the proof: its contract says that what the connection shows obeys the schema.
     let _schema = conn.schema();
@@ -217,8 +202,8 @@ fn load_auths<S: Alter>(
 pub fn count_auths<S: Alter>(conn: &mut Connection<S>, holder: &Name) -> Result<u32, StoreFault>
     requires { IsReadyToAsk S.Store conn.old }
     ensures asked { IsAsked S.Store conn.old conn.new result }
-    ensures found { IsClean S.Store conn.new → IfOk result (λ count.
-        EachRowsOf (λ rows. count ≡ length (auths_held rows)) holder.now (state S.Store conn.old)) }
+    ensures found { FindsOf S.Store conn.old conn.new holder.now result (λ rows count.
+        count ≡ length (auths_held rows)) }
     ensures no_schema { result ≢ Err StoreFault.Schema }
 {
     let found = ask(conn, COUNT_HOLDER_CLAIMS, &name_values(holder))?;
@@ -237,12 +222,10 @@ pub fn load_auths_numbered<S: Alter>(
 ) -> Result<Vec<Auth>, StoreFault>
     requires { IsReadyToAsk S.Store conn.old }
     ensures asked { IsAsked S.Store conn.old conn.new result }
-    ensures found { IsClean S.Store conn.new → IfOk result (λ auths.
-        EachRowsOf (λ rows. AreInOrder (λ (x : Auth). x.number)
-        (filter (λ x. x.number == number) (auths_held rows)) auths.items)
-        holder.now (state S.Store conn.old)) }
-    ensures schema { IsClean S.Store conn.new → result ≡ Err StoreFault.Schema
-        → OpenEachRows (λ all. ¬ FitIfAny (all.of_holder holder.now)) (state S.Store conn.old) }
+    ensures found { FindsOf S.Store conn.old conn.new holder.now result (λ rows auths.
+        AreInOrder (λ (x : Auth). x.number) (filter (λ x. x.number == number) (auths_held rows))
+        auths.items) }
+    ensures schema { RefusesUnfit S.Store conn.old conn.new holder.now result }
 {
     // For the proof: its contract says that what the connection shows obeys the schema.
     let _schema = conn.schema();
@@ -262,10 +245,8 @@ pub fn load_numbered<S: Alter>(
 ) -> Result<HolderRows, StoreFault>
     requires { IsReadyToAsk S.Store conn.old }
     ensures asked { IsAsked S.Store conn.old conn.new result }
-    ensures found { IsClean S.Store conn.new → IfOk result (λ part.
-        EachRowsOf (λ rows. AreNumbered number rows part) holder.now (state S.Store conn.old)) }
-    ensures schema { IsClean S.Store conn.new → result ≡ Err StoreFault.Schema
-        → OpenEachRows (λ all. ¬ FitIfAny (all.of_holder holder.now)) (state S.Store conn.old) }
+    ensures found { FindsOf S.Store conn.old conn.new holder.now result (AreNumbered number) }
+    ensures schema { RefusesUnfit S.Store conn.old conn.new holder.now result }
 {
     let grants = load_grants(conn, alloc, holder)?;
     let auths = load_auths_numbered(conn, alloc, holder, number)?;
@@ -287,10 +268,8 @@ pub fn load_listed<S: Alter>(
 ) -> Result<HolderRows, StoreFault>
     requires { IsReadyToAsk S.Store conn.old }
     ensures asked { IsAsked S.Store conn.old conn.new result }
-    ensures found { IsClean S.Store conn.new → IfOk result (λ part.
-        EachRowsOf (λ rows. AreListed rows part) holder.now (state S.Store conn.old)) }
-    ensures schema { IsClean S.Store conn.new → result ≡ Err StoreFault.Schema
-        → OpenEachRows (λ all. ¬ FitIfAny (all.of_holder holder.now)) (state S.Store conn.old) }
+    ensures found { FindsOf S.Store conn.old conn.new holder.now result AreListed }
+    ensures schema { RefusesUnfit S.Store conn.old conn.new holder.now result }
 {
     let grants = load_grants(conn, alloc, holder)?;
     let auths = load_auths(conn, alloc, holder)?;
@@ -311,10 +290,8 @@ pub fn load_rows<S: Alter>(
 ) -> Result<Option<HolderRows>, StoreFault>
     requires { IsReadyToAsk S.Store conn.old }
     ensures asked { IsAsked S.Store conn.old conn.new result }
-    ensures found { IsClean S.Store conn.new → IfOk result (λ loaded.
-        EachRowsOf (λ rows. AreLoaded rows loaded) holder.now (state S.Store conn.old)) }
-    ensures schema { IsClean S.Store conn.new → result ≡ Err StoreFault.Schema
-        → OpenEachRows (λ all. ¬ FitIfAny (all.of_holder holder.now)) (state S.Store conn.old) }
+    ensures found { FindsOf S.Store conn.old conn.new holder.now result AreLoaded }
+    ensures schema { RefusesUnfit S.Store conn.old conn.new holder.now result }
 {
     let Some(Counters { granted, created }) = load_counters(conn, alloc, holder)? else {
         return Ok(None);
@@ -339,13 +316,10 @@ pub fn load_vrps<S: Alter>(
 ) -> Result<Vec<Vrp>, StoreFault>
     requires { IsReadyToAsk S.Store conn.old }
     ensures asked { IsAsked S.Store conn.old conn.new result }
-    ensures found { IsClean S.Store conn.new → IfOk result (λ vrps.
-        EachRows (λ rows. (v : Vrp) → Contains vrps.items v ↔ IsGivenOn rows day v)
-        (state S.Store conn.old)) }
-    ensures once { IsClean S.Store conn.new → IfOk result (λ vrps.
-        EachRows (λ _. AllPairs ◌≢◌ vrps.items) (state S.Store conn.old)) }
-    ensures schema { IsClean S.Store conn.new → result ≡ Err StoreFault.Schema
-        → OpenEachRows (λ rows. ¬ AllGiveOn rows day) (state S.Store conn.old) }
+    ensures found { Finds S.Store conn.old conn.new result (λ rows vrps.
+        (v : Vrp) → Contains vrps.items v ↔ IsGivenOn rows day v) }
+    ensures once { Finds S.Store conn.old conn.new result (λ _ vrps. AllPairs ◌≢◌ vrps.items) }
+    ensures schema { Refuses S.Store conn.old conn.new result (λ rows. ¬ AllGiveOn rows day) }
 {
     // For the proof: its contract says that what the connection shows obeys the schema.
     let _schema = conn.schema();
