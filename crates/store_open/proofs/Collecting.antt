@@ -1,5 +1,5 @@
 -- Values that are taken from rows, one row at a time.
-use Rattle.std.proofs.Common.{◌≡◌, ℕ, ℤ, Bool, true, false, List, [], ◌∷◌, ◌++◌, map, Option, Some, None, IfSome, MatchBool, refl, inl, sym, ap, ap₂, subst, ◌∙◌, is_eq, is_lt, int_cmp, arith, IsPermutation}
+use Rattle.std.proofs.Common.{◌≡◌, ℕ, ℤ, true, false, List, [], ◌∷◌, ◌++◌, map, Option, Some, None, IfSome, sym, ap, ap₂, subst, ◌∙◌, is_eq, is_lt, int_cmp, arith, IsPermutation}
 use Rattle.std.specs.List.{AllByRecursion}
 use Rattle.std.proofs.lemmas.Int.{ints}
 use Rattle.std.proofs.lemmas.List.{map-append}
@@ -9,11 +9,11 @@ use Rattle.sqlite_value.specs.Order.{Row, value_cmp}
 use Rattle.sqlite_trees.specs.View.{is_int}
 use Rattle.sqlite_trees.proofs.ListLemmas.{all_weaker, all-permutation, ascending-append}
 use Rattle.sqlite_rules.specs.Lists.{Has}
-use Rattle.sqlite_rules.proofs.ListLemmas.{all_has, has_left, has_right}
+use Rattle.sqlite_rules.proofs.ListLemmas.{all_has}
 use Rattle.sqlite_rules.proofs.ProbeLemmas.{mapped_has}
 use Rattle.store_tables.specs.Decode.{ShowsNone, first_columns}
 use Rattle.store_open.specs.TablesRead.{ShowsSome}
-use Rattle.store_open.specs.steps.Numbered.{last_value, is_integer_below, AreRead, AreTaken, Collects, EndApart, EndsUpTo, AscendByNumber, Shows}
+use Rattle.store_open.specs.steps.Numbered.{last_value, is_integer_below, AreRead, AreTaken, EndApart, EndsUpTo, AscendByNumber}
 use Rattle.store_open.proofs.Rowids.{below_apart}
 
 -- ---- integers that rise
@@ -48,9 +48,6 @@ pub all_and_one : {X : Type 0} (P : X → Type 0) (xs : List X) (x : X) → AllB
 all_and_one P [] x all one = (one, tt)
 all_and_one P (y ∷ xs) x all one = (all.0, all_and_one P xs x all.1 one)
 
-pub end_apart_none : EndApart [] None
-end_apart_none = record { apart = tt; ends = tt }
-
 pub end_apart_more : (rows : List Row) (row : Row) (last : Option ℤ) (n : ℤ) → EndApart rows last → last_value row ≡ Int n → IfSome last (λ l. is_lt (int_cmp l n) ≡ true) → EndApart (rows ++ row ∷ []) (Some n)
 end_apart_more rows row last n was is above = record {
   apart = ascending-append AreApart rows (row ∷ []) was.apart (tt, tt) (all_weaker (EndsUpTo last) _ (λ a ends. (apart_from last n row is above a ends, tt)) rows was.ends);
@@ -61,38 +58,25 @@ pub numbers_ascend : (rows : List Row) (last : Option ℤ) → EndApart rows las
 numbers_ascend rows last were = (were.apart, all_weaker (EndsUpTo last) (λ c. is_int (last_value c) ≡ true) (ends_in_int last) rows were.ends)
 
 module _ {X : Type 0} (cells : X → Row) (fits : X → Type 0) (width : ℕ) where
-  pub collects_none : Collects cells fits width [] [] None true
-  collects_none = record { read = λ is. record { numbered = end_apart_none; shown = refl; fit = tt }; unread = λ is. absurd cc }
+  abbrev Taken : List Row → List X → Option ℤ → Type 0
+  Taken = AreTaken cells fits width
 
   module _ (rows : List Row) (row : Row) where
-    pub collects_no_more : (values : List X) (last : Option ℤ) (is_read : Bool) → is_read ≡ false → Collects cells fits width rows values last is_read → Collects cells fits width (rows ++ row ∷ []) values last is_read
-    collects_no_more values last is_read over was =
-        let none = was.unread over in
-        record { read = λ is. absurd cc; unread = λ is. (none.0, has_left rows (row ∷ []) none.0 none.1, none.2) }
-
-    taken_more : (values now : List X) (last : Option ℤ) (n : ℤ) → AreTaken cells fits width rows values last → last_value row ≡ Int n → IfSome last (λ l. is_lt (int_cmp l n) ≡ true)
-        → Shows cells fits (first_columns width row) values now → AreTaken cells fits width (rows ++ row ∷ []) now (Some n)
-    taken_more values now last n was is above value = record {
+    pub taken_more : (values : List X) (x : X) (last : Option ℤ) (n : ℤ) → Taken rows values last → last_value row ≡ Int n → IfSome last (λ l. is_lt (int_cmp l n) ≡ true)
+        → fits x → first_columns width row ≡ cells x → Taken (rows ++ row ∷ []) (values ++ x ∷ []) (Some n)
+    taken_more values x last n was is above fit shown = record {
       numbered = end_apart_more rows row last n was.numbered is above;
-      shown = map-append (first_columns width) rows (row ∷ []) ∙ ap₂ ◌++◌ was.shown (ap (λ c. c ∷ []) value.2) ∙ sym (map-append cells values (value.0 ∷ [])) ∙ ap (map cells) (sym value.3);
-      fit = subst (AllByRecursion fits) (sym value.3) (all_and_one fits values value.0 was.fit value.1);
+      shown = map-append (first_columns width) rows (row ∷ []) ∙ ap₂ ◌++◌ was.shown (ap (λ c. c ∷ []) shown) ∙ sym (map-append cells values (x ∷ []));
+      fit = all_and_one fits values x was.fit fit;
     }
-
-    pub collects_more : (values now : List X) (last next : Option ℤ) (n : ℤ) (was_read is_read : Bool) → was_read ≡ true → Collects cells fits width rows values last was_read → last_value row ≡ Int n → IfSome last (λ l. is_lt (int_cmp l n) ≡ true)
-        → next ≡ Some n → MatchBool is_read (Shows cells fits (first_columns width row) values now) (ShowsNone cells fits (first_columns width row)) → Collects cells fits width (rows ++ row ∷ []) now next is_read
-    collects_more values now last next n was_read true so_far was is above ends value = record {
-      read = λ _. subst (AreTaken cells fits width (rows ++ row ∷ []) now) (sym ends) (taken_more values now last n (was.read so_far) is above value);
-      unread = λ is. absurd cc;
-    }
-    collects_more values now last next n was_read false so_far was is above ends none = record { read = λ is. absurd cc; unread = λ _. (row, has_right rows (row ∷ []) row (inl refl), none) }
 
   -- ---- all rows
 
-  pub taken_rise : (rows : List Row) (values : List X) (last : Option ℤ) → AreTaken cells fits width rows values last → AscendByNumber rows
+  pub taken_rise : (rows : List Row) (values : List X) (last : Option ℤ) → Taken rows values last → AscendByNumber rows
   taken_rise rows values last taken = numbers_ascend rows last taken.numbered
 
   module _ (rows shown : List Row) (same : IsPermutation shown (map (first_columns width) rows)) where
-    pub taken_read : (values : List X) (last : Option ℤ) → AreTaken cells fits width rows values last → AreRead cells fits shown values
+    pub taken_read : (values : List X) (last : Option ℤ) → Taken rows values last → AreRead cells fits shown values
     taken_read values last taken = record { fit = All-from_recursion fits values taken.fit; same = subst (IsPermutation shown) taken.shown same }
 
     pub some_untaken : (c : Row) × Has rows c × ShowsNone cells fits (first_columns width c) → ¬ AllByRecursion (ShowsSome cells fits) shown

@@ -1,6 +1,7 @@
 pub mod SameCharter
 mod Rowids
 mod Collecting
+mod Keys
 mod AllTexts
 mod Grouped
 pub mod SomeAuths

@@ -3,4 +3,5 @@ pub mod Moving
 pub mod Found
 pub mod Numbered
 pub mod Opened
+pub mod Keys
 pub mod Joining

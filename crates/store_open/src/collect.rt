@@ -1,21 +1,22 @@
-//! Takes the values of the rows of a table, one row at a time.
+//! Takes the claims of the rows of their table, and the rowids of another, one row at a time.
 ghost use Rattle.std.specs.Prelude.{◌≡◌, ◌≢◌, true, false, List, [], ◌∷◌, ◌++◌, Some, Err, IfOk, IfSome, MatchBool, MatchOption};
 ghost use Rattle.std.specs.Ordering.{is_lt, int_cmp};
 ghost use Rattle.sqlite_value.specs.declared.value.Value.TheVariants.{Int};
-ghost use Rattle.store_tables.specs.Decode.{ShowsNone, first_columns};
-ghost use Rattle.store_open.specs.steps.Numbered.{last_value, Collects, EndApart, Shows};
+ghost use Rattle.store_open.specs.steps.Keys.{Collects, ShowsKey, ShowsNoClaim};
+ghost use Rattle.store_open.specs.steps.Numbered.{last_value, EndApart};
 
+use crate::key::ClaimKey;
 use crate::rise::last_value;
 use sqlite::Row;
 use sqlite::types::ValueRef;
 use std::alloc::Global;
-use store_tables::FromRow;
+use store_tables::{Claim, FromRow, OfHolder};
 use store_transactions::{StoreFault, TakeRow};
 
-/// The values of the rows so far, up to the first row that shows none.
+/// The keys of the claims that the rows so far show, up to the first row that shows none.
 #[derive(Drop)]
-pub(crate) struct Collected<T> {
-    values: Vec<T>,
+pub(crate) struct Collected {
+    keys: Vec<ClaimKey>,
     last: Option<i64>,
     is_read: bool,
 }
@@ -34,86 +35,79 @@ fn rowid_above(last: Option<i64>, row: &Row) -> Option<i64>
     }
 }
 
-/// The values with the one that the row shows, if it shows one.
-fn with_value<T: FromRow>(
-    mut values: Vec<T>,
-    rowid: i64,
-    row: &Row,
-) -> Result<Collected<T>, StoreFault>
+/// The keys with that of the claim that the row shows, if it shows one.
+fn with_claim(mut keys: Vec<ClaimKey>, rowid: i64, row: &Row) -> Result<Collected, StoreFault>
     ensures last { IfOk result (λ now. now.last ≡ Some rowid) }
     ensures taken { IfOk result (λ now. MatchBool now.is_read
-        (Shows T.cells T.fits (first_columns T.width row.now) values.items now.values.items)
-        (ShowsNone T.cells T.fits (first_columns T.width row.now))) }
+        (ShowsKey row.now keys.items now.keys.items) (ShowsNoClaim row.now)) }
     ensures no_schema { result ≢ Err StoreFault.Schema }
 {
     let last = Some(rowid);
-    let Some(value) = T::in_row(row) else {
+    let Some(claim) = OfHolder::<Claim>::in_row(row) else {
         return Ok(Collected {
-            values,
+            keys,
             last,
             is_read: false,
         });
     };
-    let Ok(()) = values.push(value) else {
+    let Ok(()) = keys.push(ClaimKey::of(&claim)) else {
         return Err(StoreFault::Database);
     };
     Ok(Collected {
-        values,
+        keys,
         last,
         is_read: true,
     })
 }
 
-/// No values, with room for so many. If there is no such room, the vector grows later.
-fn no_values<T>(alloc: Global, count: usize) -> Vec<T>
+/// No keys, with room for so many. If there is no such room, the vector grows later.
+fn no_keys(alloc: Global, count: usize) -> Vec<ClaimKey>
     ensures { result.items ≡ [] }
 {
     match Vec::with_capacity(alloc, count) {
-        Ok(values) => values,
+        Ok(keys) => keys,
         Err(_) => Vec::new(alloc),
     }
 }
 
-impl<T: FromRow> Collected<T> {
-    /// The values of no rows, with room for so many.
-    pub(crate) fn none(alloc: Global, count: usize) -> Collected<T>
-        ensures { Collects T.cells T.fits T.width [] result.values.items result.last
-            result.is_read }
+impl Collected {
+    /// The keys of no claims, with room for so many.
+    pub(crate) fn none(alloc: Global, count: usize) -> Collected
+        ensures { Collects [] result.keys.items result.last result.is_read }
     {
         Collected {
-            values: no_values(alloc, count),
+            keys: no_keys(alloc, count),
             last: None,
             is_read: true,
         }
     }
 
-    /// The values, if each row showed one.
-    pub(crate) fn into_values(self) -> Option<Vec<T>>
+    /// The keys, if each row showed a claim.
+    pub(crate) fn into_keys(self) -> Option<Vec<ClaimKey>>
         ensures { MatchOption result (self.is_read ≡ false)
-            (λ values. (self.is_read ≡ true) × (values ≡ self.values)) }
+            (λ keys. (self.is_read ≡ true) × (keys ≡ self.keys)) }
     {
         let Collected {
-            values,
+            keys,
             last: _,
             is_read,
         } = self;
-        if is_read { Some(values) } else { None }
+        if is_read { Some(keys) } else { None }
     }
 }
 
-impl<T: FromRow> TakeRow for Collected<T> {
-    ghost took = { λ _ rows now.
-        Collects T.cells T.fits T.width rows now.values.items now.last now.is_read };
+impl TakeRow for Collected {
+    ghost took = { λ _ rows now. Collects rows now.keys.items now.last now.is_read };
 
-    fn take(self, row: &Row) -> Result<Collected<T>, StoreFault> {
+    fn take(self, row: &Row) -> Result<Collected, StoreFault> {
         let Collected {
-            values,
+            keys,
             last,
             is_read,
         } = self;
         if !is_read {
             return Ok(Collected {
-                values,
+                keys,
                 last,
                 is_read,
             });
@@ -121,7 +115,7 @@ impl<T: FromRow> TakeRow for Collected<T> {
         let Some(rowid) = rowid_above(last, row) else {
             return Err(StoreFault::Database);
         };
-        with_value(values, rowid, row)
+        with_claim(keys, rowid, row)
     }
 }
 

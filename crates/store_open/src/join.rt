@@ -4,29 +4,31 @@ ghost use Rattle.std.specs.Prelude.{◌≡◌, ◌≢◌, true, false, List, [],
 ghost use Rattle.sqlite_value.specs.Order.{Row as Cells};
 ghost use Rattle.store_tables.specs.declared.entry.EntryRow.{EntryRow};
 ghost use Rattle.store_tables.specs.declared.groups.OfHolder.{OfHolder};
-ghost use Rattle.store_open.specs.steps.Joining.{JoinsRows, MakeNoneOfRows, MakeOfRows, WalkStands, WalkGoesOn, first_claim_entry};
+ghost use Rattle.store_open.specs.steps.Joining.{JoinsRows, MakeNoneOfRows, MakeOfRows, WalkStands, WalkGoesOn};
+ghost use Rattle.store_open.specs.steps.Keys.{AreOfAll, first_key_entry};
 
+use crate::key::ClaimKey;
 use addr::RoaPrefix;
 use registry::RoaPrefixes;
 use sqlite::Row;
 use std::alloc::Global;
 use std::mem;
-use store_tables::{Claim, EntryRow, FromRow, HasEntries, OfHolder};
+use store_tables::{EntryRow, FromRow, OfHolder};
 use store_transactions::{StoreFault, TakeRow};
 
 /// A walk along claims in order: how many it has passed, and the entries found of the next one.
 #[derive(Drop)]
 pub(crate) struct Joined {
     alloc: Global,
-    claims: Vec<OfHolder<Claim>>,
+    claims: Vec<ClaimKey>,
     passed: usize,
     found: Vec<RoaPrefix>,
     fits: bool,
 }
 
 /// The entry of the claim at this place that the row is, if there is such a claim and it is one.
-fn entry_at(claims: &[OfHolder<Claim>], place: usize, row: &OfHolder<EntryRow>) -> Option<RoaPrefix>
-    ensures { result ≡ first_claim_entry (drop place claims.now) row.now }
+fn entry_at(claims: &[ClaimKey], place: usize, row: &OfHolder<EntryRow>) -> Option<RoaPrefix>
+    ensures { result ≡ first_key_entry (drop place claims.now) row.now }
 {
     let claim = claims.get(place)?;
     claim.entry_if(row)
@@ -34,9 +36,10 @@ fn entry_at(claims: &[OfHolder<Claim>], place: usize, row: &OfHolder<EntryRow>) 
 
 impl Joined {
     /// The walk before any row.
-    pub(crate) fn start(alloc: Global, claims: Vec<OfHolder<Claim>>) -> Joined
+    pub(crate) fn start(alloc: Global, claims: Vec<ClaimKey>) -> Joined
         ensures claims { result.claims ≡ claims }
-        ensures joins { JoinsRows claims.items [] result.passed result.found.items result.fits }
+        ensures joins { AreOfAll (λ all.
+            JoinsRows all [] result.passed result.found.items result.fits) claims.items }
     {
         Joined {
             alloc,
@@ -73,11 +76,10 @@ impl Joined {
     fn pass(mut self, row: &OfHolder<EntryRow>) -> Result<Joined, StoreFault>
         requires { self.fits ≡ true }
         ensures claims { IfOk result (λ now. now.claims ≡ self.claims) }
-        ensures walks { IfOk result (λ now. (entries : List (OfHolder EntryRow))
-            → WalkStands self.claims.items entries (drop self.passed self.claims.items)
-            self.found.items
-            → WalkGoesOn self.claims.items (entries ++ row.now ∷ []) now.passed now.found.items
-            now.fits) }
+        ensures walks { IfOk result (λ now. AreOfAll (λ all. (entries : List (OfHolder EntryRow))
+            → WalkStands all entries (drop self.passed all) self.found.items
+            → WalkGoesOn all (entries ++ row.now ∷ []) now.passed now.found.items now.fits)
+            self.claims.items) }
         ensures no_schema { result ≢ Err StoreFault.Schema }
     {
         if self.passed >= self.claims.len() {
@@ -99,10 +101,10 @@ impl Joined {
 
     /// Whether the claims made authorizations with the rows.
     pub(crate) fn is_whole(self) -> bool
-        ensures { (rows : List Cells)
-            → JoinsRows self.claims.items rows self.passed self.found.items self.fits
-            → MatchBool result (MakeOfRows self.claims.items rows)
-            (MakeNoneOfRows self.claims.items rows) }
+        ensures { AreOfAll (λ all. (rows : List Cells)
+            → JoinsRows all rows self.passed self.found.items self.fits
+            → MatchBool result (MakeOfRows all rows) (MakeNoneOfRows all rows))
+            self.claims.items }
     {
         if !self.fits {
             return false;
@@ -119,7 +121,8 @@ impl Joined {
 
 impl TakeRow for Joined {
     ghost took = { λ start rows now. (now.claims ≡ start.claims)
-        × JoinsRows start.claims.items rows now.passed now.found.items now.fits };
+        × AreOfAll (λ all. JoinsRows all rows now.passed now.found.items now.fits)
+        start.claims.items };
 
     fn take(mut self, row: &Row) -> Result<Joined, StoreFault> {
         if !self.fits {

@@ -4,6 +4,7 @@
 mod collect;
 mod found;
 mod join;
+mod key;
 pub mod laws;
 mod opening;
 mod reading;

@@ -12,7 +12,7 @@ ghost use Rattle.addr.specs.Address.{prefix_eq};
 ghost use Rattle.registry.specs.Charter.{operators_of, pool_of};
 ghost use Rattle.registry.specs.CharterSets.{AreAllowedCounts};
 ghost use Rattle.registry.specs.Repeats.{has_repeat};
-ghost use Rattle.store_tables.specs.Decode.{first_columns};
+ghost use Rattle.store_tables.specs.Decode.{ClaimFits, NamedFits, first_columns};
 ghost use Rattle.store_tables.specs.Groups.{AllApart, claim_entry, holder_entry};
 ghost use Rattle.store_tables.specs.Tables.{operator, pool, holder, holding, granted, auth, slurm, claim, entry, IsTree, OverDesk};
 ghost use Rattle.store_tables.proofs.GroupOrder.{claim_cmp, claim_orders, entry_row_cmp, of_holder_cmp, of_holder_total};
@@ -21,11 +21,13 @@ ghost use Rattle.store_open.specs.TablesRead.{HoldSomeRows, ShowsSome, TablesRea
 ghost use Rattle.store_open.specs.steps.Numbered.{AreRead, AscendByNumber, SelectsAll, shown_in};
 ghost use Rattle.store_transactions.specs.steps.Statements.{AnswersSelect};
 ghost use Rattle.store_open.specs.steps.Joining.{MakeOfTable, MakeNoneOfTable};
+ghost use Rattle.store_open.specs.steps.Keys.{AreOfAll, AreOfSome, ClaimsInOrder, ClaimsRead, show_claim};
 ghost use Rattle.store_open.specs.steps.Opened.{HasNumber, ShowsNumber, number_row, MakeAuths, ShowAuths, ShowExceptions, ShowHolders, ShowsCharter, ShowsOthers, claim_places, entry_places};
 ghost use Rattle.store_transactions.specs.Queries.{IsAsked, IsAskedOnce, IsClean, IsReadyToAsk, IsAskedInside, ObeysSchema};
 
 use crate::collect::{Collected, Rowids};
 use crate::join::Joined;
+use crate::key::ClaimKey;
 use crate::rise::{last_value, rise};
 use addr::{Name, Prefix, Span};
 use registry::{Charter, Granted, RoaPrefixes};
@@ -143,58 +145,49 @@ fn ask_number<S: Alter>(conn: &mut Connection<S>, sql: &str) -> Result<usize, St
     Ok(usize::try_from(number).unwrap_or(0))
 }
 
-/// The values of all rows of a table, outside a transaction. The text answers how many there are, so
-/// that the vector is made at once: one that grows is held twice while it is moved. One row is held
-/// at a time.
-fn collect_table<T: InTable, S: Alter>(
+/// The keys of all claims, outside a transaction. One row is held at a time. The vector is made at
+/// once, since one that grows is held twice while it is moved.
+fn collect_claims<S: Alter>(
     conn: &mut Connection<S>,
     alloc: Global,
-    count_all: &str,
-) -> Result<Vec<T>, StoreFault>
-    requires ready { IsReadyToAsk S.Store conn.old }
-    requires plain { OverDesk (λ s. IsPlain (understood s count_all.now)) }
+) -> Result<Vec<ClaimKey>, StoreFault>
+    requires { IsReadyToAsk S.Store conn.old }
     ensures asked { IsAsked S.Store conn.old conn.new result }
     ensures tree { IsClean S.Store conn.new
-        → OnOk result (IsTree ((state S.Store conn.old).now.trees T.tree)) }
-    ensures read { IsClean S.Store conn.new → IfOk result (λ values.
-        AreRead T.cells T.fits (shown_in T.tree T.places (state S.Store conn.old).now)
-        values.items) }
+        → OnOk result (IsTree ((state S.Store conn.old).now.trees claim.tree)) }
+    ensures read { IsClean S.Store conn.new → IfOk result (λ keys.
+        AreOfSome (ClaimsRead (state S.Store conn.old).now) keys.items) }
     ensures schema { IsClean S.Store conn.new → result ≡ Err StoreFault.Schema
-        → ¬ AllByRecursion (ShowsSome T.cells T.fits)
-        (shown_in T.tree T.places (state S.Store conn.old).now) }
+        → ¬ AllByRecursion (ShowsSome show_claim (NamedFits ClaimFits))
+        (shown_in claim.tree claim_places (state S.Store conn.old).now) }
 {
-    let count = ask_number(conn, count_all)?;
-    let none: Collected<T> = Collected::none(alloc, count);
-    let collected = take_each(conn, T::select_all(), &[], none)?;
-    let Some(values) = collected.into_values() else {
+    let count = ask_number(conn, COUNT_CLAIMS)?;
+    let none = Collected::none(alloc, count);
+    let collected = take_each(conn, SELECT_ALL_CLAIMS, &[], none)?;
+    let Some(keys) = collected.into_keys() else {
         return Err(StoreFault::Schema);
     };
-    Ok(values)
+    Ok(keys)
 }
 
-/// The same in their order.
-fn collect_in_order<T: InOrder, S: Alter>(
+/// The same in the order of claims.
+fn collect_in_order<S: Alter>(
     conn: &mut Connection<S>,
     alloc: Global,
-    count_all: &str,
-) -> Result<Vec<T>, StoreFault>
-    requires ready { IsReadyToAsk S.Store conn.old }
-    requires plain { OverDesk (λ s. IsPlain (understood s count_all.now)) }
+) -> Result<Vec<ClaimKey>, StoreFault>
+    requires { IsReadyToAsk S.Store conn.old }
     ensures asked { IsAsked S.Store conn.old conn.new result }
     ensures tree { IsClean S.Store conn.new
-        → OnOk result (IsTree ((state S.Store conn.old).now.trees T.tree)) }
-    ensures read { IsClean S.Store conn.new → IfOk result (λ values.
-        AreRead T.cells T.fits (shown_in T.tree T.places (state S.Store conn.old).now)
-        values.items) }
-    ensures sorted { IsClean S.Store conn.new
-        → IfOk result (λ values. IsSorted T.order values.items) }
+        → OnOk result (IsTree ((state S.Store conn.old).now.trees claim.tree)) }
+    ensures read { IsClean S.Store conn.new → IfOk result (λ keys.
+        AreOfSome (ClaimsInOrder (state S.Store conn.old).now) keys.items) }
     ensures schema { IsClean S.Store conn.new → result ≡ Err StoreFault.Schema
-        → ¬ AllByRecursion (ShowsSome T.cells T.fits)
-        (shown_in T.tree T.places (state S.Store conn.old).now) }
+        → ¬ AllByRecursion (ShowsSome show_claim (NamedFits ClaimFits))
+        (shown_in claim.tree claim_places (state S.Store conn.old).now) }
 {
-    let mut values: Vec<T> = collect_table(conn, alloc, count_all)?;
-    values.sort_unstable_by(|one, other| one.order(other));
-    Ok(values)
+    let mut keys = collect_claims(conn, alloc)?;
+    keys.sort_unstable_by(|one, other| one.order(other));
+    Ok(keys)
 }
 
 impl InTable for Name {
@@ -542,19 +535,19 @@ fn check_rowids<S: Alter>(conn: &mut Connection<S>) -> Result<(), StoreFault>
     Ok(())
 }
 
-/// Checks that the rows of entries read, and that they make authorizations with these claims, which
-/// are in order. It holds the entries of one claim at a time.
+/// Checks that the rows of entries read, and that they make authorizations with the claims of these
+/// keys, which are in order. It holds the entries of one claim at a time.
 fn join_entries<S: Alter>(
     conn: &mut Connection<S>,
     alloc: Global,
-    claims: Vec<OfHolder<Claim>>,
+    claims: Vec<ClaimKey>,
 ) -> Result<(), StoreFault>
     requires { IsReadyToAsk S.Store conn.old }
     ensures asked { IsAsked S.Store conn.old conn.new result }
-    ensures found { IsClean S.Store conn.new
-        → OnOk result (MakeOfTable claims.items (state S.Store conn.old).now) }
+    ensures found { IsClean S.Store conn.new → OnOk result
+        (AreOfAll (λ all. MakeOfTable all (state S.Store conn.old).now) claims.items) }
     ensures schema { IsClean S.Store conn.new → result ≡ Err StoreFault.Schema
-        → MakeNoneOfTable claims.items (state S.Store conn.old).now }
+        → AreOfAll (λ all. MakeNoneOfTable all (state S.Store conn.old).now) claims.items }
 {
     let start = Joined::start(alloc, claims);
     let joined = take_each(conn, SELECT_ENTRIES_BY_KEY, &[], start)?;
@@ -565,7 +558,7 @@ fn join_entries<S: Alter>(
 }
 
 /// Checks that the rows of claims and of entries read, and that they make authorizations. It holds
-/// the claims, since they are the smaller part, and one row of an entry at a time.
+/// the keys of the claims, since they are the smaller part, and one row of an entry at a time.
 fn collect_auths<S: Alter>(conn: &mut Connection<S>, alloc: Global) -> Result<(), StoreFault>
     requires ready { IsReadyToAsk S.Store conn.old }
     requires unused { IsClean S.Store conn.old
@@ -578,7 +571,7 @@ fn collect_auths<S: Alter>(conn: &mut Connection<S>, alloc: Global) -> Result<()
 {
     // For the proof: its contract says that what is shown obeys the schema.
     let _schema = conn.schema();
-    let claims: Vec<OfHolder<Claim>> = collect_in_order(conn, alloc, COUNT_CLAIMS)?;
+    let claims = collect_in_order(conn, alloc)?;
     check_rowids(conn)?;
     join_entries(conn, alloc, claims)
 }

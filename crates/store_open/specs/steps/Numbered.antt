@@ -10,8 +10,7 @@ use Rattle.sqlite_value.specs.declared.value.Value.TheVariants.{Int}
 use Rattle.sqlite_value.specs.Order.{Row, column, value_cmp}
 use Rattle.sqlite_trees.specs.Tree.{rowid, IsAscending}
 use Rattle.sqlite_trees.specs.View.{is_int}
-use Rattle.sqlite_rules.specs.Lists.{Has}
-use Rattle.store_tables.specs.Decode.{ShowsNone, first_columns}
+use Rattle.store_tables.specs.Decode.{first_columns}
 use Rattle.store_tables.specs.Tables.{OverDesk, contents, columns}
 use Rattle.store_transactions.specs.steps.Statements.{AnswersSelect}
 
@@ -71,13 +70,3 @@ pub record AreTaken {X : Type 0} (cells : X → Row) (fits : X → Type 0) (widt
     pub numbered : EndApart rows last
     pub shown : map (first_columns width) rows ≡ map cells values
     pub fit : AllByRecursion fits values
-
--- each row showed a value, and these are they, or some row showed none
-pub record Collects {X : Type 0} (cells : X → Row) (fits : X → Type 0) (width : ℕ) (rows : List Row) (values : List X) (last : Option ℤ) (is_read : Bool) : Type 0
-  where
-    pub read : is_read ≡ true → AreTaken cells fits width rows values last
-    pub unread : is_read ≡ false → (c : Row) × Has rows c × ShowsNone cells fits (first_columns width c)
-
--- the cells show a value, which comes after the others
-abbrev pub Shows : {X : Type 0} → (X → Row) → (X → Type 0) → Row → List X → List X → Type 0
-Shows {X} cells fits shown before after = (x : X) × fits x × (shown ≡ cells x) × (after ≡ before ++ x ∷ [])

@@ -6,12 +6,8 @@ use Rattle.store_tables.specs.Tables.{entry, IsTree}
 use Rattle.sqlite.specs.Held.{state}
 use Rattle.store_open.specs.steps.Joining.{MakeOfTable, MakeNoneOfTable}
 use Rattle.store_transactions.proofs.QueryLemmas.{refused_by}
-use Rattle.store_open.proofs.AllTexts.{counts_claims}
 use Rattle.store_open.proofs.SomeAuths.{auths_made, claims_apart, claims_in, entries_in}
 use Rattle.store_open.proofs.reading.collect_auths.Goals as goal
-
-pub collect_in_order-requires-clause-plain : goal.collect_in_order-requires-clause-plain
-collect_in_order-requires-clause-plain g c = counts_claims
 
 pub returns-in_err-claims-clause-schema : goal.returns-in_err-claims-clause-schema
 returns-in_err-claims-clause-schema g c clean is read =
@@ -29,15 +25,16 @@ returns-clause-found g c clean =
     let first : HasCleanDisk (state g.S.Store c.args.conn.now) = omega (arith, clean_1, c.collect_in_order.ensures.asked.survives.clean) in
     let now_1 = (c.in_ok-claims.ensures.asked.same clean_1).0.now_is in
     let now_2 = (c.in_ok-check_rowids.ensures.asked.same clean_2).0.now_is ∙ now_1 in
+    let held = c.in_ok-claims.ensures.read clean_1 in
     on_ok_weaker c.join_entries.result (λ joined.
-    let all = subst (MakeOfTable c.in_ok-claims.claims.items) now_2 joined in
+    let all = subst (MakeOfTable held.0) now_2 (joined held.0 held.1) in
     record {
       unused = c.requires.unused first;
       claims_whole = c.in_ok-claims.ensures.tree clean_1;
       entries_whole = subst (λ (d : Database). IsTree (d.trees entry.tree)) now_1 (c.in_ok-check_rowids.ensures.tree clean_2);
-      claims = c.in_ok-claims.claims.items;
+      claims = held.0;
       entries = all.0;
-      claims_read = c.in_ok-claims.ensures.read clean_1;
+      claims_read = held.2.0;
       entries_read = all.1;
       made = all.2;
     }) (c.join_entries.ensures.found clean)
@@ -50,12 +47,10 @@ returns-clause-schema g c clean is read =
     let first : HasCleanDisk old = omega (arith, clean_1, c.collect_in_order.ensures.asked.survives.clean) in
     let one = c.in_ok-claims.ensures.asked.same clean_1 in
     let now_2 = (c.in_ok-check_rowids.ensures.asked.same clean_2).0.now_is ∙ one.0.now_is in
-    let claims = c.in_ok-claims.claims.items in
     let sound = (c.schema-schema.ensures.live one.0.was_open).0 in
     let tables = c.requires.ready.tables first one.0.was_open in
     let whole = c.in_ok-claims.ensures.tree clean_1 in
-    let claims_read = c.in_ok-claims.ensures.read clean_1 in
-    let claims_sorted = c.in_ok-claims.ensures.sorted clean_1 in
-    let none = subst (MakeNoneOfTable claims) now_2 (c.join_entries.ensures.schema clean is) (entries_in old.now read.authorizations) in
-    let apart = claims_apart old.now sound tables whole read.authorizations claims none.0 claims_read claims_sorted none.1 none.2 in
-    none.3 apart (auths_made old.now sound tables whole read.authorizations claims none.0 claims_read claims_sorted none.1 none.2)
+    let held = c.in_ok-claims.ensures.read clean_1 in
+    let none = subst (MakeNoneOfTable held.0) now_2 (c.join_entries.ensures.schema clean is held.0 held.1) (entries_in old.now read.authorizations) in
+    let apart = claims_apart old.now sound tables whole read.authorizations held.0 none.0 held.2.0 held.2.1 none.1 none.2 in
+    none.3 apart (auths_made old.now sound tables whole read.authorizations held.0 none.0 held.2.0 held.2.1 none.1 none.2)

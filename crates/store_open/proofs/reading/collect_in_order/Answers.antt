@@ -1,21 +1,13 @@
 use Rattle.std.proofs.Common.{◌≡◌, ap, is_lt, rules}
 use Rattle.std.proofs.lemmas.Fn.{always_returns_same}
-use Rattle.std.proofs.lemmas.List.Sorted.{All-permutation, IsPermutation-map, IsPermutation-trans, ranks_by}
+use Rattle.std.proofs.lemmas.List.Sorted.{ranks_by}
+use Rattle.sqlite.specs.Held.{state}
+use Rattle.store_open.specs.steps.Keys.{key_cmp}
+use Rattle.store_open.proofs.Keys.{key_total, sorted_claims}
 use Rattle.store_open.proofs.reading.collect_in_order.Goals as goal
 
 pub returns-clause-read : goal.returns-clause-read
 returns-clause-read g c clean =
-    let values = c.in_ok-values.values.items in
-    let sorted = c.sort_unstable_by.new.self.items in
-    let moved = c.sort_unstable_by.ensures.permutation in
-    let read = c.in_ok-values.ensures.read clean in
-    record {
-      fit = All-permutation g.T.FromRow.fits values sorted moved read.fit;
-      same = IsPermutation-trans _ _ _ read.same (IsPermutation-map g.T.FromRow.cells values sorted moved);
-    }
-
-pub returns-clause-sorted : goal.returns-clause-sorted
-returns-clause-sorted g c clean =
-    let order = g.T.InOrder.order in
-    c.sort_unstable_by.ensures.sorted (λ x y. is_lt (order x y)) (ranks_by g.T.InOrder.total (λ x. x))
-    (always_returns_same _ (λ a r. is_lt r ≡ is_lt (order a.0.now a.1.0.now)) _ (λ a r f k. (ap is_lt (search rules), search rules)))
+    sorted_claims (state g.S.Store c.args.conn.now).now c.in_ok-keys.keys.items c.sort_unstable_by.new.self.items (c.in_ok-keys.ensures.read clean) c.sort_unstable_by.ensures.permutation
+    (c.sort_unstable_by.ensures.sorted (λ x y. is_lt (key_cmp x y)) (ranks_by key_total (λ x. x))
+    (always_returns_same _ (λ a r. is_lt r ≡ is_lt (key_cmp a.0.now a.1.0.now)) _ (λ a r f k. (ap is_lt {y = key_cmp a.0.now a.1.0.now} (search rules), search rules))))

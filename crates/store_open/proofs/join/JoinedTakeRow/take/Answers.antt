@@ -1,38 +1,41 @@
-use Rattle.std.proofs.Common.{◌≡◌, true, List, [], ◌∷◌, ◌++◌, drop, Result, Ok, Err, IfOk, sym, ap, subst, ◌∙◌}
+use Rattle.std.proofs.Common.{◌≡◌, true, List, [], ◌∷◌, ◌++◌, drop, Result, Ok, Err, IfOk, sym, ap, ◌∙◌}
 use Rattle.std.proofs.lemmas.Bool.{not-true, not-false}
 use Rattle.std.specs.Global.{Vec}
 use Rattle.sqlite_value.specs.Order.{Row}
-use Rattle.store_tables.specs.declared.claim.Claim.{Claim}
 use Rattle.store_tables.specs.declared.entry.EntryRow.{EntryRow}
 use Rattle.store_tables.specs.declared.groups.OfHolder.{OfHolder}
 use Rattle.store_tables.specs.Cells.{entry_cells, named_cells}
 use Rattle.store_tables.specs.Decode.{EntryRowFits, NamedFits, first_columns}
 use Rattle.store_transactions.specs.declared.fault.StoreFault.{StoreFault}
 use Rattle.store_open.specs.declared.join.Joined.{Joined}
+use Rattle.store_open.specs.declared.key.ClaimKey.{ClaimKey}
 use Rattle.store_open.specs.steps.Joining.{JoinsRows, WalkStands, WalkGoesOn}
+use Rattle.store_open.specs.steps.Keys.{AreOfAll}
 use Rattle.store_open.proofs.Joining.{joins_no_more, joins_on, joins_unread}
 use Rattle.store_open.proofs.join.JoinedTakeRow.take.Goals as goal
 
 abbrev Took : Joined → List Row → Joined → Type 0
-Took start rows now = (now.claims ≡ start.claims) × JoinsRows start.claims.items rows now.passed now.found.items now.fits
+Took start rows now = (now.claims ≡ start.claims) × AreOfAll (λ all. JoinsRows all rows now.passed now.found.items now.fits) start.claims.items
 
 module _ (old : Joined) (row : Row) (so_far : old.fits ≡ true) (x : OfHolder EntryRow) (fit : NamedFits EntryRowFits x) (shown : first_columns 7 row ≡ named_cells entry_cells x) where
   one_more : (r : Result Joined StoreFault) → IfOk r (λ now. now.claims ≡ old.claims)
-      → IfOk r (λ now. (entries : List (OfHolder EntryRow)) → WalkStands old.claims.items entries (drop old.passed old.claims.items) old.found.items → WalkGoesOn old.claims.items (entries ++ x ∷ []) now.passed now.found.items now.fits)
+      → IfOk r (λ now. AreOfAll (λ all. (entries : List (OfHolder EntryRow)) → WalkStands all entries (drop old.passed all) old.found.items → WalkGoesOn all (entries ++ x ∷ []) now.passed now.found.items now.fits) old.claims.items)
       → IfOk r (λ now. (start : Joined) (rows : List Row) → Took start rows old → Took start (rows ++ row ∷ []) now)
-  one_more (Ok now) same walks = λ start rows was.
-      let own : old.claims.items ≡ start.claims.items = ap (λ (v : Vec (OfHolder Claim)). v.items) was.0 in (
-        same ∙ was.0,
-        joins_on start.claims.items rows old.passed old.found.items old.fits was.1 row so_far x fit shown now.passed now.found.items now.fits
-            (λ entries stands. subst (λ l. WalkGoesOn l (entries ++ x ∷ []) now.passed now.found.items now.fits) own (walks entries (subst (λ l. WalkStands l entries (drop old.passed l) old.found.items) (sym own) stands))),
-      )
+  one_more (Ok now) same walks = λ start rows was. (
+    same ∙ was.0,
+    λ all keyed.
+        let own = keyed ∙ sym (ap (λ (v : Vec ClaimKey). v.items) was.0) in
+        joins_on all rows old.passed old.found.items old.fits (was.1 all keyed) row so_far x fit shown now.passed now.found.items now.fits (walks all own),
+  )
   one_more (Err e) same walks = tt
 
 pub returns-then-not-self-clause-took : goal.returns-then-not-self-clause-took
-returns-then-not-self-clause-took c = λ start rows was. let a = c.args.self in (was.0, joins_no_more start.claims.items rows a.passed a.found.items a.fits was.1 c.args.row.now (not-true _ c.if-not-self.true))
+returns-then-not-self-clause-took c = λ start rows was.
+    let a = c.args.self in (was.0, λ all keyed. joins_no_more all rows a.passed a.found.items a.fits (was.1 all keyed) c.args.row.now (not-true _ c.if-not-self.true))
 
 pub returns-in_default-clause-took : goal.returns-in_default-clause-took
-returns-in_default-clause-took c = λ start rows was. let a = c.args.self in (was.0, joins_unread start.claims.items rows a.passed a.found.items a.fits was.1 c.args.row.now _ _ c.in_default.ensures)
+returns-in_default-clause-took c = λ start rows was.
+    let a = c.args.self in (was.0, λ all keyed. joins_unread all rows a.passed a.found.items a.fits (was.1 all keyed) c.args.row.now _ _ c.in_default.ensures)
 
 pub returns-clause-took : goal.returns-clause-took
 returns-clause-took c = one_more c.args.self c.args.row.now (not-false _ c.if-not-self.false) _ c.in-Some.ensures.0 c.in-Some.ensures.1 c.pass.result c.pass.ensures.claims c.pass.ensures.walks
