@@ -3,7 +3,7 @@
 use Rattle.requests.proofs.Vocabulary.{◌≡◌, ℕ, suc, nat_le, ◌≤◌, Bool, true, false, not, ◌||◌, List, [], ◌∷◌, ◌++◌, map, length, Option, Some, None, option_and_then, Result, Ok, Err, Ordering, refl, sym, ap, ◌∙◌, leb-true, IsPermutation, Equal, IsTotalOrder, AllZip, flat_map, list_any, option_to_list, has_repeat, Data, Items, as_array, Pass, lowest-append, lowest-passes, pass-append, pass-flat_map, pass-unless, reported-if, lower-first, reads-each, reads-says, reads-unless, lowest-none, fault_unless, lower_of, lowest, required_faults, and_then, list_of, fault_order, is_count, list_faults, repeat_faults, values_in, HasMember, Fault, Count, Members, arranged, items_of, once_in_order}
 use Rattle.std.specs.List.Sorted.{IsStrictlySortedBy}
 use Rattle.requests.proofs.InOrder.{in_order-moves, in_order-rises}
-use Rattle.requests.proofs.RequestFaultLemmas.{ReadsUnlessFaulty}
+use Rattle.requests.proofs.RequestFaultLemmas.{ReadsUnlessFaulty, reads-fault}
 
 -- not after this fault in the order of faults
 abbrev pub is_up_to : Fault → Fault → Bool
@@ -76,7 +76,7 @@ module _ {A B : Type 0} (reading : Data → Result A Fault) (faults : Data → L
 
     reads-once : (xs : List A) → AllZip Says (list_of items) xs → (b : Bool) → has_repeat alike xs ≡ b
         → ReadsUnlessFaulty (once_in_order b repeated order xs) (fault_unless (not b) repeated) Arranges
-    reads-once xs says true is = record { reported = record { is = refl }; value = tt }
+    reads-once xs says true is = reads-fault
     reads-once xs says false is =
         record { reported = record { is = refl }; value = (xs, says, in_order-moves order total xs, in_order-rises order total alike tied xs is) }
 
@@ -114,7 +114,7 @@ module _ {A B : Type 0} (reading : Data → Result A Fault) (faults : Data → L
   reads-items_arranged : (found : Option Items) →
       ReadsUnlessFaulty (and_then arrange (items_of reading least most found))
       (list_faults faults least most found ++ repeat_faults same value_of name repeated found) (HasArranged found)
-  reads-items_arranged None = record { reported = record { is = refl }; value = tt }
+  reads-items_arranged None = reads-fault
   reads-items_arranged (Some items) =
       reads-says (λ xs says. (says.0, (items, refl, says.1), says.2, says.3))
       (reads-arranged items (items_of reading least most (Some items))
@@ -126,5 +126,5 @@ module _ {A B : Type 0} (reading : Data → Result A Fault) (faults : Data → L
       ReadsUnlessFaulty (and_then arrange (items_of reading least most (option_and_then as_array member)))
       (required_faults Members (λ value. list_faults faults least most (as_array value) ++ repeat_faults same value_of name repeated (as_array value)) member)
       (HasArranged (option_and_then as_array member))
-  reads-arranged_list None = record { reported = record { is = refl }; value = tt }
+  reads-arranged_list None = reads-fault
   reads-arranged_list (Some value) = reads-items_arranged (as_array value)

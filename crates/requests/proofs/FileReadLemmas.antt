@@ -1,21 +1,21 @@
 -- What the code reads of the files of a set: the set where there is no fault, and else the lowest fault.
-use Rattle.requests.proofs.Vocabulary.{◌≡◌, ◌⊎◌, true, [], ◌∷◌, map, codes, Option, Some, None, inl, inr, refl, option_to_list, bytes_eq, Data, get, Pass, pass-append, pass-required, pass-unless, reported-only, reads-both, reads-last, reads-mapped, reads-says, reads-unless, reading_faults, required_faults, as_name, slurm_fault, SlurmFault, MOST_FILES, choice_faults, fault_order, file, file_choice, file_list, file_members, has_some, member_faults, names_of, object_faults, HasFile, HasFileList, HasMainFile, File, FileName, Members, file_list_in, file_members_in, files_in, named_file_in, name_cmp}
+use Rattle.requests.proofs.Vocabulary.{◌≡◌, ◌⊎◌, true, [], ◌∷◌, map, codes, Option, Some, None, refl, option_to_list, bytes_eq, Data, get, Pass, pass-append, pass-required, pass-unless, reads-both, reads-last, reads-mapped, reads-says, reading_faults, required_faults, as_name, slurm_fault, SlurmFault, MOST_FILES, choice_faults, file, file_choice, file_list, file_members, has_some, member_faults, names_of, object_faults, HasFile, HasFileList, HasMainFile, File, FileName, Members, file_list_in, file_members_in, files_in, named_file_in, name_cmp}
 use Rattle.slurm.specs.declared.fault.SlurmFault.TheVariants.{NotJson, NotObject, Members as FileMembers, Version, Bgpsec, Prefix, Asn, MaxPrefixLength, EmptyFilter, Comment, TooMany, Memory}
 use Rattle.requests.proofs.ArrangedReadLemmas.{is_up_to, reads-arranged_list}
 use Rattle.requests.proofs.EntryReadLemmas.{reads-chosen}
 use Rattle.requests.proofs.FileOrder.{name_total, tied-named}
-use Rattle.requests.proofs.RequestFaultLemmas.{ReadsUnlessFaulty, reads-member}
+use Rattle.requests.proofs.RequestFaultLemmas.{ReadsUnlessFaulty, reads-member, reads-with_only}
 use Rattle.requests.proofs.SlurmReadLemmas.{reads-file, reads-main_file}
 
 -- ---- one file and its name
 
 reads-file_members : (d : Data) → ReadsUnlessFaulty (file_members_in d) (member_faults file_members d) (HasFile d)
 reads-file_members d =
-    reads-mapped (λ p. record { name = p.0; file = p.1 }) (λ p says. (says.0, says.1))
+    reads-mapped _ (λ p says. says)
     (reads-both (reads-member as_name FileName (codes "name") d) (reads-last (reads-file d)))
 
 reads-named_file : (d : Data) → ReadsUnlessFaulty (named_file_in d) (object_faults file_members d) (HasFile d)
-reads-named_file d = reads-unless (reads-file_members d) (reported-only fault_order Members (names_of file_members) d)
+reads-named_file d = reads-with_only (names_of file_members) d (reads-file_members d)
 
 -- ---- a list of files
 
@@ -57,5 +57,4 @@ reads-file_list d =
 pub reads-files : (d : Data) → ReadsUnlessFaulty (files_in d) (choice_faults file_choice d)
     (λ files. HasMainFile (get (codes "file") d) files ⊎ HasFileList (get (codes "files") d) files)
 reads-files d =
-    reads-chosen (has_some (codes "file" ∷ []) d) (has_some (codes "files" ∷ []) d) (reads-last (reads-says (λ files says. inl says) (reads-main_file d)))
-    (reads-last (reads-says (λ files says. inr says) (reads-file_list d)))
+    reads-chosen (has_some (codes "file" ∷ []) d) (has_some (codes "files" ∷ []) d) (reads-last (reads-main_file d)) (reads-last (reads-file_list d))

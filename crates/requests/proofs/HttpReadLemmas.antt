@@ -1,5 +1,5 @@
 -- What the code reads of an HTTP message is the request that the message is, and its fault the lowest.
-use Rattle.requests.proofs.Vocabulary.{◌≡◌, ℕ, List, [], ◌∷◌, ◌++◌, map, Option, Some, None, is_some, Result, Ok, Err, codes, inl, refl, sym, ap, ◌∙◌, append_assoc, arith, same_Some, Vec, flat_map, option_to_list, IfOk, result_err, result_map_both, Data, null, ImportRow, reported-only, fault_unless, lower_of, lowest, name_faults, required_faults, mapped, tree_of, Asked, Head, Action, body_bytes, body_faults, head_caller, fault_of_import, http_fault, http_faults, sent_import_faults, json_tree, object_body_faults, path_faults, parsed_body_faults, as_malformed, body_members, body_names, choices_of, sent_file_faults, file_list, fault_order, named_by, members_and_choices_faults, Subject, Fault, Json, Members, Holder, Caller, Number, File, asked_of, import_body, import_rows, object_body, path_subject, request_by, tree_request, AskedTerms, RequestTerms, asked_terms, file_list_in, import, main_file_of, request_in, slurm_request, lowest-none, reads-both, reads-last, reads-mapped, reads-ok_or, reads-says, reads-unless, get, HasFileList}
+use Rattle.requests.proofs.Vocabulary.{◌≡◌, ℕ, List, [], ◌∷◌, ◌++◌, map, Option, Some, None, is_some, Result, Ok, Err, codes, inl, refl, sym, ap, ◌∙◌, append_assoc, arith, same_Some, Vec, flat_map, option_to_list, IfOk, result_err, result_map_both, Data, null, ImportRow, fault_unless, lower_of, lowest, name_faults, required_faults, mapped, tree_of, Asked, Head, Action, body_bytes, body_faults, head_caller, fault_of_import, http_fault, http_faults, sent_import_faults, json_tree, object_body_faults, path_faults, parsed_body_faults, as_malformed, body_members, body_names, choices_of, sent_file_faults, file_list, fault_order, named_by, members_and_choices_faults, Fault, Json, Members, Holder, Caller, Number, File, asked_of, import_body, import_rows, object_body, path_subject, request_by, tree_request, AskedTerms, RequestTerms, asked_terms, file_list_in, main_file_of, request_in, slurm_request, lowest-none, reads-both, reads-last, reads-mapped, reads-ok_or, reads-says, get, HasFileList}
 use Rattle.std.proofs.lemmas.Bool.Decides.{nat_tests}
 use Rattle.addr.specs.Name.{name_in}
 use Rattle.json_values.specs.Parts.{lower}
@@ -10,7 +10,7 @@ use Rattle.csv_records.specs.steps.Importing.{import_in}
 use Rattle.requests.specs.declared.action.Action.TheVariants.{Import, Slurm, Slurms}
 use Rattle.requests.specs.HttpRequests.{body_tree, files_brought, http_heading, SaysAsked}
 use Rattle.requests.proofs.FileReadLemmas.{reads-file_list}
-use Rattle.requests.proofs.RequestFaultLemmas.{ReadsUnlessFaulty}
+use Rattle.requests.proofs.RequestFaultLemmas.{ReadsUnlessFaulty, reads-fault, reads-with_only}
 use Rattle.requests.proofs.RequestReadLemmas.{SaysTerms, reads-request, terms-said}
 use Rattle.requests.proofs.SlurmReadLemmas.{reads-main_file_of}
 
@@ -90,7 +90,7 @@ module _ (head : Head) (body : Option (List ℕ)) where
     reads-tree (Some d) =
         reads-says (λ terms says. (d, refl, says))
         (rw (← append_assoc in_path (members_and_choices_faults (body_members action) (choices_of action) d) (name_faults Members (body_names action) d))
-        (reads-unless (reads-members d) (reported-only fault_order Members (body_names action) d)))
+        (reads-with_only (body_names action) d (reads-members d)))
 
     reads-object : (bytes : Option (List ℕ))
         → ReadsUnlessFaulty (object_body action (path_subject head) bytes) (in_path ++ object_body_faults action bytes)
@@ -101,14 +101,14 @@ module _ (head : Head) (body : Option (List ℕ)) where
   -- a body that is a file
   reads-slurm : head.action ≡ Slurm → (found : Option Data)
       → ReadsUnlessFaulty (slurm_request (main_file_of found)) (sent_file_faults found) (SaysTree found)
-  reads-slurm does None = record { reported = record { is = refl }; value = tt }
+  reads-slurm does None = reads-fault
   reads-slurm does (Some d) = reads-mapped _ (λ p says. (d, refl, inl (ap Some does, says))) (reads-main_file_of (Some d))
 
   -- a body that is an import
   reads-import : head.action ≡ Import → ReadsUnlessFaulty (import_body (path_subject head) body)
       (flat_map (path_faults head) (named_by Import) ++ sent_import_faults (body_bytes body)) (SaysTree (Some null))
   reads-import does =
-      reads-mapped (λ p. import p.0 p.1) (λ p says. (null, refl, (ap Some does, says.0, says.1)))
+      reads-mapped _ (λ p (holder, rows). (null, refl, (ap Some does, holder, rows)))
       (reads-both (reads-last (reads-ok_or (name_in head.holder) Holder)) (reads-text (body_bytes body)))
 
   reads-body : (action : Action) → head.action ≡ action
@@ -121,12 +121,12 @@ module _ (head : Head) (body : Option (List ℕ)) where
   -- what is asked on the day, whatever the faults are
   abbrev AsksTerms : ℕ → AskedTerms → Type 0
   AsksTerms day asked =
-      (asked.0 ≡ day) × (head_caller head ≡ Some asked.1.0) × SaysTree (body_tree head.action body) asked.1.1
+      (asked.day ≡ day) × (head_caller head ≡ Some asked.caller) × SaysTree (body_tree head.action body) asked.terms
 
   reads-http : (day : ℕ) → ReadsUnlessFaulty (asked_of day head body) (http_faults head body) (AsksTerms day)
   reads-http day =
       rw (append_assoc (fault_unless (is_some (head_caller head)) Caller) (flat_map (path_faults head) (named_by head.action)) (body_faults head.action body))
-      (reads-says (λ asked says. (says.0, says.1.0, says.1.1))
+      (reads-mapped _ (λ p (day, (caller, terms)). (day, caller, terms))
       (reads-both (reads-day day) (reads-both (reads-ok_or (head_caller head) Caller) (reads-body head.action refl))))
 
   -- what was read of a message is what the message says

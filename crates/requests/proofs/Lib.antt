@@ -1,5 +1,4 @@
 pub mod ArrangedReadLemmas
-pub mod AskedLemmas
 pub mod EntryOrder
 pub mod EntryReadLemmas
 pub mod FileOrder
@@ -7,6 +6,7 @@ pub mod FileReadLemmas
 pub mod HeadLemmas
 pub mod HttpReadLemmas
 pub mod InOrder
+pub mod PartsLemmas
 pub mod PathEquality
 pub mod PathLemmas
 pub mod RequestFaultLemmas

@@ -1,6 +1,6 @@
 -- What the code reads of the members of a request: a value where they have no fault, and else the lowest of their
 -- faults.
-use Rattle.requests.proofs.Vocabulary.{◌≡◌, ℕ, length, List, Option, Some, None, option_and_then, Result, refl, AllZip, IfOk, ok_or, Data, Items, get, as_array, reported-if, reported-ok_or, reported-required, Reads, reads-each, reads-says, reads-unless, value-ok_or, reading_faults, required_faults, list_of, required, is_count, list_faults, fault_order, HasItems, HasMember, Fault, Count, Members, items_of, member_in}
+use Rattle.requests.proofs.Vocabulary.{◌≡◌, ℕ, [], ◌∷◌, ◌++◌, length, List, Option, Some, None, option_and_then, Result, Err, refl, AllZip, IfOk, ok_or, Data, Items, get, as_array, name_faults, reported-if, reported-ok_or, reported-only, reported-required, Reads, reads-each, reads-says, reads-unless, value-ok_or, reading_faults, required_faults, list_of, required, is_count, list_faults, fault_order, HasItems, HasMember, Fault, Count, Members, items_of, member_in, with_only}
 
 abbrev pub ReadsUnlessFaulty : {A : Type 0} → Result A Fault → List Fault → (A → Type 0) → Type 0
 ReadsUnlessFaulty = Reads fault_order
@@ -24,12 +24,20 @@ reads-member reading n name d = record {
   value = found-reads reading n (get name d);
 }
 
+pub reads-fault : {A : Type 0} {fault : Fault} {Says : A → Type 0} → ReadsUnlessFaulty (Err fault) (fault ∷ []) Says
+reads-fault = record { reported = record { is = refl }; value = tt }
+
+-- an object that has members of these names alone
+pub reads-with_only : {A : Type 0} {value : Result A Fault} {faults : List Fault} {Says : A → Type 0} (names : List (List ℕ)) (d : Data) →
+    ReadsUnlessFaulty value faults Says → ReadsUnlessFaulty (with_only names d value) (faults ++ name_faults Members names d) Says
+reads-with_only names d read = reads-unless read (reported-only fault_order Members names d)
+
 module _ {A : Type 0} (reading : Data → Result A Fault) (faults : Data → List Fault) (Says : Data → A → Type 0)
     (least most : ℕ) (reads : (d : Data) → ReadsUnlessFaulty (reading d) (faults d) (Says d)) where
   reads-items : (found : Option Items) →
       ReadsUnlessFaulty (items_of reading least most found) (list_faults faults least most found)
       (λ values. (items : Items) × (found ≡ Some items) × AllZip Says (list_of items) values)
-  reads-items None = record { reported = record { is = refl }; value = tt }
+  reads-items None = reads-fault
   reads-items (Some items) =
       reads-unless (reads-says (λ values each. (items, refl, each)) (reads-each reading faults Says (list_of items) reads))
       (reported-if fault_order (is_count least most (length (list_of items))) tt Count)
@@ -37,5 +45,5 @@ module _ {A : Type 0} (reading : Data → Result A Fault) (faults : Data → Lis
   -- the items of a member
   pub reads-list : (member : Option Data) → ReadsUnlessFaulty (items_of reading least most (option_and_then as_array member))
       (required_faults Members (λ value. list_faults faults least most (as_array value)) member) (HasItems Says member)
-  reads-list None = record { reported = record { is = refl }; value = tt }
+  reads-list None = reads-fault
   reads-list (Some value) = reads-items (as_array value)

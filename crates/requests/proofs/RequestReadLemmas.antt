@@ -1,14 +1,13 @@
 -- What the code reads of a line is the request that the line is, and its fault the lowest.
-use Rattle.requests.proofs.Vocabulary.{◌≡◌, ◌⊎◌, ℕ, Bool, true, false, if◌then◌else◌, nat_lt, List, [], ◌∷◌, ◌++◌, map, length, codes, Option, Some, None, option_and_then, Ok, Err, refl, sym, ap, ◌∙◌, append_assoc, inl, inr, flat_map, Amend, Import, Validity, Data, get, as_str, NamedSlurm, reported-only, required_faults, both, mapped, tree_of, Asked, Request, as_malformed, fault_order, role_at, terms_members, row_members, entry_members, creation_members, withdrawal_members, route_members, names_of, part_names, members_and_choices_faults, choice_faults, choices_of, entry_choice, line_names, object_faults, change_faults, rows, changes, routes, file_choice, file_list, action_in, action_of, body_members, member_faults, named_by, named_member, Named, HolderName, NumberGiven, Kind, any_value, caller_name, day, members_of, action_faults, tree_faults, request_faults, request_fault, HasName, HasDay, HasGrantTerms, HasFileList, HasMainFile, HasMaxes, HasMember, HasRow, HasTerms, SaysChange, SaysRoute, HasItems, HasRoutes, Heading, Does, NamesHolder, NamesNumber, SaysRequest, line_heading, ReadsLine, SaysRows, as_name, as_prefix, as_day, as_asn, as_origin, as_number, as_role, as_scope, Action, Fault, Subject, Members, Holder, Caller, Day, Role, Number, TooLong, RequestTerms, request, amend, import, validity, what_if, AskedTerms, request_terms, asked_terms, grant_terms_in, asn_and_days_in, terms_of, terms_in, row_of_members, row_in, change_by, change_in, route_in, row_list_in, changes_in, routes_in, file_list_in, files_in, request_in, line_subject, asked_as, asked_by, asked_from, asked_in, reads-both, reads-mapped, reads-unless, reads-last, reads-says, lowest-none}
+use Rattle.requests.proofs.Vocabulary.{◌≡◌, ◌⊎◌, ℕ, Bool, true, false, if◌then◌else◌, nat_lt, List, [], ◌∷◌, ◌++◌, map, length, codes, Option, Some, None, option_and_then, Ok, Err, refl, sym, ap, ◌∙◌, append_assoc, inl, inr, flat_map, Amend, Import, Validity, Data, get, as_str, NamedSlurm, required_faults, both, mapped, tree_of, Asked, Request, as_malformed, fault_order, role_at, terms_members, row_members, entry_members, creation_members, withdrawal_members, route_members, names_of, part_names, members_and_choices_faults, choice_faults, choices_of, entry_choice, line_names, object_faults, change_faults, rows, changes, routes, file_choice, file_list, action_in, action_of, body_members, member_faults, named_by, named_member, Named, HolderName, NumberGiven, Kind, any_value, caller_name, day, members_of, action_faults, tree_faults, request_faults, request_fault, HasName, HasDay, HasGrantTerms, HasFileList, HasMainFile, HasMaxes, HasMember, HasRow, HasTerms, SaysChange, SaysRoute, HasItems, HasRoutes, Heading, Does, NamesHolder, NamesNumber, SaysRequest, line_heading, ReadsLine, SaysRows, as_name, as_prefix, as_day, as_asn, as_origin, as_number, as_role, as_scope, Action, Fault, AsnAndDays, Subject, Members, Holder, Caller, Day, Role, Number, TooLong, RequestTerms, request, amend, import, validity, what_if, AskedTerms, request_terms, asked_terms, grant_terms_in, asn_and_days_in, terms_in, row_in, change_by, change_in, route_in, row_list_in, changes_in, routes_in, file_list_in, files_in, request_in, line_subject, asked_as, asked_by, asked_from, asked_in, reads-both, reads-mapped, reads-last, lowest-none}
 use Rattle.std.proofs.lemmas.Grind.{flat_map-append}
-use Rattle.addr.specs.declared.asn.Asn.{Asn as AsnValue}
 use Rattle.registry.specs.declared.command.Proposed.TheVariants.{Create as CreateChange, Withdraw as WithdrawChange}
 use Rattle.registry.specs.declared.asked.Request.TheVariants.{Command as CommandRequest, Query as QueryRequest}
 use Rattle.requests.specs.declared.request.TheConstants.{LINE_LENGTH_LIMIT}
 use Rattle.requests.specs.declared.action.Action.TheVariants.{Register as AskRegister, Delegate as AskDelegate, Transfer as AskTransfer, Reclaim as AskReclaim, Grant as AskGrant, Revoke as AskRevoke, Create as AskCreate, Amend as AskAmend, Withdraw as AskWithdraw, Slurm as AskSlurm, Slurms as AskSlurms, Show as AskShow, Content as AskContent, List as AskList, Export as AskExport, Import as AskImport, WhatIf as AskWhatIf, Payloads as AskPayloads, Validity as AskValidity}
 use Rattle.requests.specs.declared.request.lists.TheConstants.{MOST_ITEMS, MOST_CHANGES}
 use Rattle.requests.specs.declared.request.fault.Fault.TheVariants.{Prefix as PrefixFault, Asn}
-use Rattle.requests.proofs.RequestFaultLemmas.{ReadsUnlessFaulty, ReadsMember, reads-list, reads-member}
+use Rattle.requests.proofs.RequestFaultLemmas.{ReadsMember, ReadsUnlessFaulty, reads-fault, reads-list, reads-member, reads-with_only}
 use Rattle.requests.proofs.EntryReadLemmas.{reads-entries, reads-entry_members, reads-maxes}
 use Rattle.requests.proofs.FileReadLemmas.{reads-file_list, reads-files}
 
@@ -36,23 +35,23 @@ do-faultless d action (Some value) does = refl
 -- ---- rows, changes and routes
 
 -- the AS number, the first and the last day
-abbrev SaysAsnAndDays : Data → AsnValue × (ℕ × ℕ) → Type 0
-SaysAsnAndDays d p =
-    HasMember as_asn (codes "asn") d p.0 × (HasDay (codes "from") d p.1.0 × HasDay (codes "until") d p.1.1)
+abbrev SaysAsnAndDays : Data → AsnAndDays → Type 0
+SaysAsnAndDays d said =
+    HasMember as_asn (codes "asn") d said.asn × HasDay (codes "from") d said.from × HasDay (codes "until") d said.until
 
 reads-asn_and_days : (d : Data) → ReadsUnlessFaulty (asn_and_days_in d) (member_faults terms_members d) (SaysAsnAndDays d)
 reads-asn_and_days d =
-    reads-both (reads-member as_asn Asn (codes "asn") d)
-    (reads-both (reads-member as_day Day (codes "from") d) (reads-last (until d)))
+    reads-mapped _ (λ p (asn, (from, last)). (asn, from, last))
+    (reads-both (reads-member as_asn Asn (codes "asn") d) (reads-both (reads-member as_day Day (codes "from") d) (reads-last (until d))))
 
 reads-terms : (d : Data) → ReadsUnlessFaulty (terms_in d) (members_and_choices_faults terms_members (entry_choice ∷ []) d) (HasTerms d)
 reads-terms d =
-    reads-mapped terms_of (λ p says. (says.0.0, says.1, says.0.1.0, says.0.1.1))
+    reads-mapped _ (λ p ((asn, from, last), entries). (asn, entries, from, last))
     (reads-both (reads-asn_and_days d) (reads-last (reads-entries d)))
 
 reads-grant_terms : (d : Data) → ReadsUnlessFaulty (grant_terms_in d) (member_faults (body_members AskGrant) d) (HasGrantTerms d)
 reads-grant_terms d =
-    reads-mapped _ (λ p says. (says.0, says.1.0, says.1.1.0, says.1.1.1))
+    reads-mapped _ (λ p (to, (role, (scope, last))). (to, role, scope, last))
     (reads-both (reads-member as_name Caller (codes "name") d)
     (reads-both (reads-member as_role Role (codes "role") d)
     (reads-both (reads-member (as_scope (role_at d)) Role (codes "scope") d) (reads-last (until d)))))
@@ -64,29 +63,27 @@ row-split d = flat_map-append (λ m. required_faults Members (m.1 d) (get m.0 d)
 reads-row : (d : Data) → ReadsUnlessFaulty (row_in d) (object_faults row_members d) (HasRow d)
 reads-row d =
     rw (row-split d)
-    (reads-unless
-    (reads-mapped row_of_members (λ p says. (says.0.0, says.1.0, says.1.1, says.0.1.0, says.0.1.1))
-    (reads-both (reads-asn_and_days d) (reads-entry_members d)))
-    (reported-only fault_order Members (names_of row_members) d))
+    (reads-with_only (names_of row_members) d
+    (reads-mapped _ (λ p ((asn, from, last), (prefix, max)). (asn, prefix, max, from, last))
+    (reads-both (reads-asn_and_days d) (reads-entry_members d))))
 
 reads-change : (action : Option Action) (d : Data) → action_in d ≡ action →
     ReadsUnlessFaulty (change_by action d) (change_faults action d) (SaysChange d)
 reads-change (Some AskCreate) d does =
     rw (do-faultless d AskCreate (get (codes "do") d) does)
     (reads-mapped CreateChange (λ terms says. (does, says))
-    (reads-unless (reads-terms d) (reported-only fault_order Members (part_names creation_members (entry_choice ∷ [])) d)))
+    (reads-with_only (part_names creation_members (entry_choice ∷ [])) d (reads-terms d)))
 reads-change (Some AskWithdraw) d does =
     rw (do-faultless d AskWithdraw (get (codes "do") d) does)
     (reads-mapped WithdrawChange (λ n says. (does, says))
-    (reads-unless (reads-last (number d)) (reported-only fault_order Members (names_of withdrawal_members) d)))
-reads-change other d does = record { reported = record { is = refl }; value = tt }
+    (reads-with_only (names_of withdrawal_members) d (reads-last (number d))))
+reads-change other d does = reads-fault
 
 reads-route : (d : Data) → ReadsUnlessFaulty (route_in d) (object_faults route_members d) (SaysRoute d)
 reads-route d =
-    reads-unless
-    (reads-mapped (λ p. record { prefix = p.0; origin = p.1 }) (λ p read. (read.0, read.1))
+    reads-with_only (names_of route_members) d
+    (reads-mapped _ (λ p says. says)
     (reads-both (prefix d) (reads-last (reads-member as_origin Asn (codes "origin") d))))
-    (reported-only fault_order Members (names_of route_members) d)
 
 pub reads-rows : (d : Data) → ReadsUnlessFaulty (row_list_in d) (required_faults Members (rows d) (get (codes "rows") d))
     (HasItems HasRow (get (codes "rows") d))
@@ -153,55 +150,44 @@ module _ (h : Heading) (subject : Subject) (named : Named → List Fault)
 
   pub reads-request : (action : Action) (d : Data) → Does action h → ReadsFiles d → ReadsFileList d → ReadsRows d →
       ReadsUnlessFaulty (request_in action subject d) (said_faults named action d) (SaysTerms h d)
-  reads-request AskRegister d does files_brought list_brought rows_brought = reads-mapped _ (λ p says. (does, says)) (reads-last (reads-last holder))
-  reads-request AskDelegate d does files_brought list_brought rows_brought =
-      reads-mapped _ (λ p says. (does, says.0, says.1))
-      (reads-both (reads-last holder) (reads-last (reads-last (prefix d))))
-  reads-request AskTransfer d does files_brought list_brought rows_brought =
-      reads-mapped _ (λ p says. (does, says.0, says.1.0, says.1.1))
+  reads-request AskRegister d does _ _ _ = reads-mapped _ (λ p says. (does, says)) (reads-last (reads-last holder))
+  reads-request AskDelegate d does _ _ _ =
+      reads-mapped _ (λ p (holder, prefix). (does, holder, prefix)) (reads-both (reads-last holder) (reads-last (reads-last (prefix d))))
+  reads-request AskTransfer d does _ _ _ =
+      reads-mapped _ (λ p (prefix, (giver, taker)). (does, prefix, giver, taker))
       (reads-last (reads-both (prefix d) (reads-both (reads-member as_name Holder (codes "giver") d)
       (reads-last (reads-member as_name Holder (codes "taker") d)))))
-  reads-request AskReclaim d does files_brought list_brought rows_brought =
-      reads-mapped _ (λ p says. (does, says.0, says.1))
-      (reads-both (reads-last holder) (reads-last (reads-last (prefix d))))
-  reads-request AskGrant d does files_brought list_brought rows_brought =
-      reads-mapped _ (λ p says. (does, says.0, says.1)) (reads-both (reads-last holder) (reads-last (reads-grant_terms d)))
-  reads-request AskRevoke d does files_brought list_brought rows_brought =
-      reads-mapped _ (λ p says. (does, says.0, says.1)) (reads-last holder_and_number)
-  reads-request AskCreate d does files_brought list_brought rows_brought =
-      reads-mapped _ (λ p says. (does, says.0, says.1)) (reads-both (reads-last holder) (reads-terms d))
-  reads-request AskAmend d does files_brought list_brought rows_brought =
-      reads-mapped _ (λ p says. (does, says.0.0, says.0.1, says.1.1, says.1.0))
+  reads-request AskReclaim d does _ _ _ =
+      reads-mapped _ (λ p (holder, prefix). (does, holder, prefix)) (reads-both (reads-last holder) (reads-last (reads-last (prefix d))))
+  reads-request AskGrant d does _ _ _ =
+      reads-mapped _ (λ p (holder, terms). (does, holder, terms)) (reads-both (reads-last holder) (reads-last (reads-grant_terms d)))
+  reads-request AskRevoke d does _ _ _ = reads-mapped _ (λ p (holder, number). (does, holder, number)) (reads-last holder_and_number)
+  reads-request AskCreate d does _ _ _ = reads-mapped _ (λ p (holder, terms). (does, holder, terms)) (reads-both (reads-last holder) (reads-terms d))
+  reads-request AskAmend d does _ _ _ =
+      reads-mapped _ (λ p ((holder, number), (last, maxes)). (does, holder, number, maxes, last))
       (reads-both holder_and_number (reads-both (reads-last (until d)) (reads-last (reads-maxes d))))
-  reads-request AskWithdraw d does files_brought list_brought rows_brought =
-      reads-mapped _ (λ p says. (does, says.0, says.1)) (reads-last holder_and_number)
-  reads-request AskSlurm d does files_brought list_brought rows_brought = reads-mapped _ (says-files does) (reads-last (files_brought does))
-  reads-request AskSlurms d does files_brought list_brought rows_brought =
+  reads-request AskWithdraw d does _ _ _ = reads-mapped _ (λ p (holder, number). (does, holder, number)) (reads-last holder_and_number)
+  reads-request AskSlurm d does files_brought _ _ = reads-mapped _ (says-files does) (reads-last (files_brought does))
+  reads-request AskSlurms d does _ list_brought _ =
       reads-mapped _ (λ p says. inr (inr does, says)) (reads-last (reads-last (list_brought does)))
-  reads-request AskShow d does files_brought list_brought rows_brought =
-      reads-mapped _ (λ p says. (does, says.0, says.1)) (reads-last holder_and_number)
-  reads-request AskContent d does files_brought list_brought rows_brought =
-      reads-mapped _ (λ p says. (does, says.0, says.1)) (reads-last holder_and_number)
-  reads-request AskList d does files_brought list_brought rows_brought =
-      reads-mapped _ (λ p says. (inl does, says)) (reads-last (reads-last holder))
-  reads-request AskExport d does files_brought list_brought rows_brought =
-      reads-mapped _ (λ p says. (inr does, says)) (reads-last (reads-last holder))
-  reads-request AskImport d does files_brought list_brought rows_brought =
-      reads-mapped _ (λ p says. (does, says.0, says.1)) (reads-both (reads-last holder) (reads-last (reads-last (rows_brought does))))
-  reads-request AskWhatIf d does files_brought list_brought rows_brought =
-      reads-mapped _ (λ p says. (does, says.0, says.1.0, says.1.1))
+  reads-request AskShow d does _ _ _ = reads-mapped _ (λ p (holder, number). (does, holder, number)) (reads-last holder_and_number)
+  reads-request AskContent d does _ _ _ = reads-mapped _ (λ p (holder, number). (does, holder, number)) (reads-last holder_and_number)
+  reads-request AskList d does _ _ _ = reads-mapped _ (λ p says. (inl does, says)) (reads-last (reads-last holder))
+  reads-request AskExport d does _ _ _ = reads-mapped _ (λ p says. (inr does, says)) (reads-last (reads-last holder))
+  reads-request AskImport d does _ _ rows_brought =
+      reads-mapped _ (λ p (holder, listed). (does, holder, listed)) (reads-both (reads-last holder) (reads-last (reads-last (rows_brought does))))
+  reads-request AskWhatIf d does _ _ _ =
+      reads-mapped _ (λ p (holder, (supposed, listed)). (does, holder, supposed, listed))
       (reads-both (reads-last holder) (reads-last (reads-both (reads-changes d) (reads-last (reads-routes d)))))
-  reads-request AskPayloads d does files_brought list_brought rows_brought = record { reported = record { is = refl }; value = does }
-  reads-request AskValidity d does files_brought list_brought rows_brought =
-      reads-mapped validity (λ p says. (does, says))
-      (reads-last (reads-last (reads-routes d)))
+  reads-request AskPayloads d does _ _ _ = record { reported = record { is = refl }; value = does }
+  reads-request AskValidity d does _ _ _ = reads-mapped validity (λ p says. (does, says)) (reads-last (reads-last (reads-routes d)))
 
 -- ---- lines
 
 -- what is asked, whatever the faults are
 abbrev AsksTerms : Option Data → AskedTerms → Type 0
-AsksTerms found asked = (d : Data) × (found ≡ Some d) × HasDay (codes "day") d asked.0
-    × HasName (codes "caller") d asked.1.0 × SaysTerms (line_heading d) d asked.1.1
+AsksTerms found asked = (d : Data) × (found ≡ Some d) × HasDay (codes "day") d asked.day
+    × HasName (codes "caller") d asked.caller × SaysTerms (line_heading d) d asked.terms
 
 -- of a member that names something
 abbrev named_faults : Data → Named → List Fault
@@ -245,19 +231,18 @@ reads-asked : (action : Action) (d : Data) → Does action (line_heading d) →
     ReadsUnlessFaulty (asked_as action d) (action_faults (Some action) d) (AsksTerms (Some d))
 reads-asked action d does =
     rw (line-split action d does)
-    (reads-unless (reads-says (λ p says. (d, refl, says.0, says.1.0, says.1.1))
+    (reads-with_only (line_names action) d (reads-mapped _ (λ p (day, (caller, terms)). (d, refl, day, caller, terms))
     (reads-both (reads-member as_day Day (codes "day") d)
     (reads-both (reads-member as_name Caller (codes "caller") d)
-    (reads-request (line_heading d) (line_subject d) (named_faults d) (holder d) (number d) action d does (λ _. reads-files d) (λ _. reads-file_list d) (λ _. reads-rows d)))))
-    (reported-only fault_order Members (line_names action) d))
+    (reads-request (line_heading d) (line_subject d) (named_faults d) (holder d) (number d) action d does (λ _. reads-files d) (λ _. reads-file_list d) (λ _. reads-rows d))))))
 
 reads-by : (action : Option Action) (d : Data) → action_in d ≡ action →
     ReadsUnlessFaulty (asked_by action d) (action_faults action d) (AsksTerms (Some d))
-reads-by None d does = record { reported = record { is = refl }; value = tt }
+reads-by None d does = reads-fault
 reads-by (Some action) d does = reads-asked action d does
 
 reads-tree : (found : Option Data) → ReadsUnlessFaulty (asked_from found) (tree_faults found) (AsksTerms found)
-reads-tree None = record { reported = record { is = refl }; value = tt }
+reads-tree None = reads-fault
 reads-tree (Some d) = reads-by (action_in d) d refl
 
 reads-line : (line : List ℕ) →
@@ -268,7 +253,7 @@ reads-line line = by_length (nat_lt LINE_LENGTH_LIMIT (length line))
         ReadsUnlessFaulty (if is_long then Err TooLong else asked_from (tree_of line))
         (if is_long then TooLong ∷ [] else tree_faults (tree_of line))
         (AsksTerms (tree_of line))
-    by_length true = record { reported = record { is = refl }; value = tt }
+    by_length true = reads-fault
     by_length false = reads-tree (tree_of line)
 
 -- what was read of a line is what the line says

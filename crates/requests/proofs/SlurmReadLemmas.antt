@@ -12,7 +12,7 @@ use Rattle.slurm.specs.SlurmEntries.{IsPrefixMember, IsAsnMember, IsMaxLengthMem
 use Rattle.slurm.specs.declared.filter.Filter.{Filter}
 use Rattle.slurm.specs.declared.filter.Filter.TheVariants.{Under, By, Both}
 use Rattle.slurm.specs.steps.SlurmFile.{slurm_in}
-use Rattle.requests.proofs.RequestFaultLemmas.{ReadsUnlessFaulty}
+use Rattle.requests.proofs.RequestFaultLemmas.{ReadsUnlessFaulty, reads-fault}
 
 same_prefix_member : (member : Option Data) (p q : Prefix) → IsPrefixMember member p → IsPrefixMember member q → p ≡ q
 same_prefix_member member p q (text, is, spells) (other, is_other, spells_other) =
@@ -101,12 +101,12 @@ pub reads-file : (d : Data) → ReadsUnlessFaulty (file_in d) (required_faults M
 reads-file d = at (get (codes "file") d)
   where
     at : (member : Option Data) → ReadsUnlessFaulty (required Members as_file member) (required_faults Members (file d) member) (SaysExceptions member)
-    at None = record { reported = record { is = refl }; value = tt }
+    at None = reads-fault
     at (Some value) = reads-as_file value
 
 -- the same of a file that may be no JSON
 reads-file_of : (found : Option Data) → ReadsUnlessFaulty (file_of found) (sent_file_faults found) (SaysExceptions found)
-reads-file_of None = record { reported = record { is = refl }; value = tt }
+reads-file_of None = reads-fault
 reads-file_of (Some value) = reads-as_file value
 
 -- the set of one file

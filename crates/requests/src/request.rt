@@ -7,7 +7,7 @@ ghost use Rattle.requests.specs.Actions.{takes_body};
 ghost use Rattle.requests.specs.RequestFaults.{action_in, request_fault};
 ghost use Rattle.requests.specs.RequestText.{ReadsLine};
 ghost use Rattle.requests.specs.declared.request.TheConstants.{LINE_LENGTH_LIMIT};
-ghost use Rattle.requests.specs.steps.RequestReading.{asked_as, asked_by, asked_in, asked_terms, line_subject, request_in, request_terms};
+ghost use Rattle.requests.specs.steps.RequestReading.{asked_as, asked_by, asked_in, asked_terms, asked_with, line_subject, request_in, request_terms};
 
 mod commands;
 mod entries;
@@ -89,15 +89,19 @@ fn asked_as(alloc: Global, action: Action, value: &Value) -> Read<Asked>
     ensures { IfOk result (λ asked. mapped asked_terms asked ≡ asked_as action (view value.now)) }
 {
     let request = request_in(alloc, action, line_subject(value), value)?;
-    let asked = asked_with(both(day_in(value, DAY), both(caller_in(value, CALLER), request)));
+    let asked = asked_with(day_in(value, DAY), caller_in(value, CALLER), request);
     Ok(unless(asked, only_members_of(action, value)))
 }
 
 /// Puts day, caller and request together.
-fn asked_with(parts: Result<(Day, (Name, Request)), Fault>) -> Result<Asked, Fault>
-    ensures { result ≡ mapped (λ p. record { day = p.0; caller = p.1.0; request = p.1.1 }) parts }
+fn asked_with(
+    day: Result<Day, Fault>,
+    caller: Result<Name, Fault>,
+    request: Result<Request, Fault>,
+) -> Result<Asked, Fault>
+    ensures { mapped asked_terms result ≡ asked_with day caller (mapped request_terms request) }
 {
-    let (day, (caller, request)) = parts?;
+    let (day, (caller, request)) = both(day, both(caller, request))?;
     Ok(Asked {
         day,
         caller,

@@ -4,19 +4,18 @@ use Rattle.std.specs.Option.{ok_or}
 use Rattle.std.specs.Result.{result_map_both}
 use Rattle.addr.specs.Name.{name_in}
 use Rattle.serde_json.specs.Data.{Data, null}
-use Rattle.json_values.specs.Parts.{both, mapped, unless}
-use Rattle.json_values.specs.Tree.{only, tree_of}
+use Rattle.json_values.specs.Tree.{tree_of}
 use Rattle.registry.specs.declared.authorization.ImportRow.{ImportRow}
 use Rattle.csv_records.specs.steps.Importing.{import_in}
 use Rattle.requests.specs.RequestHeads.{Head}
 use Rattle.requests.specs.declared.action.Action.{Action}
 use Rattle.requests.specs.declared.action.Action.TheVariants.{Import, Slurm}
 use Rattle.requests.specs.HttpFaults.{body_bytes, head_caller, fault_of_import, json_tree, path_number}
-use Rattle.requests.specs.RequestFaults.{body_names, fault_order}
+use Rattle.requests.specs.RequestFaults.{body_names}
 use Rattle.requests.specs.declared.request.commands.Subject.{Subject}
 use Rattle.requests.specs.declared.request.fault.Fault.{Fault}
-use Rattle.requests.specs.declared.request.fault.Fault.TheVariants.{Json, Members, Holder, Caller, Number}
-use Rattle.requests.specs.steps.RequestReading.{AskedTerms, RequestTerms, import, main_file_of, request_in, slurm_request}
+use Rattle.requests.specs.declared.request.fault.Fault.TheVariants.{Json, Holder, Caller, Number}
+use Rattle.requests.specs.steps.RequestReading.{AskedTerms, RequestTerms, asked_with, import, main_file_of, of_two, request_in, slurm_request, with_only}
 
 abbrev pub path_subject : Head → Subject
 path_subject head = record {
@@ -28,8 +27,7 @@ abbrev pub caller_of : Head → Result (List ℕ) Fault
 caller_of head = ok_or (head_caller head) Caller
 
 abbrev pub object_request : Action → Subject → Data → Result RequestTerms Fault
-object_request action subject d =
-    unless fault_order (request_in action subject d) (only Members (body_names action) d)
+object_request action subject d = with_only (body_names action) d (request_in action subject d)
 
 abbrev pub tree_request : Action → Subject → Option Data → Result RequestTerms Fault
 tree_request action subject None = Err Json
@@ -43,8 +41,7 @@ abbrev pub import_rows : List ℕ → Result (List ImportRow) Fault
 import_rows text = result_map_both (λ rows. rows) fault_of_import (import_in text)
 
 abbrev pub import_body : Subject → Option (List ℕ) → Result RequestTerms Fault
-import_body subject body =
-    mapped (λ p. import p.0 p.1) (both fault_order subject.holder (import_rows (body_bytes body)))
+import_body subject body = of_two import subject.holder (import_rows (body_bytes body))
 
 abbrev pub request_by : Action → Subject → Option (List ℕ) → Result RequestTerms Fault
 request_by Slurm subject body = slurm_request (main_file_of (json_tree body))
@@ -56,5 +53,4 @@ request_of head body = request_by head.action (path_subject head) body
 
 -- the request of a head and a body on the day, or its lowest fault
 abbrev pub asked_of : ℕ → Head → Option (List ℕ) → Result AskedTerms Fault
-asked_of day head body =
-    both fault_order (Ok day) (both fault_order (caller_of head) (request_of head body))
+asked_of day head body = asked_with (Ok day) (caller_of head) (request_of head body)

@@ -7,7 +7,6 @@ use Rattle.std.specs.Ordering.{is_lt}
 use Rattle.std.specs.Str.{bytes_eq}
 use Rattle.std.specs.declared.cmp.Ordering.{Ordering}
 use Rattle.addr.specs.Order.{prefix_cmp}
-use Rattle.addr.specs.declared.asn.Asn.{Asn as AsnValue}
 use Rattle.addr.specs.declared.prefix.Prefix.{Prefix}
 use Rattle.addr.specs.declared.route.Route.{Route}
 use Rattle.registry.specs.Repeats.{has_repeat}
@@ -16,10 +15,12 @@ use Rattle.registry.specs.declared.authorization.ImportRow.{ImportRow}
 use Rattle.addr.specs.declared.roa_prefix.RoaPrefix.{RoaPrefix}
 use Rattle.requests.specs.declared.request.entries.TheConstants.{MOST_ENTRIES}
 use Rattle.registry.specs.RoaPrefixes.{repeats_prefix}
+use Rattle.registry.specs.declared.command.Command.{Command}
 use Rattle.registry.specs.declared.command.Command.TheVariants.{Register, Delegate, Transfer, Reclaim, Grant, Revoke, Create, Amend, Withdraw, Import, Slurm}
 use Rattle.registry.specs.declared.command.Proposed.{Proposed}
 use Rattle.registry.specs.declared.grant.GrantTerms.{GrantTerms}
 use Rattle.registry.specs.declared.command.Proposed.TheVariants.{Create as CreateChange, Withdraw as WithdrawChange}
+use Rattle.registry.specs.declared.command.Query.{Query}
 use Rattle.registry.specs.declared.command.Query.TheVariants.{Show, Content, List as ListQuery, Payloads, Validity, WhatIf}
 use Rattle.serde_json.specs.Data.{Data, Items}
 use Rattle.serde_json.specs.Find.{get, as_array}
@@ -44,6 +45,7 @@ use Rattle.requests.specs.declared.action.Action.TheVariants.{Register as AskReg
 use Rattle.requests.specs.declared.request.lists.TheConstants.{MOST_ITEMS, MOST_CHANGES}
 use Rattle.requests.specs.declared.request.fault.Fault.{Fault}
 use Rattle.requests.specs.declared.request.commands.Subject.{Subject}
+use Rattle.requests.specs.declared.request.terms.AsnAndDays.{AsnAndDays}
 use Rattle.requests.specs.declared.request.fault.Fault.TheVariants.{Json, Members, Holder, Caller, Prefix as PrefixFault, Asn, Max, Day, Role, Number, File, Count, TooLong, Repeated, FileName}
 
 -- ---- requests, with their maxLengths, rows, changes and routes as lists
@@ -55,9 +57,10 @@ pub data RequestTerms : Type 0 where
   validity : List Route → RequestTerms
   what_if : List ℕ → List Proposed → List Route → RequestTerms
 
--- the day, the caller and the request
-abbrev pub AskedTerms : Type 0
-AskedTerms = ℕ × (List ℕ × RequestTerms)
+pub record AskedTerms : Type 0 where
+  pub day : ℕ
+  pub caller : List ℕ
+  pub terms : RequestTerms
 
 abbrev pub request_terms : Request → RequestTerms
 request_terms (CommandRequest (Amend holder number maxes until)) = amend holder number maxes.items until
@@ -67,7 +70,20 @@ request_terms (QueryRequest (WhatIf holder changes routes)) = what_if holder cha
 request_terms other = request other
 
 abbrev pub asked_terms : Asked → AskedTerms
-asked_terms asked = (asked.day, (asked.caller, request_terms asked.request))
+asked_terms asked = record { day = asked.day; caller = asked.caller; terms = request_terms asked.request }
+
+-- ---- parts: what f makes of their values, or the lowest of their faults
+
+abbrev pub of_two : {A B C : Type 0} → (A → B → C) → Result A Fault → Result B Fault → Result C Fault
+of_two f one other = mapped (λ p. f p.0 p.1) (both fault_order one other)
+
+abbrev pub of_three : {A B C D : Type 0}
+    → (A → B → C → D) → Result A Fault → Result B Fault → Result C Fault → Result D Fault
+of_three f one second third = of_two (λ a (b, c). f a b c) one (both fault_order second third)
+
+-- the value of an object that has members of these names alone
+abbrev pub with_only : {A : Type 0} → List (List ℕ) → Data → Result A Fault → Result A Fault
+with_only names d value = unless fault_order value (only Members names d)
 
 -- ---- members
 
@@ -159,10 +175,10 @@ chosen has_one has_other one other = Err Members
 
 abbrev pub entry_members_in : Data → Result RoaPrefix Fault
 entry_members_in d =
-    mapped (λ p. record { prefix = p.0; max = p.1 }) (both fault_order (prefix_member d) (max_member d))
+    of_two (λ prefix max. record { prefix = prefix; max = max }) (prefix_member d) (max_member d)
 
 abbrev pub entry_in : Data → Result RoaPrefix Fault
-entry_in d = unless fault_order (entry_members_in d) (only Members (names_of entry_members) d)
+entry_in d = with_only (names_of entry_members) d (entry_members_in d)
 
 -- the entries of an authorization that these are in order
 abbrev pub entries_arranged : List RoaPrefix → Result (List RoaPrefix) Fault
@@ -194,11 +210,11 @@ maxes_in d =
 
 abbrev pub file_members_in : Data → Result NamedSlurm Fault
 file_members_in d =
-    mapped (λ p. record { name = p.0; file = p.1 })
-    (both fault_order (member_in as_name FileName (codes "name") d) (file_in d))
+    of_two (λ name file. record { name = name; file = file })
+    (member_in as_name FileName (codes "name") d) (file_in d)
 
 abbrev pub named_file_in : Data → Result NamedSlurm Fault
-named_file_in d = unless fault_order (file_members_in d) (only Members (names_of file_members) d)
+named_file_in d = with_only (names_of file_members) d (file_members_in d)
 
 -- whether two files have one name
 abbrev pub repeats_name : List NamedSlurm → Bool
@@ -219,35 +235,35 @@ files_in d =
 -- ---- terms of authorizations
 
 -- what is said beside the entries
-abbrev pub asn_and_days_in : Data → Result (AsnValue × (ℕ × ℕ)) Fault
+abbrev pub asn_and_days_in : Data → Result AsnAndDays Fault
 asn_and_days_in d =
-    both fault_order (member_in as_asn Asn (codes "asn") d)
-    (both fault_order (day_member (codes "from") d) (day_member (codes "until") d))
+    of_three (λ asn from until. record { asn = asn; from = from; until = until })
+    (member_in as_asn Asn (codes "asn") d) (day_member (codes "from") d) (day_member (codes "until") d)
 
-abbrev pub terms_of : (AsnValue × (ℕ × ℕ)) × List RoaPrefix → AuthTerms
-terms_of p = record { asn = p.0.0; entries = p.1; from = p.0.1.0; until = p.0.1.1 }
+abbrev pub terms_of : AsnAndDays → List RoaPrefix → AuthTerms
+terms_of said entries = record { asn = said.asn; entries = entries; from = said.from; until = said.until }
 
 abbrev pub terms_in : Data → Result AuthTerms Fault
-terms_in d = mapped terms_of (both fault_order (asn_and_days_in d) (entries_in d))
+terms_in d = of_two terms_of (asn_and_days_in d) (entries_in d)
 
-abbrev pub row_of_members : (AsnValue × (ℕ × ℕ)) × RoaPrefix → ImportRow
-row_of_members p =
-    record { asn = p.0.0; prefix = p.1.prefix; max = p.1.max; from = p.0.1.0; until = p.0.1.1 }
+abbrev pub row_of : AsnAndDays → RoaPrefix → ImportRow
+row_of said entry =
+    record { asn = said.asn; prefix = entry.prefix; max = entry.max; from = said.from; until = said.until }
 
 abbrev pub row_members_in : Data → Result ImportRow Fault
-row_members_in d = mapped row_of_members (both fault_order (asn_and_days_in d) (entry_members_in d))
+row_members_in d = of_two row_of (asn_and_days_in d) (entry_members_in d)
 
 -- ---- rows, changes and routes
 
 abbrev pub row_in : Data → Result ImportRow Fault
-row_in d = unless fault_order (row_members_in d) (only Members (names_of row_members) d)
+row_in d = with_only (names_of row_members) d (row_members_in d)
 
 -- by what it does, if that is known
 abbrev pub change_by : Option Action → Data → Result Proposed Fault
 change_by (Some AskCreate) d =
-    mapped CreateChange (unless fault_order (terms_in d) (only Members (part_names creation_members (entry_choice ∷ [])) d))
+    mapped CreateChange (with_only (part_names creation_members (entry_choice ∷ [])) d (terms_in d))
 change_by (Some AskWithdraw) d =
-    mapped WithdrawChange (unless fault_order (number_member d) (only Members (names_of withdrawal_members) d))
+    mapped WithdrawChange (with_only (names_of withdrawal_members) d (number_member d))
 change_by other d = Err Members
 
 abbrev pub change_in : Data → Result Proposed Fault
@@ -255,9 +271,9 @@ change_in d = change_by (action_in d) d
 
 abbrev pub route_in : Data → Result Route Fault
 route_in d =
-    unless fault_order (mapped (λ p. record { prefix = p.0; origin = p.1 })
-    (both fault_order (prefix_member d) (member_in as_origin Asn (codes "origin") d)))
-    (only Members (names_of route_members) d)
+    with_only (names_of route_members) d
+    (of_two (λ prefix origin. record { prefix = prefix; origin = origin })
+    (prefix_member d) (member_in as_origin Asn (codes "origin") d))
 
 abbrev pub row_list_in : Data → Result (List ImportRow) Fault
 row_list_in = items_in row_in 1 MOST_ITEMS (codes "rows")
@@ -273,59 +289,43 @@ routes_in = items_in route_in 1 MOST_ITEMS (codes "routes")
 abbrev pub slurm_request : Result (List NamedSlurm) Fault → Result RequestTerms Fault
 slurm_request files = mapped (λ f. request (CommandRequest (Slurm f))) files
 
-abbrev pub holder_and_prefix : Subject → Data → Result (List ℕ × Prefix) Fault
-holder_and_prefix subject d = both fault_order subject.holder (prefix_member d)
+-- the command or the query of two parts
+abbrev pub command_of : {A B : Type 0} → (A → B → Command) → Result A Fault → Result B Fault → Result RequestTerms Fault
+command_of make = of_two (λ a b. request (CommandRequest (make a b)))
 
-abbrev pub holder_and_number : Subject → Result (List ℕ × ℕ) Fault
-holder_and_number subject = both fault_order subject.holder subject.number
+abbrev pub query_of : {A B : Type 0} → (A → B → Query) → Result A Fault → Result B Fault → Result RequestTerms Fault
+query_of make = of_two (λ a b. request (QueryRequest (make a b)))
 
 -- what a grant gives, and to whom
 abbrev pub grant_terms_in : Data → Result GrantTerms Fault
 grant_terms_in d =
-    mapped (λ p. record { to = p.0; role = p.1.0; scope = p.1.1.0; until = p.1.1.1 })
-    (both fault_order (caller_member (codes "name") d)
-    (both fault_order (member_in as_role Role (codes "role") d)
-    (both fault_order (member_in (as_scope (role_at d)) Role (codes "scope") d)
-    (day_member (codes "until") d))))
+    of_three (λ to role (scope, until). record { to = to; role = role; scope = scope; until = until })
+    (caller_member (codes "name") d) (member_in as_role Role (codes "role") d)
+    (both fault_order (member_in (as_scope (role_at d)) Role (codes "scope") d) (day_member (codes "until") d))
 
 abbrev pub request_in : Action → Subject → Data → Result RequestTerms Fault
-request_in AskRegister subject d =
-    mapped (λ p. request (CommandRequest (Register p))) subject.holder
-request_in AskDelegate subject d =
-    mapped (λ p. request (CommandRequest (Delegate p.0 p.1))) (holder_and_prefix subject d)
+request_in AskRegister subject d = mapped (λ named. request (CommandRequest (Register named))) subject.holder
+request_in AskDelegate subject d = command_of Delegate subject.holder (prefix_member d)
 request_in AskTransfer subject d =
-    mapped (λ p. request (CommandRequest (Transfer p.0 p.1.0 p.1.1)))
-    (both fault_order (prefix_member d)
-    (both fault_order (holder_member (codes "giver") d) (holder_member (codes "taker") d)))
-request_in AskReclaim subject d =
-    mapped (λ p. request (CommandRequest (Reclaim p.0 p.1))) (holder_and_prefix subject d)
-request_in AskGrant subject d =
-    mapped (λ p. request (CommandRequest (Grant p.0 p.1))) (both fault_order subject.holder (grant_terms_in d))
-request_in AskRevoke subject d =
-    mapped (λ p. request (CommandRequest (Revoke p.0 p.1))) (holder_and_number subject)
-request_in AskCreate subject d =
-    mapped (λ p. request (CommandRequest (Create p.0 p.1))) (both fault_order subject.holder (terms_in d))
+    of_three (λ prefix giver taker. request (CommandRequest (Transfer prefix giver taker)))
+    (prefix_member d) (holder_member (codes "giver") d) (holder_member (codes "taker") d)
+request_in AskReclaim subject d = command_of Reclaim subject.holder (prefix_member d)
+request_in AskGrant subject d = command_of Grant subject.holder (grant_terms_in d)
+request_in AskRevoke subject d = command_of Revoke subject.holder subject.number
+request_in AskCreate subject d = command_of Create subject.holder (terms_in d)
 request_in AskAmend subject d =
-    mapped (λ p. amend p.0.0 p.0.1 p.1.1 p.1.0)
-    (both fault_order (holder_and_number subject)
-    (both fault_order (day_member (codes "until") d) (maxes_in d)))
-request_in AskWithdraw subject d =
-    mapped (λ p. request (CommandRequest (Withdraw p.0 p.1))) (holder_and_number subject)
+    of_two (λ (holder, number) (until, maxes). amend holder number maxes until)
+    (both fault_order subject.holder subject.number)
+    (both fault_order (day_member (codes "until") d) (maxes_in d))
+request_in AskWithdraw subject d = command_of Withdraw subject.holder subject.number
 request_in AskSlurm subject d = slurm_request (files_in d)
 request_in AskSlurms subject d = slurm_request (file_list_in d)
-request_in AskShow subject d =
-    mapped (λ p. request (QueryRequest (Show p.0 p.1))) (holder_and_number subject)
-request_in AskContent subject d =
-    mapped (λ p. request (QueryRequest (Content p.0 p.1))) (holder_and_number subject)
-request_in AskList subject d =
-    mapped (λ p. request (QueryRequest (ListQuery p))) subject.holder
-request_in AskExport subject d =
-    mapped (λ p. request (QueryRequest (ListQuery p))) subject.holder
-request_in AskImport subject d =
-    mapped (λ p. import p.0 p.1) (both fault_order subject.holder (row_list_in d))
-request_in AskWhatIf subject d =
-    mapped (λ p. what_if p.0 p.1.0 p.1.1)
-    (both fault_order subject.holder (both fault_order (changes_in d) (routes_in d)))
+request_in AskShow subject d = query_of Show subject.holder subject.number
+request_in AskContent subject d = query_of Content subject.holder subject.number
+request_in AskList subject d = mapped (λ named. request (QueryRequest (ListQuery named))) subject.holder
+request_in AskExport subject d = mapped (λ named. request (QueryRequest (ListQuery named))) subject.holder
+request_in AskImport subject d = of_two import subject.holder (row_list_in d)
+request_in AskWhatIf subject d = of_three what_if subject.holder (changes_in d) (routes_in d)
 request_in AskPayloads subject d = Ok (request (QueryRequest Payloads))
 request_in AskValidity subject d = mapped validity (routes_in d)
 
@@ -335,12 +335,13 @@ request_in AskValidity subject d = mapped validity (routes_in d)
 abbrev pub line_subject : Data → Subject
 line_subject d = record { holder = holder_member (codes "holder") d; number = number_member d }
 
+abbrev pub asked_with : Result ℕ Fault → Result (List ℕ) Fault → Result RequestTerms Fault → Result AskedTerms Fault
+asked_with = of_three (λ day caller terms. record { day = day; caller = caller; terms = terms })
+
 abbrev pub asked_as : Action → Data → Result AskedTerms Fault
 asked_as action d =
-    unless fault_order
-    (both fault_order (day_member (codes "day") d)
-    (both fault_order (caller_member (codes "caller") d) (request_in action (line_subject d) d)))
-    (only Members (line_names action) d)
+    with_only (line_names action) d
+    (asked_with (day_member (codes "day") d) (caller_member (codes "caller") d) (request_in action (line_subject d) d))
 
 abbrev pub asked_by : Option Action → Data → Result AskedTerms Fault
 asked_by None d = Err Members

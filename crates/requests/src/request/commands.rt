@@ -4,7 +4,7 @@ ghost use Rattle.std.specs.Prelude.{◌≡◌, IfOk};
 ghost use Rattle.serde_json.specs.Data.{null};
 ghost use Rattle.serde_json.specs.View.{view};
 ghost use Rattle.json_values.specs.Parts.{mapped};
-ghost use Rattle.requests.specs.steps.RequestReading.{grant_terms_in, holder_and_number, holder_and_prefix, request_in, request_terms};
+ghost use Rattle.requests.specs.steps.RequestReading.{grant_terms_in, request_in, request_terms};
 
 use super::entries::maxes_in;
 use super::fault::{Fault, Read};
@@ -12,9 +12,9 @@ use super::members::{caller_in, day_in, holder_in, prefix_in, role_in, scope_in}
 use super::terms::terms_in;
 use crate::action::Action;
 use crate::member_names::{GIVER, NAME, TAKER, UNTIL};
-use addr::{Day, Name, Prefix};
+use addr::Name;
 use json_values::both;
-use registry::{AuthTerms, Command, GrantTerms, Query, Request};
+use registry::{Command, GrantTerms, Query, Request};
 use serde_json::Value;
 use std::alloc::Global;
 
@@ -23,20 +23,6 @@ use std::alloc::Global;
 pub(crate) struct Subject {
     pub(crate) holder: Result<Name, Fault>,
     pub(crate) number: Result<u32, Fault>,
-}
-
-/// The holder that is named, and the member `prefix`.
-fn holder_and_prefix(subject: Subject, value: &Value) -> Result<(Name, Prefix), Fault>
-    ensures { result ≡ holder_and_prefix subject (view value.now) }
-{
-    both(subject.holder, prefix_in(value))
-}
-
-/// The holder and the number that are named.
-fn holder_and_number(subject: Subject) -> Result<(Name, u32), Fault>
-    ensures { result ≡ holder_and_number subject }
-{
-    both(subject.holder, subject.number)
 }
 
 pub(crate) fn register_in(subject: Subject) -> Result<Request, Fault>
@@ -49,7 +35,7 @@ pub(crate) fn register_in(subject: Subject) -> Result<Request, Fault>
 pub(crate) fn delegate_in(subject: Subject, value: &Value) -> Result<Request, Fault>
     ensures { mapped request_terms result ≡ request_in Action.Delegate subject (view value.now) }
 {
-    let (holder, prefix) = holder_and_prefix(subject, value)?;
+    let (holder, prefix) = both(subject.holder, prefix_in(value))?;
     Ok(Request::Command(Command::Delegate { holder, prefix }))
 }
 
@@ -69,7 +55,7 @@ pub(crate) fn transfer_in(value: &Value) -> Result<Request, Fault>
 pub(crate) fn reclaim_in(subject: Subject, value: &Value) -> Result<Request, Fault>
     ensures { mapped request_terms result ≡ request_in Action.Reclaim subject (view value.now) }
 {
-    let (holder, prefix) = holder_and_prefix(subject, value)?;
+    let (holder, prefix) = both(subject.holder, prefix_in(value))?;
     Ok(Request::Command(Command::Reclaim { holder, prefix }))
 }
 
@@ -97,7 +83,7 @@ pub(crate) fn grant_in(subject: Subject, value: &Value) -> Result<Request, Fault
 pub(crate) fn revoke_in(subject: Subject) -> Result<Request, Fault>
     ensures { mapped request_terms result ≡ request_in Action.Revoke subject null }
 {
-    let (holder, number) = holder_and_number(subject)?;
+    let (holder, number) = both(subject.holder, subject.number)?;
     Ok(Request::Command(Command::Revoke { holder, number }))
 }
 
@@ -106,15 +92,8 @@ pub(crate) fn create_in(alloc: Global, subject: Subject, value: &Value) -> Read<
         ≡ request_in Action.Create subject (view value.now)) }
 {
     let terms = terms_in(alloc, value)?;
-    Ok(asked_create(both(subject.holder, terms)))
-}
-
-/// The create of these terms.
-fn asked_create(parts: Result<(Name, AuthTerms), Fault>) -> Result<Request, Fault>
-    ensures { result ≡ mapped (λ p. Request.Command (Command.Create p.0 p.1)) parts }
-{
-    let (holder, terms) = parts?;
-    Ok(Request::Command(Command::Create { holder, terms }))
+    let parts = both(subject.holder, terms);
+    Ok(parts.map(|(holder, terms)| Request::Command(Command::Create { holder, terms })))
 }
 
 pub(crate) fn amend_in(alloc: Global, subject: Subject, value: &Value) -> Read<Request>
@@ -122,42 +101,36 @@ pub(crate) fn amend_in(alloc: Global, subject: Subject, value: &Value) -> Read<R
         ≡ request_in Action.Amend subject (view value.now)) }
 {
     let maxes = maxes_in(alloc, value)?;
-    let terms = both(day_in(value, UNTIL), maxes);
-    Ok(asked_amend(both(holder_and_number(subject), terms)))
-}
-
-/// The amendment to these maxLengths and this last day.
-fn asked_amend(parts: Result<((Name, u32), (Day, Vec<u8>)), Fault>) -> Result<Request, Fault>
-    ensures { result
-        ≡ mapped (λ p. Request.Command (Command.Amend p.0.0 p.0.1 p.1.1 p.1.0)) parts }
-{
-    let ((holder, number), (until, maxes)) = parts?;
-    Ok(Request::Command(Command::Amend {
-        holder,
-        number,
-        maxes,
-        until,
+    let authorization = both(subject.holder, subject.number);
+    let parts = both(authorization, both(day_in(value, UNTIL), maxes));
+    Ok(parts.map(|((holder, number), (until, maxes))| {
+        Request::Command(Command::Amend {
+            holder,
+            number,
+            maxes,
+            until,
+        })
     }))
 }
 
 pub(crate) fn withdraw_in(subject: Subject) -> Result<Request, Fault>
     ensures { mapped request_terms result ≡ request_in Action.Withdraw subject null }
 {
-    let (holder, number) = holder_and_number(subject)?;
+    let (holder, number) = both(subject.holder, subject.number)?;
     Ok(Request::Command(Command::Withdraw { holder, number }))
 }
 
 pub(crate) fn show_in(subject: Subject) -> Result<Request, Fault>
     ensures { mapped request_terms result ≡ request_in Action.Show subject null }
 {
-    let (holder, number) = holder_and_number(subject)?;
+    let (holder, number) = both(subject.holder, subject.number)?;
     Ok(Request::Query(Query::Show { holder, number }))
 }
 
 pub(crate) fn content_in(subject: Subject) -> Result<Request, Fault>
     ensures { mapped request_terms result ≡ request_in Action.Content subject null }
 {
-    let (holder, number) = holder_and_number(subject)?;
+    let (holder, number) = both(subject.holder, subject.number)?;
     Ok(Request::Query(Query::Content { holder, number }))
 }
 

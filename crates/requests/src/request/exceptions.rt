@@ -147,14 +147,8 @@ impl FromJsonIn<Fault> for NamedSlurm {
 
     fn from_json_in(alloc: Global, value: &Value) -> Read<NamedSlurm> {
         let file = file_in(alloc, value)?;
-        let named = file_of(both(file_name_in(value), file));
+        let parts = both(file_name_in(value), file);
+        let named = parts.map(|(name, file)| NamedSlurm { name, file });
         Ok(unless(named, only(value, &[NAME, FILE])))
     }
-}
-
-fn file_of(parts: Result<(Name, Slurm), Fault>) -> Result<NamedSlurm, Fault>
-    ensures { result ≡ mapped (λ p. record { name = p.0; file = p.1 }) parts }
-{
-    let (name, file) = parts?;
-    Ok(NamedSlurm { name, file })
 }

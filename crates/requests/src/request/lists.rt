@@ -2,7 +2,7 @@
 ghost use Rattle.std.specs.Prelude.{◌≡◌, Some, IfOk};
 ghost use Rattle.serde_json.specs.View.{view};
 ghost use Rattle.json_values.specs.Parts.{mapped};
-ghost use Rattle.requests.specs.steps.RequestReading.{change_by, change_in, count_of, items_in, request_in, request_terms, route_in, routes_in, row_in, validity};
+ghost use Rattle.requests.specs.steps.RequestReading.{change_by, change_in, count_of, import, items_in, of_two, request_in, request_terms, route_in, routes_in, row_in, validity};
 
 use super::commands::Subject;
 use super::fault::{Fault, Read};
@@ -13,9 +13,9 @@ use crate::action::Action;
 use crate::member_names::{
     ASN, CHANGES, DO, ENTRIES, FROM, MAX, NUMBER, ORIGIN, PREFIX, ROUTES, ROWS, UNTIL,
 };
-use addr::{Name, Origin, Prefix, Route};
+use addr::Route;
 use json_values::{FromJson, FromJsonIn, both, each, only, unless};
-use registry::{AuthTerms, Command, ImportRow, Proposed, Query, Request};
+use registry::{Command, ImportRow, Proposed, Query, Request};
 use serde_json::Value;
 use std::alloc::Global;
 
@@ -33,14 +33,18 @@ pub(crate) fn import_in(alloc: Global, subject: Subject, value: &Value) -> Read<
         ≡ request_in Action.Import subject (view value.now)) }
 {
     let rows = items_in(alloc, value, ROWS, 1, MOST_ITEMS)?;
-    Ok(asked_import(both(subject.holder, rows)))
+    Ok(asked_import(subject, rows))
 }
 
 /// The import of these rows.
-pub(crate) fn asked_import(parts: Result<(Name, Vec<ImportRow>), Fault>) -> Result<Request, Fault>
-    ensures { result ≡ mapped (λ p. Request.Command (Command.Import p.0 p.1)) parts }
+pub(crate) fn asked_import(
+    subject: Subject,
+    rows: Result<Vec<ImportRow>, Fault>,
+) -> Result<Request, Fault>
+    ensures { mapped request_terms result
+        ≡ of_two import subject.holder (mapped (λ v. v.items) rows) }
 {
-    let (holder, rows) = parts?;
+    let (holder, rows) = both(subject.holder, rows)?;
     Ok(Request::Command(Command::Import { holder, rows }))
 }
 
@@ -50,15 +54,7 @@ pub(crate) fn validity_in(alloc: Global, value: &Value) -> Read<Request>
         ≡ mapped validity (routes_in (view value.now))) }
 {
     let routes = items_in(alloc, value, ROUTES, 1, MOST_ITEMS)?;
-    Ok(asked_validity(routes))
-}
-
-/// The query for the validity of these routes.
-fn asked_validity(routes: Result<Vec<Route>, Fault>) -> Result<Request, Fault>
-    ensures { result ≡ mapped (λ r. Request.Query (Query.Validity r)) routes }
-{
-    let routes = routes?;
-    Ok(Request::Query(Query::Validity { routes }))
+    Ok(routes.map(|routes| Request::Query(Query::Validity { routes })))
 }
 
 /// The query for what the changes that are a member would do to the routes that are another.
@@ -68,20 +64,13 @@ pub(crate) fn what_if_in(alloc: Global, subject: Subject, value: &Value) -> Read
 {
     let changes = items_in(alloc, value, CHANGES, 0, MOST_CHANGES)?;
     let routes = items_in(alloc, value, ROUTES, 1, MOST_ITEMS)?;
-    Ok(asked_what_if(both(subject.holder, both(changes, routes))))
-}
-
-/// The query for what these changes would do to these routes.
-fn asked_what_if(
-    parts: Result<(Name, (Vec<Proposed>, Vec<Route>)), Fault>,
-) -> Result<Request, Fault>
-    ensures { result ≡ mapped (λ p. Request.Query (Query.WhatIf p.0 p.1.0 p.1.1)) parts }
-{
-    let (holder, (changes, routes)) = parts?;
-    Ok(Request::Query(Query::WhatIf {
-        holder,
-        changes,
-        routes,
+    let parts = both(subject.holder, both(changes, routes));
+    Ok(parts.map(|(holder, (changes, routes))| {
+        Request::Query(Query::WhatIf {
+            holder,
+            changes,
+            routes,
+        })
     }))
 }
 
@@ -151,13 +140,7 @@ fn creation_in(alloc: Global, value: &Value) -> Read<Proposed>
 {
     let terms = terms_in(alloc, value)?;
     let names = only(value, &[DO, ASN, FROM, UNTIL, PREFIX, MAX, ENTRIES]);
-    Ok(proposed_create(unless(terms, names)))
-}
-
-fn proposed_create(terms: Result<AuthTerms, Fault>) -> Result<Proposed, Fault>
-    ensures { result ≡ mapped Proposed.Create terms }
-{
-    Ok(Proposed::Create(terms?))
+    Ok(unless(terms, names).map(Proposed::Create))
 }
 
 /// A change that withdraws one.
@@ -172,14 +155,8 @@ impl FromJson<Fault> for Route {
     ghost reading = { route_in };
 
     fn from_json(value: &Value) -> Result<Route, Fault> {
-        let members = both(prefix_in(value), origin_in(value));
-        unless(route_of(members), only(value, &[PREFIX, ORIGIN]))
+        let parts = both(prefix_in(value), origin_in(value));
+        let route = parts.map(|(prefix, origin)| Route { prefix, origin });
+        unless(route, only(value, &[PREFIX, ORIGIN]))
     }
-}
-
-fn route_of(members: Result<(Prefix, Origin), Fault>) -> Result<Route, Fault>
-    ensures { result ≡ mapped (λ p. record { prefix = p.0; origin = p.1 }) members }
-{
-    let (prefix, origin) = members?;
-    Ok(Route { prefix, origin })
 }

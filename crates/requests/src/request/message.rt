@@ -21,7 +21,7 @@ use crate::head::Head;
 use crate::malformed::Malformed;
 use addr::{Day, Name, number_from_text};
 use csv_records::read_import;
-use json_values::{both, tree_of, unless};
+use json_values::{tree_of, unless};
 use registry::{Asked, ImportRow, LAST_NUMBER, Request};
 use serde_json::Value;
 use slurm::SlurmFault;
@@ -55,7 +55,7 @@ fn asked_of(alloc: Global, day: Day, head: &Head<'_>, body: Option<&[u8]>) -> Re
     ensures memory { OnErr result (body.entry ≡ None → takes_body head.now.action ≡ true) }
 {
     let request = request_of(alloc, head, body)?;
-    Ok(asked_with(both(Ok(day), both(caller_of(head), request))))
+    Ok(asked_with(Ok(day), caller_of(head), request))
 }
 
 /// The caller that the head names.
@@ -102,7 +102,7 @@ fn import_body(alloc: Global, subject: Subject, body: Option<&[u8]>) -> Read<Req
         ≡ import_body subject (option_copied body.entry)) }
 {
     let rows = import_rows(alloc, body_bytes(body))?;
-    Ok(asked_import(both(subject.holder, rows)))
+    Ok(asked_import(subject, rows))
 }
 
 /// The bytes of a body: none if there is no body.

@@ -1,5 +1,4 @@
 use Rattle.requests.proofs.Vocabulary.{refl, mapped-unless, fault_order, asked_terms}
-use Rattle.requests.proofs.AskedLemmas.{asked_terms-parts}
 use Rattle.requests.proofs.request.asked_as.Goals as goal
 
 pub returns : goal.returns
@@ -8,9 +7,6 @@ returns c =
       c.unless.ensures,
       mapped-unless fault_order asked_terms c.asked_with-asked.result c.only_members_of.result,
       c.asked_with-asked.ensures,
-      c.both-2.ensures,
-      c.both.ensures,
-      asked_terms-parts c.day_in.result c.caller_in.result c.in_ok-request.request,
       c.in_ok-request.ensures.read,
       c.line_subject.ensures,
       c.day_in.ensures,
