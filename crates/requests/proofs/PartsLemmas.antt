@@ -1,4 +1,4 @@
--- What is made of one of two parts is made of both.
+-- Where one of two parts is made of what was read, both are made of both that were read.
 use Rattle.requests.proofs.Vocabulary.{◌≡◌, Result, Ok, Err, refl, both, mapped, fault_order, Fault}
 
 pub mapped-first : {A B C : Type 0} (f : A → C) (one : Result A Fault) (other : Result B Fault) →

@@ -24,6 +24,7 @@ reads-member reading n name d = record {
   value = found-reads reading n (get name d);
 }
 
+-- a fault alone
 pub reads-fault : {A : Type 0} {fault : Fault} {Says : A → Type 0} → ReadsUnlessFaulty (Err fault) (fault ∷ []) Says
 reads-fault = record { reported = record { is = refl }; value = tt }
 

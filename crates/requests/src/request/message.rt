@@ -119,10 +119,7 @@ fn body_bytes(body: Option<&[u8]>) -> &[u8]
 fn import_rows(alloc: Global, text: &[u8]) -> Read<Vec<ImportRow>>
     ensures { IfOk result (λ rows. mapped (λ v. v.items) rows ≡ import_rows text.now) }
 {
-    match read_import(alloc, text)? {
-        Ok(rows) => Ok(Ok(rows)),
-        Err(fault) => Ok(Err(Fault::of_import(fault))),
-    }
+    Ok(read_import(alloc, text)?.map_err(Fault::of_import))
 }
 
 /// The request of a body that is a JSON object.
