@@ -3,6 +3,7 @@ use Rattle.std.proofs.Common.{◌≡◌, inl, inr, ℕ, ◌+◌, ◌<◌, true, 
 use Rattle.std.specs.Prelude.{Contains}
 use Rattle.std.proofs.lemmas.Bool.{true≢false}
 use Rattle.std.proofs.lemmas.List.Elements.{Contains-append_right}
+use Rattle.sqlite.specs.State.{HasCleanDisk}
 use Rattle.sqlite.specs.Store.{Ghosts}
 use Rattle.sqlite_trees.specs.Tree.{Trees}
 use Rattle.registry.specs.declared.charter.Charter.{Charter}
@@ -19,7 +20,7 @@ use Rattle.registry.specs.declared.change.Change.{Change}
 use Rattle.registry.specs.declared.command.Command.{Command}
 use Rattle.store_tables.specs.TablesHold.{TablesHold}
 use Rattle.store_transactions.specs.Databases.{IsDeskTrees}
-use Rattle.store.specs.StoreRows.{HoldsAfter, IsRead, MayLeave, LeavesOnly}
+use Rattle.store.specs.StoreRows.{connection_state, HoldsAfter, IsRead, MayLeave, LeavesOnly, StoreView}
 use Rattle.desk.specs.Answer.{is_accepted, AnswersCommand, AnswersRequest, IsAnswered}
 use Rattle.desk.specs.CrashOutcomes.{asked_on, AreDurablyAnswered, IsDurablyAnswered, LeavesAlong, MayBeLeft, StaysOpen, pending_after, pending_after_all}
 use Rattle.desk.specs.Desk.{charter_of, HoldsHistory, HoldsRowsOf, IsOnCleanDisk}
@@ -107,10 +108,10 @@ module _ {S : Type 0} (g : Ghosts S) where
   read_leaves old new history asked other not read clean = λ pending left trees leaves. left trees (read.crash clean trees leaves)
 
   -- a change that failed may be found made
-  failed_leaves : (history : History) (day : ℕ) (caller : List ℕ) (command : Command) (change : Change) (reply : Reply) (old mid new : Desk S)
-      → IsRead g old.store mid.store → IsOnCleanDisk g mid → HoldsRowsOf g mid history
+  failed_leaves : (history : History) (day : ℕ) (caller : List ℕ) (command : Command) (change : Change) (reply : Reply) (old : Desk S) (mid : StoreView S) (new : Desk S)
+      → IsRead g old.store mid → HasCleanDisk (connection_state g mid) → HoldsRowsOf g mid history
       → IsAccepted (charter_of old) history day caller command change → AnswersAccepted command change reply → is_accepted reply ≡ true
-      → MayLeave g mid.store new.store (changed_rows change)
+      → MayLeave g mid new.store (changed_rows change)
       → LeavesAlong g (charter_of old) old history (λ pending. asked_on day caller (CommandRequest command) ∷ pending) new history
   failed_leaves history day caller command change reply old mid new read clean held accepted answers done crash pending left trees leaves =
       elim (crash trees leaves) [
@@ -120,10 +121,10 @@ module _ {S : Type 0} (g : Ghosts S) where
       ]
 
   -- a change that was made is left alone
-  made_leaves : (history : History) (day : ℕ) (caller : List ℕ) (command : Command) (change : Change) (to : List Asked → List Asked) (old mid new : Desk S)
-      → IsRead g old.store mid.store → HoldsRowsOf g mid history
+  made_leaves : (history : History) (day : ℕ) (caller : List ℕ) (command : Command) (change : Change) (to : List Asked → List Asked) (old : Desk S) (mid : StoreView S) (new : Desk S)
+      → IsRead g old.store mid → HoldsRowsOf g mid history
       → (accepted : IsAccepted (charter_of old) history day caller command change)
-      → LeavesOnly g mid.store new.store (changed_rows change)
+      → LeavesOnly g mid new.store (changed_rows change)
       → LeavesAlong g (charter_of old) old history to new accepted.after
   made_leaves history day caller command change to old mid new read held accepted only pending left trees leaves =
       let it = only held.0 held.2 trees leaves in
@@ -151,10 +152,10 @@ module _ {S : Type 0} (g : Ghosts S) where
   }
 
   -- a command whose change failed
-  pub failed_kept : (history : History) (day : ℕ) (caller : List ℕ) (command : Command) (change : Change) (reply : Reply) (old mid new : Desk S)
-      → IsRead g old.store mid.store → IsOnCleanDisk g mid → IsLegal (charter_of old) history → HoldsRowsOf g mid history → HoldsHistory g new history
+  pub failed_kept : (history : History) (day : ℕ) (caller : List ℕ) (command : Command) (change : Change) (reply : Reply) (old : Desk S) (mid : StoreView S) (new : Desk S)
+      → IsRead g old.store mid → HasCleanDisk (connection_state g mid) → IsLegal (charter_of old) history → HoldsRowsOf g mid history → HoldsHistory g new history
       → IsAccepted (charter_of old) history day caller command change → AnswersAccepted command change reply → is_accepted reply ≡ true
-      → MayLeave g mid.store new.store (changed_rows change)
+      → MayLeave g mid new.store (changed_rows change)
       → IsDurablyAnswered g (charter_of old) history (asked_on day caller (CommandRequest command)) Unavailable old new
   failed_kept history day caller command change reply old mid new read clean legal was held accepted answers done crash = record {
     answered = record { after = history; legal = legal; values = λ fit. fit; answers = refl; rows_after = held };
@@ -162,10 +163,10 @@ module _ {S : Type 0} (g : Ghosts S) where
   }
 
   -- what was answered where a command was accepted and its change was made
-  abbrev pub accepted_answer : GrowthIsLegal → GrowthFits → (history : History) (day : ℕ) (caller : List ℕ) (command : Command) (change : Change) (reply : Reply) (old mid new : Desk S)
+  abbrev pub accepted_answer : GrowthIsLegal → GrowthFits → (history : History) (day : ℕ) (caller : List ℕ) (command : Command) (change : Change) (reply : Reply) (old : Desk S) (mid : StoreView S) (new : Desk S)
       → EntryFits (record { day = day; caller = caller; command = command }) → IsLegal (charter_of old) history → HoldsRowsOf g mid history
       → IsAccepted (charter_of old) history day caller command change → AnswersAccepted command change reply
-      → HoldsAfter g mid.store new.store (changed_rows change) → IsOnCleanDisk g new → StaysOpen g new
+      → HoldsAfter g mid new.store (changed_rows change) → IsOnCleanDisk g new → StaysOpen g new
       → IsAnswered g (charter_of old) history day caller (CommandRequest command) reply new
   accepted_answer grown fits history day caller command change reply old mid new values legal held accepted answers applied clean opened = record {
     after = accepted.after;
@@ -181,10 +182,10 @@ module _ {S : Type 0} (g : Ghosts S) where
   }
 
   -- a command that was accepted, whose change was made
-  pub accepted_kept : GrowthIsLegal → GrowthFits → (history : History) (day : ℕ) (caller : List ℕ) (command : Command) (change : Change) (reply : Reply) (old mid new : Desk S)
-      → EntryFits (record { day = day; caller = caller; command = command }) → IsRead g old.store mid.store → IsLegal (charter_of old) history → HoldsRowsOf g mid history
+  pub accepted_kept : GrowthIsLegal → GrowthFits → (history : History) (day : ℕ) (caller : List ℕ) (command : Command) (change : Change) (reply : Reply) (old : Desk S) (mid : StoreView S) (new : Desk S)
+      → EntryFits (record { day = day; caller = caller; command = command }) → IsRead g old.store mid → IsLegal (charter_of old) history → HoldsRowsOf g mid history
       → IsAccepted (charter_of old) history day caller command change → AnswersAccepted command change reply
-      → HoldsAfter g mid.store new.store (changed_rows change) → LeavesOnly g mid.store new.store (changed_rows change) → IsOnCleanDisk g new → StaysOpen g new
+      → HoldsAfter g mid new.store (changed_rows change) → LeavesOnly g mid new.store (changed_rows change) → IsOnCleanDisk g new → StaysOpen g new
       → IsDurablyAnswered g (charter_of old) history (asked_on day caller (CommandRequest command)) reply old new
   accepted_kept grown fits history day caller command change reply old mid new values read legal held accepted answers applied only clean opened = record {
     answered = accepted_answer grown fits history day caller command change reply old mid new values legal held accepted answers applied clean opened;

@@ -1,5 +1,5 @@
 -- What the rows of a legal history say of it.
-use Rattle.std.proofs.Common.{◌≡◌, ℕ, Bool, true, false, List, refl, sym, ap, ◌∙◌, subst, arith, length, ◌-◌, Result, Ok, Err, IfOk, IsErrAnd}
+use Rattle.std.proofs.Common.{◌≡◌, ℕ, Bool, true, false, List, refl, sym, ap, ◌∙◌, subst, arith, length, ◌-◌, Result, Ok, Err, IsErrAnd}
 use Rattle.std.specs.Global.{Vec}
 use Rattle.std.proofs.lemmas.Bool.{false≢true, true≢false}
 use Rattle.registry.specs.History.{History}
@@ -14,11 +14,12 @@ use Rattle.desk.specs.declared.reply.Reply.{Reply}
 use Rattle.desk.specs.declared.reply.Reply.TheVariants.{Denied as DeniedReply, Done, Imported, Unavailable}
 use Rattle.desk.specs.declared.desk.Desk.{Desk}
 use Rattle.desk.specs.declared.desk.following.Decided.{Decided}
-use Rattle.desk.specs.Desk.{charter_of, HoldsRowsOf, IsOnCleanDisk, RowsStay, EachHistory, EachHeld}
+use Rattle.desk.specs.Desk.{IsOnCleanDisk, RowsStay, EachHeld}
 use Rattle.desk.specs.HolderAnswers.{may_change, may_except, OthersStay}
 use Rattle.desk.specs.steps.Accepting.{AnswersAccepted, Decides}
+use Rattle.sqlite.specs.State.{HasCleanDisk}
 use Rattle.sqlite.specs.Store.{Ghosts}
-use Rattle.store.specs.StoreRows.{StoreView, IsRead, OnCleanStore, HoldsAfter, EachHeldRows}
+use Rattle.store.specs.StoreRows.{connection_state, StoreView, IsRead, HoldsAfter}
 use Rattle.registry.specs.declared.authorization.ImportRow.{ImportRow}
 use Rattle.registry.specs.declared.command.Command.{Command}
 use Rattle.registry.specs.declared.command.Command.TheVariants.{Import}
@@ -40,10 +41,6 @@ rows_carried charter history day caller command change rows accepted has = recor
 -- ---- desks before and after
 
 module _ {S : Type 0} (g : Ghosts S) where
-  -- where the rows are kept, those of a history are
-  pub still_held : (old new : Desk S) (history : History) → RowsStay g old new → IsOnCleanDisk g new → HoldsRowsOf g old history → HoldsRowsOf g new history
-  still_held old new history keeps clean held = (held.0, held.1, keeps clean held.0 held.2)
-
   pub read_then : (a b c : StoreView S) → IsRead g a b → IsRead g b c → IsRead g a c
   read_then a b c first second = record {
     clean = λ clean. first.clean (second.clean clean);
@@ -53,33 +50,20 @@ module _ {S : Type 0} (g : Ghosts S) where
     crash = λ clean trees left. first.crash (second.clean clean) trees (second.crash clean trees left);
   }
 
-  -- what was found of the rows is so of the histories
-  pub of_held : {X E : Type 0} (so : X → AllRows → Type 0) (is : X → History → Type 0) (old new : Desk S)
-      → ((x : X) (rows : AllRows) (history : History) → IsLegal (charter_of old) history → HasRows rows history → so x rows → is x history)
-      → (r : Result X E) → OnCleanStore g new.store (IfOk r (λ x. EachHeldRows g old.store (so x))) → IfOk r (λ x. EachHeld g old new (is x))
-  of_held so is old new turn (Ok x) found = λ clean history legal held. turn x held.0 history legal held.1 (found clean held.0 held.2)
-  of_held so is old new turn (Err e) found = tt
-
-  -- what is so of the histories of the rows is so of those that the desk held
-  pub of_rows : {X E : Type 0} (is : X → History → Type 0) (old new : Desk S) (r : Result X E)
-      → IfOk r (λ x. EachHeld g old new (is x)) → IfOk r (λ x. EachHistory g old new (is x))
-  of_rows is old new (Ok x) found = λ clean history legal held. found clean history legal (held.0, held.1, held.2)
-  of_rows is old new (Err e) found = tt
-
   -- what is found after a first read is so of the histories before it
-  pub found_later : (so : History → Type 0) (old mid new : Desk S) → IsRead g old.store mid.store → IsRead g mid.store new.store → EachHeld g mid new so → EachHeld g old new so
+  pub found_later : (so : History → Type 0) (old mid new : StoreView S) → IsRead g old mid → IsRead g mid new → EachHeld g mid new so → EachHeld g old new so
   found_later so old mid new first second found clean history legal held =
-      found clean history (subst (λ (k : Charter). IsLegal k history) (sym first.charter) legal) (still_held old mid history first.rows (second.clean clean) held)
+      found clean history (subst (λ (k : Charter). IsLegal k history) (sym first.charter) legal) (held.0, held.1, first.rows (second.clean clean) held.0 held.2)
 
   -- where all rows are kept, so are those of other holders
   pub all_kept : (changes : List ℕ → Bool) (excepts : Bool) (old new : Desk S) → RowsStay g old new → IsOnCleanDisk g new → OthersStay g changes excepts old new
   all_kept changes excepts old new keeps clean rows holds = (rows, keeps clean rows holds, λ h other. refl, λ other. refl)
 
   -- and where a change was made of what the command names
-  pub changed_kept : (command : Command) (change : Change) (old mid new : Desk S) → IsOfCommand command change → RowsStay g old mid → IsOnCleanDisk g mid
-      → HoldsAfter g mid.store new.store (changed_rows change) → OthersStay g (may_change (CommandRequest command)) (may_except (CommandRequest command)) old new
-  changed_kept command change old mid new of keeps clean made rows holds =
-      (changed_rows change rows, made rows (keeps clean rows holds), λ h unnamed. others_left command change h (rows.of_holder h) of unnamed, files_left command change rows.files of)
+  pub changed_kept : (command : Command) (change : Change) (old : Desk S) (mid : StoreView S) (new : Desk S) → IsOfCommand command change → IsRead g old.store mid
+      → HasCleanDisk (connection_state g mid) → HoldsAfter g mid new.store (changed_rows change) → OthersStay g (may_change (CommandRequest command)) (may_except (CommandRequest command)) old new
+  changed_kept command change old mid new of read clean made rows holds =
+      (changed_rows change rows, made rows (read.rows clean rows holds), λ h unnamed. others_left command change h (rows.of_holder h) of unnamed, files_left command change rows.files of)
 
 -- ---- refusals
 
@@ -91,14 +75,14 @@ never_accepted : (refusal : Refusal) → is_accepted (refused_with refusal) ≡ 
 never_accepted (Denied rule row) = refl
 never_accepted Memory = refl
 
-module _ {S : Type 0} (g : Ghosts S) (day : ℕ) (caller : List ℕ) (command : Command) (old new : Desk S) where
+module _ {S : Type 0} (g : Ghosts S) (day : ℕ) (caller : List ℕ) (command : Command) (old new : StoreView S) where
   pub refuses : (refusal : Refusal) (r : Result Decided Reply) → IsErrAnd r (λ reply. reply ≡ refused_with refusal)
-      → EachHeld g old new (λ history. IsAnswer (charter_of old) history day caller command (Err refusal)) → Decides g day caller command old new r
+      → EachHeld g old new (λ history. IsAnswer old.charter history day caller command (Err refusal)) → Decides g day caller command old new r
   refuses refusal (Ok decided) none answer = absurd none
   refuses refusal (Err reply) is answer = rw is (record {
     shape = tt;
     enough = λ clean. tt;
-    answer = λ clean history legal held. refused_answers (charter_of old) history day caller command refusal (answer clean history legal held);
+    answer = λ clean history legal held. refused_answers old.charter history day caller command refusal (answer clean history legal held);
     never_done = never_accepted refusal;
   })
 

@@ -1,6 +1,7 @@
 -- What an accepted command makes of the day that is kept, over the histories before it and after it.
 use Rattle.std.proofs.Common.{◌≡◌, ℕ, ◌+◌, ◌<◌, List, [], ◌∷◌, ◌++◌, Option, length, get_or, take, refl, subst}
 use Rattle.std.specs.Global.{Vec}
+use Rattle.sqlite.specs.State.{HasCleanDisk}
 use Rattle.sqlite.specs.Store.{Ghosts}
 use Rattle.registry_laws.specs.Growth.{GrowthFits, GrowthIsLegal}
 use Rattle.registry.specs.Answer.{IsAccepted}
@@ -15,7 +16,7 @@ use Rattle.registry.specs.declared.change.Change.{Change}
 use Rattle.registry.specs.declared.change.Change.TheVariants.{Holders, Exceptions}
 use Rattle.registry.specs.declared.command.Command.{Command}
 use Rattle.store.specs.Given.{GivenOnce}
-use Rattle.store.specs.StoreRows.{HoldsAfter, IsRead, EachHeldRows}
+use Rattle.store.specs.StoreRows.{connection_state, HoldsAfter, IsRead, EachHeldRows, StoreView}
 use Rattle.desk.specs.Answer.{AnswersRequest, IsAnswered}
 use Rattle.desk.specs.CrashOutcomes.{StaysOpen}
 use Rattle.desk.specs.DayAfter.{DayAfter, DropsForGainAll, DropsForGain}
@@ -56,12 +57,12 @@ drop_more charter before middle after (x ∷ asked) (r ∷ replies) a reply old 
 
 module _ {S : Type 0} (g : Ghosts S) where
   -- the command was accepted and its change was made
-  pub accepted_drops : GrowthIsLegal → GrowthFits → (history : History) (day : ℕ) (caller : List ℕ) (command : Command) (change : Change) (reply : Reply) (old mid new : Desk S)
-      (one other : Option (Vec Auth)) → EntryFits (record { day = day; caller = caller; command = command }) → IsRead g old.store mid.store → IsOnCleanDisk g mid
+  pub accepted_drops : GrowthIsLegal → GrowthFits → (history : History) (day : ℕ) (caller : List ℕ) (command : Command) (change : Change) (reply : Reply) (old : Desk S) (mid : StoreView S) (new : Desk S)
+      (one other : Option (Vec Auth)) → EntryFits (record { day = day; caller = caller; command = command }) → IsRead g old.store mid → HasCleanDisk (connection_state g mid)
       → IsLegal (charter_of old) history → HoldsHistory g old history
       → IsAccepted (charter_of old) history day caller command change → AnswersAccepted command change reply
-      → HoldsAfter g mid.store new.store (changed_rows change) → IsOnCleanDisk g new → StaysOpen g new → HoldsRowsAndDay g old.store old.kept
-      → EachHeldRows g mid.store GivenOnce → EachHeldRows g old.store (AreEnoughFor change one other) → HasEditsOf command change
+      → HoldsAfter g mid new.store (changed_rows change) → IsOnCleanDisk g new → StaysOpen g new → HoldsRowsAndDay g old.store old.kept
+      → EachHeldRows g mid GivenOnce → EachHeldRows g old.store (AreEnoughFor change one other) → HasEditsOf command change
       → FollowsDay change one other old.kept new.kept
       → (is : IsAnswered g (charter_of old) history day caller (CommandRequest command) reply new)
       × DropsForGain (CommandRequest command) history is.after (day_of old.kept) (day_of new.kept)
@@ -73,7 +74,7 @@ module _ {S : Type 0} (g : Ghosts S) where
         drops_for_gain command change one other (charter_of old) was.0 history accepted.after old.kept new.kept is.legal
             (rows_carried (charter_of old) history day caller command change was.0 accepted was.1) (once was.0 held) (enough was.0 was.2) edits
             (kept_of g old history keeps (read.clean before) legal was)
-            (exceptions_held g old.store mid.store new.store old.kept first second was.0 keeps read before clean (opened clean) applied held) follows,
+            (exceptions_held g old.store mid new.store old.kept first second was.0 keeps read before clean (opened clean) applied held) follows,
       )
   accepted_drops grown fits history day caller command (Exceptions files) reply old mid new one other values read before legal was accepted answers applied clean opened keeps once enough edits follows = (
     accepted_answer g grown fits history day caller command (Exceptions files) reply old mid new values legal (was.0, was.1, read.rows before was.0 was.2) accepted answers applied clean opened,

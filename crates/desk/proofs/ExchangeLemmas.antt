@@ -25,14 +25,13 @@ use Rattle.registry.specs.declared.rule.Refusal.TheVariants.{Denied, Memory}
 use Rattle.policy.specs.PartAnswer.{ExchangesAuths}
 use Rattle.slurm.specs.SlurmSets.{union}
 use Rattle.sqlite.specs.Store.{Ghosts}
-use Rattle.desk.specs.Answer.{refused_with, AnswersWhatIf, AreStatesOn}
-use Rattle.desk.specs.Desk.{charter_of, IsOnCleanDisk, EachHeld}
-use Rattle.desk.specs.declared.desk.Desk.{Desk}
+use Rattle.store.specs.StoreRows.{OnCleanStore, StoreView}
+use Rattle.desk.specs.Answer.{refused_with, AnswersWhatIf}
+use Rattle.desk.specs.Desk.{EachHeld}
 use Rattle.desk.proofs.ExportLemmas.{states_on}
-use Rattle.desk.specs.steps.WhatIf.{IsDayOfHeld, WouldExchange}
+use Rattle.desk.specs.steps.WhatIf.{AreStatesOver, IsDayOfHeld, WouldExchange}
 use Rattle.daily_vrps.specs.Changes.{AreExchanged}
 use Rattle.daily_vrps.specs.Giving.{auths_of_rows}
-use Rattle.daily_vrps.specs.Days.{ExchangesVrps}
 use Rattle.daily_vrps.specs.KeptDay.{KeptDay}
 use Rattle.daily_vrps.proofs.DayLemmas.{day_of_history}
 use Rattle.daily_vrps.proofs.Exchanges.{exchanged_day}
@@ -147,23 +146,16 @@ would_exchange shared legally others_keep charter history after day caller holde
 
 -- ---- a day that is kept
 
-module _ {S : Type 0} (g : Ghosts S) (old new : Desk S) (k : KeptDay) (day : ℕ) (routes : List Route)
-    (states : List (Validity × Validity)) where
-  -- the states over what is kept are those on the history
-  pub judged_now : k.day ≡ day → (IsOnCleanDisk g new → IsDayOfHeld g old k)
-      → map state_of (states_now states) ≡ map (λ (r : Route). validation_state (set.items k.vrps) r) routes
-      → EachHeld g old new (λ history. AreStatesOn history day routes (states_now states))
-  judged_now on is judged clean history legal held =
-      states_on history day (set.items k.vrps)
-      (λ v. rw on at (day_of_history (charter_of old) held.0 history legal held.1 k (is clean history legal held) v))
-      routes (states_now states) judged
-
-  -- and those over an exchange of it are those on the history that it leaves
-  pub judged_after : (ended begun : List Auth) → k.day ≡ day → (IsOnCleanDisk g new → IsDayOfHeld g old k)
-      → HaveStates (AreExchanged k ended begun) routes (states_after states)
-      → EachHeld g old new (λ history. (after : History) → ExchangesVrps history after day ended begun
-      → AreStatesOn after day routes (states_after states))
-  judged_after ended begun on is judged clean history legal held after exchanges =
-      states_such (AreExchanged k ended begun) (IsVrpOn after day)
-      (exchanged_day (charter_of old) held.0 history after legal held.1 day ended begun k on (is clean history legal held) exchanges)
-      routes (states_after states) judged
+-- the states over what is kept are those on the history, and those over an exchange of it are those on what it leaves
+pub judged_over : {S : Type 0} (g : Ghosts S) (old new : StoreView S) (k : KeptDay) (day : ℕ) (ended begun : List Auth) (routes : List Route) (states : List (Validity × Validity))
+    → k.day ≡ day → OnCleanStore g new (IsDayOfHeld g old k)
+    → map state_of (states_now states) ≡ map (λ (r : Route). validation_state (set.items k.vrps) r) routes
+    → HaveStates (AreExchanged k ended begun) routes (states_after states)
+    → EachHeld g old new (λ history. AreStatesOver history day ended begun routes states)
+judged_over g old new k day ended begun routes states on is now later clean history legal held =
+    let of = is clean history legal held in (
+      states_on history day (set.items k.vrps) (λ v. rw on at (day_of_history old.charter held.0 history legal held.1 k of v)) routes (states_now states) now,
+      λ after exchanges.
+          states_such (AreExchanged k ended begun) (IsVrpOn after day)
+          (exchanged_day old.charter held.0 history after legal held.1 day ended begun k on of exchanges) routes (states_after states) later,
+    )

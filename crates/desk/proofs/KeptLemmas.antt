@@ -33,7 +33,7 @@ use Rattle.store_read.proofs.HeldAlike.{held_alike}
 use Rattle.store_tables.proofs.Once.{AreNumberedOnce, given_alike, once_by_numbers}
 use Rattle.store.specs.Given.{GivenOnce}
 use Rattle.store_read.specs.Loads.{AreFilesOf}
-use Rattle.store.specs.StoreRows.{connection_state, Holds, HoldsAfter, IsRead, EachHeldRows, StoreView}
+use Rattle.store.specs.StoreRows.{connection_state, Holds, HoldsAfter, IsRead, EachHeldRows, OnCleanStore, StoreView}
 use Rattle.desk.specs.Desk.{charter_of, HoldsHistory, IsOnCleanDisk, RowsStay, EachHistory, EachHeld}
 use Rattle.desk.specs.DeskView.{HoldsRowsAndDay}
 use Rattle.desk.specs.declared.desk.Desk.{Desk}
@@ -187,21 +187,21 @@ module _ {S : Type 0} (g : Ghosts S) where
           absurd (true≢false (sym (found registers (any registers)) ∙ found blank_rows (any blank_rows)))
 
   -- so what is kept is of the rows of each history that the tables hold
-  pub kept_held : (desk : Desk S) (k : KeptDay) (holder : List ℕ) (registered : Bool) → HoldsRowsAndDay g desk.store desk.kept → desk.kept ≡ Some k
-      → IsOnCleanDisk g desk → EachHeldRows g desk.store (λ rows. registered ≡ is_some (rows.of_holder holder)) → IsDayOfHeld g desk k
-  kept_held desk k holder registered keeps is clean found history legal held =
-      let opened = answered_open desk.store holder registered found in
+  pub kept_held : (store : StoreView S) (kept : Option KeptDay) (k : KeptDay) (holder : List ℕ) (registered : Bool) → HoldsRowsAndDay g store kept → kept ≡ Some k
+      → HasCleanDisk (connection_state g store) → EachHeldRows g store (λ rows. registered ≡ is_some (rows.of_holder holder)) → IsDayOfHeld g store k
+  kept_held store kept k holder registered keeps is clean found history legal held =
+      let opened = answered_open store holder registered found in
       let of = keeps clean in
       let one = of.1 clean opened in
       let other = held.2 clean opened in
-      day_alike desk.store.charter desk.store.charter of.0 held.0 _ (once_by_numbers _ held.0 _ other (numbers_once history held.0 held.1)) one other k
+      day_alike store.charter store.charter of.0 held.0 _ (once_by_numbers _ held.0 _ other (numbers_once history held.0 held.1)) one other k
       (subst (λ (kept : Option KeptDay). IfSome kept (IsDayOfRows of.0)) is of.2)
 
   -- a day that was read is of each history of the rows
-  pub day_read : (old new : Desk S) (k : KeptDay) → (IsOnCleanDisk g new → (rows : AllRows) → Holds g old.store rows → IsDayOfRows rows k)
+  pub day_read : (old new : StoreView S) (k : KeptDay) → OnCleanStore g new (EachHeldRows g old (λ rows. IsDayOfRows rows k))
       → EachHeld g old new (λ history. IsDayOf history k)
   day_read old new k found clean history legal held =
-      day_of_history (charter_of old) held.0 history legal held.1 k (found clean held.0 held.2)
+      day_of_history old.charter held.0 history legal held.1 k (found clean held.0 held.2)
 
   -- where the rows stay, and what is kept of a day, each history is held still
   pub held_where : (old new : Desk S) → HoldsRowsAndDay g old.store old.kept → (IsOnCleanDisk g new → IsOnCleanDisk g old)

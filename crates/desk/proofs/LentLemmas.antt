@@ -51,7 +51,7 @@ module _ {S : Type 0} (g : Ghosts S) where
 
   -- or was read, or could not be read
   pub prepared_anew : {T E : Type 0} (old new : Desk S) (day : ℕ) (r : Result T E) → day_of old.kept ≢ Some day → IsRead g old.store new.store
-      → OnOk r (day_of new.kept ≡ Some day) → OnErr r (new.kept ≡ None) → EachHeld g old new (λ history. IfSome new.kept (IsDayOf history))
+      → OnOk r (day_of new.kept ≡ Some day) → OnErr r (new.kept ≡ None) → EachHeld g old.store new.store (λ history. IfSome new.kept (IsDayOf history))
       → IsPrepared g day (is_ok r) old new
   prepared_anew old new day r differs read done failed found = record {
     read = read;

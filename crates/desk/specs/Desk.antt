@@ -25,9 +25,9 @@ charter_of desk = (store_of desk).charter
 abbrev pub IsOnCleanDisk : {S : Type 0} → Ghosts S → Desk S → Type 0
 IsOnCleanDisk g desk = HasCleanDisk (connection_state g (store_of desk))
 
--- the tables of the desk hold the rows of the history
-abbrev pub HoldsRowsOf : {S : Type 0} → Ghosts S → Desk S → History → Type 0
-HoldsRowsOf g desk history = (rows : AllRows) × HasRows rows history × Holds g (store_of desk) rows
+-- the tables hold the rows of the history
+abbrev pub HoldsRowsOf : {S : Type 0} → Ghosts S → StoreView S → History → Type 0
+HoldsRowsOf g store history = (rows : AllRows) × HasRows rows history × Holds g store rows
 
 -- Once the connection is shut, nothing is known of the tables. The kept day is then still that of the history.
 abbrev pub DayStaysWhileShut : {S : Type 0} → Ghosts S → Desk S → History → Type 0
@@ -48,9 +48,9 @@ EachHistory g old new so =
 
 -- this holds for each legal history whose rows the tables held before, if the disk returned what
 -- was written
-abbrev pub EachHeld : {S : Type 0} → Ghosts S → Desk S → Desk S → (History → Type 0) → Type 0
+abbrev pub EachHeld : {S : Type 0} → Ghosts S → StoreView S → StoreView S → (History → Type 0) → Type 0
 EachHeld g old new so =
-    IsOnCleanDisk g new → (history : History) → IsLegal (charter_of old) history
+    HasCleanDisk (connection_state g new) → (history : History) → IsLegal old.charter history
     → HoldsRowsOf g old history → so history
 
 -- the tables hold the rows that they held

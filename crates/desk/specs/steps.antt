@@ -2,4 +2,5 @@
 pub mod Accepting
 pub mod EditsGiven
 pub mod Following
+pub mod LookedUp
 pub mod WhatIf

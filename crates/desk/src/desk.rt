@@ -1,9 +1,7 @@
 //! The desk, and how it handles requests.
 ghost use Rattle.std.specs.Prelude.{◌≡◌, ◌≢◌, true, false, None, [], ◌∷◌, Err, IfOk, IfErr, OnOk, OnErr};
 ghost use Rattle.std.specs.List.{list_any};
-ghost use Rattle.registry.specs.Answer.{ListBasis, AnswersNumber};
 ghost use Rattle.registry.specs.History.{History};
-ghost use Rattle.registry.specs.Verdict.{auth_of_number};
 ghost use Rattle.sqlite.specs.Held.{state};
 ghost use Rattle.sqlite.specs.State.{HasCleanDisk};
 ghost use Rattle.sqlite.specs.Steps.{over_memory};
@@ -19,7 +17,7 @@ ghost use Rattle.desk.specs.Run.{AreAnswered};
 ghost use Rattle.desk.specs.HolderAnswers.{may_change, may_change_any, may_except, may_except_any};
 ghost use Rattle.desk.specs.HolderAnswers.{IsAnswerByEntries, OthersStay, RunsByEntries};
 ghost use Rattle.desk.specs.Desk.{charter_of, store_of, ContinuesHistories, HoldsHistory};
-ghost use Rattle.desk.specs.Desk.{IsOnCleanDisk, RowsStay, EachHistory, EachHeld};
+ghost use Rattle.desk.specs.Desk.{IsOnCleanDisk, RowsStay, EachHistory};
 ghost use Rattle.desk.specs.DeskView.{HoldsRowsAndDay};
 ghost use Rattle.desk.specs.DayAfter.{DayAfter, DayAfterAll, DropsForGainAll, DropsForGain};
 ghost use Rattle.desk.specs.Prepared.{day_of};
@@ -33,7 +31,7 @@ mod what_if;
 use crate::{Asked, Reply, Request};
 use addr::{Day, Name};
 use daily_vrps::DailyVrps;
-use registry::{Charter, HolderRows};
+use registry::Charter;
 use sqlite::{Alter, Connection, MemStore};
 use std::alloc::{AllocError, Global};
 use std::marker::Model;
@@ -270,30 +268,6 @@ impl<S: Alter> Desk<S> {
         ensures { HoldsRowsAndDay S.Store self.now.store self.now.kept }
     {
         let _kept = &self.kept;
-    }
-
-    /// The grants and the authorizations of the holder, as rows with nothing else.
-    fn load_listed(&mut self, holder: &Name) -> Result<HolderRows, StoreFault>
-        ensures read { IsRead S.Store self.old.store self.new.store }
-        ensures same { self.new.kept ≡ self.old.kept }
-        ensures rows { IfOk result (λ part. EachHeld S.Store self.old self.new (λ history.
-            ListBasis history holder.now part.grants.items part.auths.items)) }
-    {
-        store::laws::list_of_a_history();
-        self.store.load_listed(self.alloc, holder)
-    }
-
-    /// The grants of the holder and its authorization that has the number, as rows with nothing
-    /// else.
-    fn load_numbered(&mut self, holder: &Name, number: u32) -> Result<HolderRows, StoreFault>
-        ensures read { IsRead S.Store self.old.store self.new.store }
-        ensures same { self.new.kept ≡ self.old.kept }
-        ensures rows { IfOk result (λ part. EachHeld S.Store self.old self.new (λ history.
-            AnswersNumber history holder.now number part.grants.items
-            (auth_of_number number part.auths.items))) }
-    {
-        store::laws::number_of_a_history();
-        self.store.load_numbered(self.alloc, holder, number)
     }
 
     /// Returns the connection.

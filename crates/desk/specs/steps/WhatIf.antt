@@ -1,25 +1,20 @@
--- Steps of a what-if: what its changes are judged on, and which authorizations they would exchange.
-use Rattle.std.specs.Prelude.{ℕ, List, Option}
+-- Steps of a what-if: which authorizations its changes would exchange, and the states over that exchange.
+use Rattle.std.specs.Prelude.{ℕ, List}
+use Rattle.addr.specs.declared.route.Route.{Route}
 use Rattle.registry.specs.History.{History}
 use Rattle.registry.specs.HypotheticalHistory.{HypotheticalHistory}
-use Rattle.registry.specs.PartOfRows.{looked_for, IsPartIfAny}
-use Rattle.registry.specs.Rows.{Rows, RowsIfAny, rows_if_any}
 use Rattle.registry.specs.declared.authorization.Auth.{Auth}
 use Rattle.registry.specs.declared.charter.Charter.{Charter}
 use Rattle.registry.specs.declared.command.Proposed.{Proposed}
 use Rattle.registry.specs.Verdict.{IsLegal}
 use Rattle.daily_vrps.specs.Days.{ExchangesVrps, IsDayOfRows}
 use Rattle.daily_vrps.specs.KeptDay.{KeptDay}
+use Rattle.daily_vrps.specs.States.{states_after, states_now}
+use Rattle.payload.specs.declared.validity.Validity.{Validity}
 use Rattle.sqlite.specs.Store.{Ghosts}
-use Rattle.store.specs.declared.part.Part.{Part}
-use Rattle.desk.specs.Desk.{charter_of, HoldsRowsOf}
-use Rattle.desk.specs.declared.desk.Desk.{Desk}
-
--- the part has what the changes are judged on of the holder's rows
-abbrev pub IsEnoughFor : History → List ℕ → List Proposed → Part → Type 0
-IsEnoughFor history holder changes part =
-    (whole : Option Rows) × RowsIfAny history holder whole
-    × IsPartIfAny changes part.left_out (looked_for changes) whole (rows_if_any part.rows)
+use Rattle.store.specs.StoreRows.{StoreView}
+use Rattle.desk.specs.Answer.{AreStatesOn}
+use Rattle.desk.specs.Desk.{HoldsRowsOf}
 
 -- the exchange gives the VRPs of the history that the changes of the caller at the holder would leave
 abbrev pub WouldExchange :
@@ -28,8 +23,16 @@ WouldExchange charter before day caller holder changes ended begun =
     (after : History) × HypotheticalHistory charter day caller holder before changes after
     × ExchangesVrps before after day ended begun
 
+-- the states of the routes on the history, and on each history whose VRPs the exchange gives
+abbrev pub AreStatesOver :
+    History → ℕ → List Auth → List Auth → List Route → List (Validity × Validity) → Type 0
+AreStatesOver history day ended begun routes states =
+    AreStatesOn history day routes (states_now states)
+    × ((after : History) → ExchangesVrps history after day ended begun
+    → AreStatesOn after day routes (states_after states))
+
 -- the VRPs are those of the rows that the tables held, of each legal history whose rows these are
-abbrev pub IsDayOfHeld : {S : Type 0} → Ghosts S → Desk S → KeptDay → Type 0
-IsDayOfHeld g desk kept =
-    (history : History) → IsLegal (charter_of desk) history
-    → (held : HoldsRowsOf g desk history) → IsDayOfRows held.0 kept
+abbrev pub IsDayOfHeld : {S : Type 0} → Ghosts S → StoreView S → KeptDay → Type 0
+IsDayOfHeld g store kept =
+    (history : History) → IsLegal store.charter history
+    → (held : HoldsRowsOf g store history) → IsDayOfRows held.0 kept

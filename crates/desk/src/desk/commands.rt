@@ -17,7 +17,8 @@ use addr::{Day, Name};
 use policy::Facts;
 use registry::{Auth, Change, Command, HolderRows};
 use sqlite::Alter;
-use store::Loaded;
+use std::alloc::Global;
+use store::{Loaded, Store};
 
 /// The reply to a command that is accepted with this change.
 fn accepted(command: &Command, change: &Change) -> Reply
@@ -45,6 +46,37 @@ fn auths_of(rows: Option<HolderRows>) -> Option<Vec<Auth>>
         Some(HolderRows { auths, .. }) => Some(auths),
         None => None,
     }
+}
+
+/// The change that the command makes, or the reply that refuses it.
+fn decide<S: Alter>(
+    store: &mut Store<S>,
+    alloc: Global,
+    day: Day,
+    caller: &Name,
+    command: &Command,
+) -> Result<Decided, Reply>
+    ensures read { IsRead S.Store store.old store.new }
+    ensures decides { Decides S.Store day caller.now command.now store.old store.new result }
+{
+    store::laws::facts_of_a_history();
+    let Loaded {
+        rows,
+        taker,
+        answers,
+    } = store.load_for(alloc, command)?;
+    let facts = Facts {
+        rows: rows.as_ref(),
+        taker: taker.as_ref(),
+        answers,
+    };
+    let charter = store.charter();
+    let change = policy::judge(alloc, charter, facts, day, caller, command)?;
+    Ok(Decided {
+        change,
+        first: auths_of(rows),
+        second: auths_of(taker),
+    })
 }
 
 impl<S: Alter> Desk<S> {
@@ -77,8 +109,7 @@ impl<S: Alter> Desk<S> {
         registry::laws::entry_fits(day, caller, command);
         registry_laws::histories::growth_is_legal();
         registry_laws::histories::growth_fits();
-        self.keeps_its_rows();
-        let decided = match self.decide(day, caller, command) {
+        let decided = match decide(&mut self.store, self.alloc, day, caller, command) {
             Ok(decided) => decided,
             Err(refused) => return refused,
         };
@@ -90,32 +121,5 @@ impl<S: Alter> Desk<S> {
             }
             Err(_) => Reply::Unavailable,
         }
-    }
-
-    /// The change that the command makes, or the reply that refuses it.
-    fn decide(&mut self, day: Day, caller: &Name, command: &Command) -> Result<Decided, Reply>
-        ensures read { IsRead S.Store self.old.store self.new.store }
-        ensures same { self.new.kept ≡ self.old.kept }
-        ensures decides { Decides S.Store day caller.now command.now self.old self.new result }
-    {
-        store::laws::facts_of_a_history();
-        let alloc = self.alloc;
-        let Loaded {
-            rows,
-            taker,
-            answers,
-        } = self.store.load_for(alloc, command)?;
-        let facts = Facts {
-            rows: rows.as_ref(),
-            taker: taker.as_ref(),
-            answers,
-        };
-        let charter = self.store.charter();
-        let change = policy::judge(alloc, charter, facts, day, caller, command)?;
-        Ok(Decided {
-            change,
-            first: auths_of(rows),
-            second: auths_of(taker),
-        })
     }
 }

@@ -140,7 +140,7 @@ impl<S: Alter> Desk<S> {
         ensures read { IsRead S.Store self.old.store self.new.store }
         ensures ok { OnOk result (day_of self.new.kept ≡ Some day) }
         ensures err { OnErr result (self.new.kept ≡ None) }
-        ensures found { EachHeld S.Store self.old self.new (λ history.
+        ensures found { EachHeld S.Store self.old.store self.new.store (λ history.
             IfSome self.new.kept (IsDayOf history)) }
     {
         self.kept.take();

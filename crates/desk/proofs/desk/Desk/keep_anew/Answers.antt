@@ -15,5 +15,4 @@ invariant_of-self-2 g c =
 pub returns-clause-found : goal.returns-clause-found
 returns-clause-found g c =
     rw (c.replace.ensures.after, ← c.self.view_is)
-    (day_read g.S.Store (record { store = c.self.inside.store; kept = c.self.inside.kept }) (record { store = c.kept_on.new.store; kept = c.replace.new.self })
-    c.in_ok-kept.kept c.in_ok-kept.ensures.kept)
+    (day_read g.S.Store c.self.inside.store c.kept_on.new.store c.in_ok-kept.kept c.in_ok-kept.ensures.kept)

@@ -1,63 +1,91 @@
-use Rattle.std.proofs.Common.{ap}
+use Rattle.std.proofs.Common.{◌≡◌, ℕ, false, List, Option, Result, Ok, Err, IfOk, refl}
+use Rattle.daily_vrps.specs.KeptDay.{KeptDay}
+use Rattle.registry.specs.declared.command.Query.{Query}
+use Rattle.registry.specs.declared.command.Query.TheVariants.{Show, Content, List as ListQuery, Payloads, Validity, WhatIf}
+use Rattle.sqlite.specs.Store.{Ghosts}
+use Rattle.store.specs.StoreRows.{IsRead, StoreView}
+use Rattle.desk.specs.Answer.{is_accepted, AnswersQuery}
+use Rattle.desk.specs.DayAfter.{DayAfterQuery}
+use Rattle.desk.specs.Desk.{charter_of, HoldsHistory, EachHistory, EachHeld}
+use Rattle.desk.specs.DeskView.{HoldsRowsAndDay}
 use Rattle.desk.specs.Prepared.{day_of}
-use Rattle.desk.specs.Answer.{AnswersContent, AnswersList, AnswersShow, AnswersWhatIf}
-use Rattle.desk.specs.Desk.{charter_of}
-use Rattle.desk.proofs.DeskLemmas.{of_rows}
-use Rattle.desk.proofs.KeptLemmas.{held_read}
+use Rattle.desk.specs.steps.Following.{reply_of}
+use Rattle.desk.specs.steps.LookedUp.{IsLookedUp}
+use Rattle.desk.specs.declared.desk.Desk.{Desk}
+use Rattle.desk.specs.declared.reply.Reply.{Reply}
+use Rattle.desk.proofs.DeskLemmas.{query_unavailable}
+use Rattle.desk.proofs.KeptLemmas.{held_read, kept_read}
 use Rattle.desk.proofs.desk.Desk.look_up.Goals as goal
 
-pub returns-in-Show-clause-held : goal.returns-in-Show-clause-held
-returns-in-Show-clause-held g c = held_read g.S.Store c.args.self.now c.show.new.self c.keeps_its_rows.ensures c.show.ensures.read c.show.ensures.same
+module _ {S E : Type 0} (g : Ghosts S) (day : ℕ) (caller : List ℕ) (query : Query) where
+  -- a fault is reported as Unavailable, which answers each query
+  looked_up : (old new : Desk S) (r : Result Reply E) → IsRead g old.store new.store → EachHistory g old new (HoldsHistory g new)
+      → DayAfterQuery day query (reply_of r) (day_of old.kept) (day_of new.kept) → IfOk r (λ reply. is_accepted reply ≡ false)
+      → IfOk r (λ reply. EachHistory g old new (λ history. AnswersQuery (charter_of old) history day caller query reply))
+      → IsLookedUp g day caller query (reply_of r) old new
+  looked_up old new (Ok reply) read held moved not answered = record { read = read; held = held; answered = answered; kept_day = moved; never_done = not }
+  looked_up old new (Err fault) read held moved not answered = record {
+    read = read;
+    held = held;
+    answered = λ clean history legal was. query_unavailable (charter_of old) history day caller query;
+    kept_day = moved;
+    never_done = refl;
+  }
 
-pub returns-in-Show-clause-answered : goal.returns-in-Show-clause-answered
-returns-in-Show-clause-answered g c =
-    rw c.in-Show.is (of_rows g.S.Store (λ reply history. AnswersShow history c.in-Show.holder c.args.day c.args.caller.now c.in-Show.number reply)
-    c.args.self.now c.show.new.self c.show.result c.show.ensures.answered)
+  of_rows : (old new : Desk S) (r : Result Reply E) → IfOk r (λ reply. EachHeld g old.store new.store (λ history. AnswersQuery (charter_of old) history day caller query reply))
+      → IfOk r (λ reply. EachHistory g old new (λ history. AnswersQuery (charter_of old) history day caller query reply))
+  of_rows old new (Ok reply) found = λ clean history legal held. found clean history legal (held.0, held.1, held.2)
+  of_rows old new (Err fault) found = tt
 
-pub returns-in-Content-clause-held : goal.returns-in-Content-clause-held
-returns-in-Content-clause-held g c = held_read g.S.Store c.args.self.now c.content.new.self c.keeps_its_rows.ensures c.content.ensures.read c.content.ensures.same
+  -- the store was asked alone, and the kept day stays
+  asked_alone : (inside asked : StoreView S) (kept : Option KeptDay) (r : Result Reply E) → DayAfterQuery day query (reply_of r) (day_of kept) (day_of kept)
+      → HoldsRowsAndDay g inside kept → IsRead g inside asked → IfOk r (λ reply. is_accepted reply ≡ false)
+      → IfOk r (λ reply. EachHeld g inside asked (λ history. AnswersQuery inside.charter history day caller query reply))
+      → IsLookedUp g day caller query (reply_of r) (record { store = inside; kept = kept }) (record { store = asked; kept = kept })
+  asked_alone inside asked kept r stays keeps read not answered =
+      let old : Desk S = record { store = inside; kept = kept } in
+      let new : Desk S = record { store = asked; kept = kept } in
+      looked_up old new r read (held_read g old new keeps read refl) stays not (of_rows old new r answered)
 
-pub returns-in-Content-clause-answered : goal.returns-in-Content-clause-answered
-returns-in-Content-clause-answered g c =
-    rw c.in-Content.is (of_rows g.S.Store (λ reply history. AnswersContent history c.in-Content.holder c.args.day c.args.caller.now c.in-Content.number reply)
-    c.args.self.now c.content.new.self c.content.result c.content.ensures.answered)
+pub returns-in-Show : goal.returns-in-Show
+returns-in-Show g c =
+    rw (← c.self.view_is, c.in-Show.is) (asked_alone g.S.Store c.args.day c.args.caller.now (Show c.in-Show.holder c.in-Show.number)
+    c.self.inside.store c.show.new.store c.self.inside.kept c.show.result refl c.self.invariant c.show.ensures.read c.show.ensures.never_done c.show.ensures.answered)
 
-pub returns-in-List-clause-held : goal.returns-in-List-clause-held
-returns-in-List-clause-held g c = held_read g.S.Store c.args.self.now c.list.new.self c.keeps_its_rows.ensures c.list.ensures.read c.list.ensures.same
+pub returns-in-Content : goal.returns-in-Content
+returns-in-Content g c =
+    rw (← c.self.view_is, c.in-Content.is) (asked_alone g.S.Store c.args.day c.args.caller.now (Content c.in-Content.holder c.in-Content.number)
+    c.self.inside.store c.content.new.store c.self.inside.kept c.content.result refl c.self.invariant c.content.ensures.read c.content.ensures.never_done c.content.ensures.answered)
 
-pub returns-in-List-clause-answered : goal.returns-in-List-clause-answered
-returns-in-List-clause-answered g c =
-    rw c.in-List.is (of_rows g.S.Store (λ reply history. AnswersList history c.in-List.holder c.args.day c.args.caller.now reply)
-    c.args.self.now c.list.new.self c.list.result c.list.ensures.answered)
+pub returns-in-List : goal.returns-in-List
+returns-in-List g c =
+    rw (← c.self.view_is, c.in-List.is) (asked_alone g.S.Store c.args.day c.args.caller.now (ListQuery c.in-List.holder)
+    c.self.inside.store c.list.new.store c.self.inside.kept c.list.result refl c.self.invariant c.list.ensures.read c.list.ensures.never_done c.list.ensures.answered)
 
-pub returns-in-Payloads-clause-answered : goal.returns-in-Payloads-clause-answered
-returns-in-Payloads-clause-answered g c = rw c.in-Payloads.is c.export.ensures.answered
+pub returns-in-WhatIf : goal.returns-in-WhatIf
+returns-in-WhatIf g c =
+    rw (← c.self.view_is, c.in-WhatIf.is) (asked_alone g.S.Store c.args.day c.args.caller.now (WhatIf c.in-WhatIf.holder c.in-WhatIf.changes c.in-WhatIf.routes)
+    c.self.inside.store c.what_if.new.store c.self.inside.kept c.what_if.result refl c.self.invariant c.what_if.ensures.read c.what_if.ensures.never_done
+    (rw (c.deref-in-WhatIf.ensures.value, c.deref-in-WhatIf-2.ensures.value) at c.what_if.ensures.answered))
 
-pub returns-in-Validity-clause-answered : goal.returns-in-Validity-clause-answered
-returns-in-Validity-clause-answered g c = rw c.in-Validity.is (rw c.deref.ensures.value at c.validity.ensures.answered)
+pub returns-in-Payloads : goal.returns-in-Payloads
+returns-in-Payloads g c =
+    rw c.in-Payloads.is (looked_up g.S.Store c.args.day c.args.caller.now Payloads c.args.self.now c.export.new.self c.export.result
+    c.export.ensures.read c.export.ensures.held c.export.ensures.moved c.export.ensures.never_done c.export.ensures.answered)
 
-pub returns-in-WhatIf-clause-held : goal.returns-in-WhatIf-clause-held
-returns-in-WhatIf-clause-held g c = held_read g.S.Store c.args.self.now c.what_if.new.self c.keeps_its_rows.ensures c.what_if.ensures.read c.what_if.ensures.same
+pub returns-in-Validity : goal.returns-in-Validity
+returns-in-Validity g c =
+    rw c.in-Validity.is (looked_up g.S.Store c.args.day c.args.caller.now (Validity c.in-Validity.routes) c.args.self.now c.validity.new.self c.validity.result
+    c.validity.ensures.read c.validity.ensures.held c.validity.ensures.moved c.validity.ensures.never_done (rw c.deref.ensures.value at c.validity.ensures.answered))
 
-pub returns-in-WhatIf-clause-answered : goal.returns-in-WhatIf-clause-answered
-returns-in-WhatIf-clause-answered g c =
-    rw c.in-WhatIf.is (of_rows g.S.Store (λ reply history. AnswersWhatIf (charter_of c.args.self.now) history c.args.day c.args.caller.now c.in-WhatIf.holder c.in-WhatIf.changes.items c.in-WhatIf.routes.items reply)
-    c.args.self.now c.what_if.new.self c.what_if.result (rw (c.deref-in-WhatIf.ensures.value, c.deref-in-WhatIf-2.ensures.value) at c.what_if.ensures.answered))
+pub invariant_of-self : goal.invariant_of-self
+invariant_of-self g c = kept_read g.S.Store c.self.inside.store c.show.new.store c.self.inside.kept c.self.invariant c.show.ensures.read
 
-pub returns-in-Show-clause-kept_day : goal.returns-in-Show-clause-kept_day
-returns-in-Show-clause-kept_day g c = rw c.in-Show.is (ap day_of c.show.ensures.same)
+pub invariant_of-self-in-Content : goal.invariant_of-self-in-Content
+invariant_of-self-in-Content g c = kept_read g.S.Store c.self.inside.store c.content.new.store c.self.inside.kept c.self.invariant c.content.ensures.read
 
-pub returns-in-Content-clause-kept_day : goal.returns-in-Content-clause-kept_day
-returns-in-Content-clause-kept_day g c = rw c.in-Content.is (ap day_of c.content.ensures.same)
+pub invariant_of-self-in-List : goal.invariant_of-self-in-List
+invariant_of-self-in-List g c = kept_read g.S.Store c.self.inside.store c.list.new.store c.self.inside.kept c.self.invariant c.list.ensures.read
 
-pub returns-in-List-clause-kept_day : goal.returns-in-List-clause-kept_day
-returns-in-List-clause-kept_day g c = rw c.in-List.is (ap day_of c.list.ensures.same)
-
-pub returns-in-WhatIf-clause-kept_day : goal.returns-in-WhatIf-clause-kept_day
-returns-in-WhatIf-clause-kept_day g c = rw c.in-WhatIf.is (ap day_of c.what_if.ensures.same)
-
-pub returns-in-Payloads-clause-kept_day : goal.returns-in-Payloads-clause-kept_day
-returns-in-Payloads-clause-kept_day g c = rw c.in-Payloads.is c.export.ensures.moved
-
-pub returns-in-Validity-clause-kept_day : goal.returns-in-Validity-clause-kept_day
-returns-in-Validity-clause-kept_day g c = rw c.in-Validity.is c.validity.ensures.moved
+pub invariant_of-self-in-WhatIf : goal.invariant_of-self-in-WhatIf
+invariant_of-self-in-WhatIf g c = kept_read g.S.Store c.self.inside.store c.what_if.new.store c.self.inside.kept c.self.invariant c.what_if.ensures.read

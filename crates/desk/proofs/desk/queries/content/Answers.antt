@@ -1,4 +1,4 @@
-use Rattle.desk.proofs.desk.Desk.content.Goals as goal
+use Rattle.desk.proofs.desk.queries.content.Goals as goal
 
 pub returns-in-Some-clause-answered : goal.returns-in-Some-clause-answered
 returns-in-Some-clause-answered g c clean history legal held =
