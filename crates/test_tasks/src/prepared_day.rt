@@ -49,17 +49,15 @@ const AFTER_SETUP: [((&str, &str, &str, &str), &str); 4] = [
     (("reg", "PUT", "/slurms", "{"), "HTTP/1.1 400 "),
 ];
 
-/// The desk answers the requests of `SETUP`, and then that of a row of `AFTER_SETUP` so, and the
-/// day is kept then.
+/// The desk answers the requests, the last of them so, and the day is kept then.
 fn assert_kept_after(
     test: &impl Abort,
     rt: &HostRuntime,
     desk: &mut Desk<MemStore>,
-    (last, begins): ((&str, &str, &str, &str), &str),
+    texts: &[String],
+    begins: &str,
 ) {
-    let mut texts = requests(test, rt.alloc(), &SETUP);
-    add_requests(test, rt.alloc(), &[last], &mut texts);
-    let served = serve(test, rt, rt, desk, &texts, AfterText::ShutsWriting);
+    let served = serve(test, rt, rt, desk, texts, AfterText::ShutsWriting);
     let answer = served.answers.last().expect(test, "an answer");
     assert!(test; answer.as_str().starts_with(begins), "{}", answer.as_str());
     assert!(test; desk.kept() == Some(first_of_march(test)), "{begins}");
@@ -67,9 +65,11 @@ fn assert_kept_after(
 
 #[test]
 fn the_day_is_kept_after_each_connection(rt: HostRuntime) {
-    for row in &AFTER_SETUP {
+    for (last, begins) in &AFTER_SETUP {
+        let mut texts = requests(&rt, rt.alloc(), &SETUP);
+        add_requests(&rt, rt.alloc(), &[*last], &mut texts);
         let mut desk = desk_in_memory(&rt);
-        assert_kept_after(&rt, &rt, &mut desk, *row);
+        assert_kept_after(&rt, &rt, &mut desk, &texts, begins);
     }
 }
 
@@ -195,6 +195,30 @@ fn desk_with_one(test: &impl Abort, alloc: Global) -> Desk<MemStore> {
     match try_desk(alloc) {
         Some(desk) => desk,
         None => try_desk(alloc).expect(test, "a desk"),
+    }
+}
+
+const WHAT_IF: (&str, &str, &str, &str) = (
+    "ann",
+    "POST",
+    "/holders/alpha/whatif",
+    "{\"changes\":[{\"do\":\"withdraw\",\"number\":1}],\
+    \"routes\":[{\"prefix\":\"192.0.2.0/24\",\"origin\":64496}]}",
+);
+
+/// A what-if as the first request, and one after an accepted SLURM set.
+const WHAT_IFS: [&[(&str, &str, &str, &str)]; 2] = [
+    &[WHAT_IF],
+    &[("reg", "PUT", "/slurms", NO_FILES), WHAT_IF],
+];
+
+/// A what-if keeps no day itself.
+#[test]
+fn the_day_is_kept_before_a_what_if(rt: HostRuntime) {
+    for parts in &WHAT_IFS {
+        let texts = requests(&rt, rt.alloc(), parts);
+        let mut desk = desk_with_one(&rt, rt.alloc());
+        assert_kept_after(&rt, &rt, &mut desk, &texts, "HTTP/1.1 200 ");
     }
 }
 
