@@ -1,14 +1,5 @@
 -- Intervals of addresses: what contains and overlaps say of each address.
-use Rattle.std.proofs.Common.{◌≡◌, ℕ, ◌+◌, ◌-◌, ◌*◌, ◌/◌, ◌%◌, ◌^◌, ◌≤◌, ◌<◌, true, lit≤, ◌&&◌, nat_le, arith, ◌↔◌, IsTrue, inl, inr, ap, ◌∙◌, suc}
-use Rattle.std.proofs.lemmas.Bool.{cases_lt}
-use Rattle.std.proofs.lemmas.Bool.Decides.{nat_tests}
-use Rattle.std.proofs.lemmas.Nat.{pow_pos, pow-add, div-add-mod', div_below, mod-pow-add}
-use Rattle.std.proofs.Math.Nat.{mul-le-mul_right, suc-mul}
-use Rattle.addr.specs.Family.{width, family_eq}
-use Rattle.addr.specs.Address.{Address, is_between, last_of, contains, overlaps, Contains, Overlaps}
-use Rattle.addr.specs.declared.family.Family.{Family}
-use Rattle.addr.specs.declared.family.Family.TheVariants.{V4, V6}
-use Rattle.addr.specs.declared.prefix.Prefix.{Prefix}
+use Rattle.addr.proofs.Vocabulary.{◌≡◌, ℕ, ◌+◌, ◌-◌, ◌*◌, ◌/◌, ◌%◌, ◌^◌, ◌≤◌, ◌<◌, true, lit≤, ◌&&◌, nat_le, arith, ◌↔◌, IsTrue, inl, inr, ap, ◌∙◌, suc, cases_lt, nat_tests, pow_pos, pow-add, div-add-mod', div_below, mod-pow-add, mul-le-mul_right, suc-mul, width, family_eq, Address, is_between, last_of, contains, overlaps, Contains, Overlaps, Family, V4, V6, Prefix}
 use Rattle.addr.proofs.Equality.{family_tells}
 
 pub width_small : (f : Family) → width f ≤ 128

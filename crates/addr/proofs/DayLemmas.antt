@@ -1,18 +1,11 @@
 -- Days: their numbers, and their texts.
-use Rattle.std.proofs.Common.{◌≡◌, ℕ, ◌+◌, ◌*◌, ◌/◌, ◌≤◌, ℤ, pos, negsuc, ◌-ℤ◌, ◌*ℤ◌, ◌≤ℤ◌, Some, ap, subst, ◌∙◌, arith, zero, suc, ◌%◌, ◌<◌, inl, inr, true, false, ◌+ℤ◌, ◌<ℤ◌, sym, refl, rules}
-use Rattle.std.specs.Prelude.{int_div, unsigned_abs, int_lt}
+use Rattle.addr.proofs.Vocabulary.{◌≡◌, ℕ, ◌+◌, ◌*◌, ◌/◌, ◌≤◌, ℤ, pos, negsuc, ◌-ℤ◌, ◌*ℤ◌, ◌≤ℤ◌, Some, ap, subst, ◌∙◌, arith, zero, suc, ◌%◌, ◌<◌, inl, inr, true, false, ◌+ℤ◌, ◌<ℤ◌, sym, refl, rules, int_div, unsigned_abs, int_lt, signed_arith, epoch_day, IsYmd, IsDay, from_1970, digit, two_digits, four_digits, day_number, day_in, date_text, is_calendar_day, and_from, le-leb, nat_tests, ints, by_lt_z, days_in_month_bounds}
 use Rattle.std.specs.Int.{FitsUnsignedBits, IsInRange}
 use Rattle.jiff_core.specs.declared.civil.date.Date.{Date}
 use Rattle.jiff_core.specs.Calendar.{days_from_civil, days_in_month}
-use Rattle.jiff_core.proofs.SignedLemmas.{signed_arith}
 use Rattle.jiff_core.proofs.StandardFacts.{known_days}
 use Rattle.jiff_core.proofs.DateLemmas.{epoch_day_range, epoch_day-lt, epoch_day-ordinal, days_from_civil-day}
-use Rattle.jiff.specs.Words.{epoch_day, IsYmd}
-use Rattle.addr.specs.Day.{IsDay, from_1970, digit, two_digits, four_digits, day_number, day_in, date_text, is_calendar_day, last_year, last_month, year_of, month_of, day_of, day_text}
-use Rattle.std.proofs.lemmas.Bool.{and_from, le-leb}
-use Rattle.std.proofs.lemmas.Bool.Decides.{nat_tests}
-use Rattle.std.proofs.lemmas.Int.{ints, by_lt_z}
-use Rattle.jiff_core.proofs.CalendarLemmas.{days_in_month_bounds}
+use Rattle.addr.specs.Day.{last_year, last_month, year_of, month_of, day_of_month, day_text}
 
 pub epoch_is_zero : (d : Date) → IsYmd (pos 1970) (pos 1) (pos 1) d → epoch_day d ≡ pos 0
 epoch_is_zero d h =
@@ -182,8 +175,8 @@ month_of_is : (d : Date) (y n : ℕ) → d.year ≡ pos y → epoch_day d ≡ po
 unfolding month_of
 month_of_is d y n e day = rw (year_of_is d y n e day) (last_month_is d y n 12 e day d.month_in.1 (omega arith))
 
-day_of_is : (d : Date) (y n : ℕ) → d.year ≡ pos y → epoch_day d ≡ pos n → day_of n ≡ d.day
-unfolding day_of
+day_of_is : (d : Date) (y n : ℕ) → d.year ≡ pos y → epoch_day d ≡ pos n → day_of_month n ≡ d.day
+unfolding day_of_month
 day_of_is d y n e day =
     rw (year_of_is d y n e day, month_of_is d y n e day)
     (let place = month_begins d n day in

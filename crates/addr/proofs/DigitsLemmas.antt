@@ -1,14 +1,5 @@
-use Rattle.std.proofs.lemmas.List.{take_all}
-use Rattle.std.proofs.Common.{◌≡◌, ℕ, ◌-◌, ◌^◌, ◌<◌, ◌≤◌, ◌∷◌, length, take, drop, arith, List, true, Some, None, Option, ap, subst, ◌∙◌, sym, refl, inl, inr, cond, nat_eq, false, true≢false}
-use Rattle.std.specs.Fmt.{decimal}
-use Rattle.std.specs.Str.{IsUtf8}
-use Rattle.std.specs.Str.Parse.{digits_value}
-use Rattle.std.specs.Cmp.Lexicographic.{pointwise, bytes_decides}
-use Rattle.std.proofs.lemmas.Fmt.{decimal_is_IsNumeral, IsAscii-decimal}
-use Rattle.std.proofs.lemmas.Str.{IsUtf8-from_ascii}
-use Rattle.std.proofs.lemmas.Option.{none-some, same_Some}
-use Rattle.std.proofs.lemmas.Bool.{and_parts, and_from, cases_Bool, ltb-true, lt-ltb}
-use Rattle.addr.specs.Digits.{writes, number_in}
+use Rattle.addr.proofs.Vocabulary.{take_all, ◌≡◌, ℕ, ◌-◌, ◌^◌, ◌<◌, ◌≤◌, ◌∷◌, length, take, drop, arith, List, true, Some, None, Option, ap, subst, ◌∙◌, sym, refl, inl, inr, cond, nat_eq, false, true≢false, decimal, IsUtf8, digits_value, pointwise, bytes_decides, decimal_is_IsNumeral, IsAscii-decimal, IsUtf8-from_ascii, none-some, same_Some, and_parts, and_from, cases_Bool, ltb-true, lt-ltb, writes}
+use Rattle.addr.specs.Digits.{number_in}
 
 pub utf8_decimal : (text : List ℕ) (n : ℕ) → n < 2 ^ 64 → text ≡ decimal n → IsUtf8 text
 utf8_decimal text n h e = subst IsUtf8 (sym e) (IsUtf8-from_ascii (decimal n) (IsAscii-decimal n h))

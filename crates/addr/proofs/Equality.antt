@@ -1,13 +1,5 @@
 -- Tests of equality that pass, and what they say.
-use Rattle.std.proofs.Common.{◌≡◌, ◌≢◌, ◌⊎◌, inl, inr, true, false, refl, subst, arith, ◌&&◌, ◌==◌}
-use Rattle.std.proofs.lemmas.Bool.{and_parts, and_from, eqb-true, eq-eqb}
-use Rattle.addr.specs.Address.{prefix_eq, same_prefix}
-use Rattle.addr.specs.Family.{family_eq}
-use Rattle.addr.specs.declared.family.Family.{Family}
-use Rattle.addr.specs.declared.family.Family.TheVariants.{V4, V6}
-use Rattle.addr.specs.Spans.{span_eq, same_span}
-use Rattle.addr.specs.declared.prefix.Prefix.{Prefix}
-use Rattle.addr.specs.declared.span.Span.{Span}
+use Rattle.addr.proofs.Vocabulary.{◌≡◌, ◌≢◌, ◌⊎◌, inl, inr, true, false, refl, subst, arith, ◌&&◌, ◌==◌, and_parts, and_from, eqb-true, eq-eqb, prefix_eq, same_prefix, family_eq, Family, V4, V6, span_eq, same_span, Prefix, Span}
 
 -- what the test means, for `grind`
 pub family_tells : (f g : Family) → ((family_eq f g ≡ true) × (f ≡ g)) ⊎ ((family_eq f g ≡ false) × (f ≢ g))

@@ -12,3 +12,4 @@ mod NameLemmas
 pub mod PrefixTextLemmas
 pub mod PrefixGroupsLemmas
 pub mod PrefixSpellingLemmas
+pub mod Vocabulary

@@ -1,14 +1,5 @@
-use Rattle.std.proofs.Common.{◌≡◌, ℕ, ◌-◌, ◌<◌, List, ◌++◌, true, get_or, length, take, refl, arith, IsTrue}
-use Rattle.std.specs.Prelude.{replicate}
-use Rattle.std.specs.List.{list_all}
-use Rattle.std.specs.Str.{IsUtf8}
-use Rattle.std.proofs.Math.Seq.{take-append_seam}
-use Rattle.std.proofs.lemmas.Bool.{and_parts}
-use Rattle.std.proofs.lemmas.Bool.Decides.{nat_tests}
-use Rattle.std.proofs.lemmas.List.Sums.{AllPass-from_list_all}
-use Rattle.std.proofs.lemmas.Str.{IsUtf8-from_ascii}
+use Rattle.addr.proofs.Vocabulary.{◌≡◌, ℕ, ◌-◌, ◌<◌, List, ◌++◌, true, get_or, length, take, refl, arith, IsTrue, replicate, list_all, IsUtf8, take-append_seam, and_parts, nat_tests, AllPass-from_list_all, IsUtf8-from_ascii, is_name, is_name_byte}
 use Rattle.std.proofs.lemmas.Str.Ascii.{IsAscii-from_all}
-use Rattle.addr.specs.Name.{is_name, is_name_byte}
 
 -- a name's text with zeros behind it, as the fields of a name have it
 pub padded :

@@ -1,22 +1,10 @@
 -- The order of families, prefixes and VRPs is total, what ties in it is one, and the derived comparisons are it.
-use Rattle.std.proofs.Common.{◌≡◌, true, not, ◌&&◌, ◌==◌, refl, ap, sym, subst, ◌∙◌, Ordering}
-use Rattle.std.proofs.lemmas.Bool.{and_parts, and_from, eqb-true, eq-eqb, not-false}
-use Rattle.std.proofs.lemmas.Cmp.{upto}
-use Rattle.std.specs.declared.cmp.Ordering.TheVariants.{Less, Equal, Greater}
-use Rattle.std.specs.Ordering.{ordering_then, is_lt, is_le, is_gt}
-use Rattle.std.specs.Cmp.{IsTotalOrder, nat_cmp_total, on_total, then_total}
-use Rattle.std.specs.FinMap.{IsAntisymmetric, nat_cmp-IsAntisymmetric}
-use Rattle.addr.specs.Address.{prefix_eq, same_prefix}
-use Rattle.addr.specs.Order.{family_cmp, prefix_cmp, vrp_cmp, same_vrp, IsOrder, TestsEquality}
-use Rattle.addr.specs.declared.family.Family.{Family}
-use Rattle.addr.specs.declared.family.Family.TheVariants.{V4, V6}
-use Rattle.addr.specs.declared.prefix.Prefix.{Prefix}
+use Rattle.addr.proofs.Vocabulary.{◌≡◌, true, not, ◌&&◌, ◌==◌, refl, ap, sym, subst, ◌∙◌, Ordering, and_parts, and_from, eqb-true, eq-eqb, not-false, upto, Less, Equal, Greater, ordering_then, is_lt, is_le, is_gt, IsTotalOrder, nat_cmp_total, on_total, then_total, IsAntisymmetric, nat_cmp-IsAntisymmetric, prefix_eq, same_prefix, family_cmp, prefix_cmp, vrp_cmp, same_vrp, IsOrder, TestsEquality, Family, V4, V6, Prefix, prefix_total}
 use Rattle.addr.specs.declared.vrp.Vrp.{Vrp}
 use Rattle.addr.specs.contracts.family.FamilyOrd.TheImpl as FamilyOrd
 use Rattle.addr.specs.contracts.vrp.VrpOrd.TheImpl as VrpOrd
 use Rattle.addr.specs.contracts.vrp.VrpPartialEq.TheImpl as VrpPartialEq
 use Rattle.addr.proofs.Equality.{equal_prefix, prefix_itself}
-use Rattle.addr.specs.steps.TotalOrders.{prefix_total}
 
 -- ---- at or before
 

@@ -1,16 +1,11 @@
 -- The texts of IPv6 addresses: `Ipv6Addr` reads the loose groups where there is no dot, and nothing else.
-use Rattle.std.proofs.Common.{◌≡◌, ◌⊎◌, ℕ, ◌+◌, ◌<◌, ◌≤◌, Bool, true, false, ◌&&◌, ◌==◌, List, [], ◌∷◌, ◌++◌, length, drop, slice_index, option_map, Some, None, Result, Ok, Err, All, decimal, refl, sym, ap, ◌∙◌, subst, inl, inr, append_assoc, append-nil, arith, lit≤, lt-ltb, eq-eqb}
-use Rattle.std.proofs.lemmas.Bool.{cases_Bool, or_parts, and_parts, ltb-true, eqb-true, false≢true}
-use Rattle.std.proofs.lemmas.Option.{cond_some, option_and_then_some, some_pair_parts, none-some, same_Some}
-use Rattle.std.proofs.lemmas.List.Elements.{All-nil, All-cons}
+use Rattle.addr.proofs.Vocabulary.{◌≡◌, ◌⊎◌, ℕ, ◌+◌, ◌<◌, ◌≤◌, Bool, true, false, ◌&&◌, ◌==◌, List, [], ◌∷◌, ◌++◌, length, drop, slice_index, option_map, Some, None, Result, Ok, Err, All, refl, sym, ap, ◌∙◌, subst, inl, inr, append_assoc, append-nil, arith, lit≤, lt-ltb, eq-eqb, cases_Bool, or_parts, and_parts, ltb-true, eqb-true, false≢true, cond_some, option_and_then_some, some_pair_parts, none-some, same_Some, All-nil, All-cons, digit_value, list_any, slice_split, join_with_byte, result_ok, group, all_groups}
+use Rattle.std.proofs.Common.{decimal}
 use Rattle.std.proofs.lemmas.List.Splits.{slice_split_none, slice_split_at, join_with_byte-slice_split, length-slice_split}
 use Rattle.std.proofs.NetLemmas.Options.{map_some}
-use Rattle.std.specs.Char.{digit_value}
-use Rattle.std.specs.List.{list_any, slice_split, join_with_byte}
-use Rattle.std.specs.Result.{result_ok}
 use Rattle.std.specs.declared.net.ipv6_addr.Ipv6Addr.{Ipv6Addr}
 use Rattle.std.specs.Net.Grammar.{Parses, IsIpv6Text, IsDotted, IsGroup, IsGroupsAfter, IsGroups, IsColonHex}
-use Rattle.addr.specs.PrefixText.{group, all_groups, colon_groups, cut_at_gap, loose_groups}
+use Rattle.addr.specs.PrefixText.{colon_groups, cut_at_gap, loose_groups}
 use Rattle.addr.proofs.PrefixTextLemmas.{short_number_from, short_number_is, Lacks, Lacks-append, Lacks_parts, Lacks-digits, option_cases, dotted_parts}
 
 -- ---- one group

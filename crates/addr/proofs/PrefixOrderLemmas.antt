@@ -1,17 +1,5 @@
 -- Prefixes in their order: what sorts at or before what, and which prefixes lie between two.
-use Rattle.std.proofs.Common.{◌≡◌, ℕ, suc, ◌+◌, ◌-◌, ◌*◌, ◌/◌, ◌%◌, ◌^◌, ◌≤◌, ◌<◌, true, nat_le, refl, sym, arith, inl, inr, ◌⊎◌, ap, ◌∙◌, Ordering}
-use Rattle.std.specs.Ordering.{nat_cmp, ordering_then, is_le}
-use Rattle.std.specs.declared.cmp.Ordering.TheVariants.{Less, Equal, Greater}
-use Rattle.std.proofs.lemmas.Bool.{and_parts, leb-true, le-leb, cases_lt, lt-ltb, le-ltb, eq-eqb, ne_eqb}
-use Rattle.std.proofs.lemmas.Bool.Decides.{nat_tests}
-use Rattle.std.proofs.lemmas.Nat.{pow_pos, pow-add, div-add-mod', pow_below}
-use Rattle.std.proofs.Math.Nat.{mul-le-mul_right, suc-mul, add-mul-mod_self_right}
-use Rattle.addr.specs.Family.{width, family_eq}
-use Rattle.addr.specs.Address.{last_of, contains}
-use Rattle.addr.specs.Order.{family_cmp, prefix_cmp}
-use Rattle.addr.specs.declared.family.Family.{Family}
-use Rattle.addr.specs.declared.family.Family.TheVariants.{V4, V6}
-use Rattle.addr.specs.declared.prefix.Prefix.{Prefix}
+use Rattle.addr.proofs.Vocabulary.{◌≡◌, ℕ, suc, ◌+◌, ◌-◌, ◌*◌, ◌/◌, ◌%◌, ◌^◌, ◌≤◌, ◌<◌, true, nat_le, refl, sym, arith, inl, inr, ◌⊎◌, ap, ◌∙◌, Ordering, nat_cmp, ordering_then, is_le, Less, Equal, Greater, and_parts, leb-true, le-leb, cases_lt, lt-ltb, le-ltb, eq-eqb, ne_eqb, nat_tests, pow_pos, pow-add, div-add-mod', pow_below, mul-le-mul_right, suc-mul, add-mul-mod_self_right, width, family_eq, last_of, contains, family_cmp, prefix_cmp, Family, V4, V6, Prefix}
 use Rattle.addr.proofs.AddressLemmas.{multiple-at_most}
 use Rattle.addr.proofs.Equality.{same_family, equal_family}
 

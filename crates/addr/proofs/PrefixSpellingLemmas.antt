@@ -1,33 +1,18 @@
 -- The law of prefix texts: each spelling is read back, so it has no fault where its parts are a prefix's.
-use Rattle.std.proofs.Common.{◌≡◌, ◌↔◌, ℕ, ◌+◌, ◌-◌, ◌%◌, ◌^◌, ◌<◌, ◌≤◌, sub-le, Bool, true, false, not, nat_lt, cond, List, [], ◌∷◌, ◌++◌, get_or, Option, Some, None, Result, Ok, Err, All, decimal, refl, sym, ap, ◌∙◌, subst, inl, inr, arith, lit≤, lit<, le-ltb, le-leb, ne_eqb}
-use Rattle.std.proofs.lemmas.Bool.{or_from, ltb-false, eqb-true, not-false}
-use Rattle.std.proofs.lemmas.Option.{none-some, same_Some}
+use Rattle.addr.proofs.Vocabulary.{◌≡◌, ◌↔◌, ℕ, ◌+◌, ◌-◌, ◌%◌, ◌^◌, ◌<◌, ◌≤◌, sub-le, Bool, true, false, not, nat_lt, cond, List, [], ◌∷◌, ◌++◌, get_or, Option, Some, None, Result, Ok, Err, All, refl, sym, ap, ◌∙◌, subst, inl, inr, arith, lit≤, lit<, le-ltb, le-leb, ne_eqb, or_from, ltb-false, eqb-true, not-false, none-some, same_Some, decimal_is_IsNumeral, length-decimal-le, All-head, All-tail, MatchResult, result_ok, digit_value, bytes_eq, number_from_digits, number_lt, ipv4_text, hex_groups_text, dotted_text, longest_zero_run, width, same_prefix, Family, V4, V6, Prefix, octets_of, groups_of, address_text, short_number, octet, loose_groups, fault_of, is_aligned, Spells, IsFirstLongestRun, PrefixTextLaw, prefix_if, ℕ_set}
+use Rattle.std.proofs.Common.{decimal}
 use Rattle.std.proofs.lemmas.Slice.Eq.{bytes_eq-Decides}
-use Rattle.std.proofs.lemmas.Fmt.{decimal_is_IsNumeral, length-decimal-le}
-use Rattle.std.proofs.lemmas.List.Elements.{All-head, All-tail}
 use Rattle.std.proofs.NetLemmas.Arrays.{four_items}
-use Rattle.std.specs.Result.{MatchResult, result_ok}
 use Rattle.std.proofs.NetLemmas.Texts.{IsZeroRun-longest_zero_run, longest_zero_run_first, AllSegments, IsColonHex-hex_groups_text}
 use Rattle.std.proofs.NetLemmas.Alphabet.{IsHexOrColon, All-hex_groups_text}
-use Rattle.std.specs.Char.{digit_value}
-use Rattle.std.specs.Str.{bytes_eq}
-use Rattle.std.specs.Int.Digits.{number_from_digits}
-use Rattle.std.proofs.lemmas.Int.Digits.{number_lt}
-use Rattle.std.specs.Net.Text.{ipv4_text, hex_groups_text, dotted_text, longest_zero_run}
-use Rattle.addr.specs.Family.{width}
-use Rattle.addr.specs.Address.{same_prefix}
-use Rattle.addr.specs.declared.family.Family.{Family}
-use Rattle.addr.specs.declared.family.Family.TheVariants.{V4, V6}
 use Rattle.addr.specs.declared.text.PrefixParts.{PrefixParts}
 use Rattle.addr.specs.declared.text.PrefixFault.{PrefixFault}
 use Rattle.addr.specs.declared.text.PrefixFault.TheVariants.{Shape, Spelling, Length, HostBits}
-use Rattle.addr.specs.declared.prefix.Prefix.{Prefix}
-use Rattle.addr.specs.PrefixText.{octets_of, groups_of, address_text, spelling, short_number, octet, dotted_address, loose_address, loose_groups, loose, fault_of, is_aligned, prefix_text_fault, Spells, IsFirstLongestRun, PrefixTextLaw, prefix_if, spelled_prefix}
+use Rattle.addr.specs.PrefixText.{spelling, dotted_address, loose_address, loose, prefix_text_fault, spelled_prefix}
 use Rattle.addr.proofs.PrefixTextLemmas.{short_number_from, Lacks, Lacks-append, Lacks-digits, cut_at_here, cut_at_none, dotted_parts, length_digits_in, below-digits_in, number-digits_in, at_below, option_cases}
 use Rattle.addr.proofs.AddressLemmas.{width_small, first_below, multiple-fits}
 use Rattle.addr.proofs.PrefixGroupsLemmas.{loose_groups_from}
 use Rattle.std.proofs.Math.Bridge.{le_prop}
-use Rattle.std.proofs.Math.Nat.{ℕ_set}
 
 -- ---- numbers
 

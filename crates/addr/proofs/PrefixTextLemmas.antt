@@ -1,18 +1,6 @@
 -- The digits of a number in a base, texts that are cut at a byte, and short numbers.
-use Rattle.std.proofs.Common.{◌≡◌, ◌⊎◌, ℕ, zero, suc, ◌+◌, ◌*◌, ◌/◌, ◌%◌, ◌^◌, ◌<◌, ◌≤◌, true, false, ◌==◌, List, [], ◌∷◌, ◌++◌, length, get_or, take, drop, set, Option, Some, None, decimal, lit≤, lit<, refl, sym, ap, ◌∙◌, inl, inr, arith, add-one, one-add, cond, nat_le, append_assoc, length-append, ne_eqb, eq-eqb, le-leb, lt-ltb, option_map}
-use Rattle.std.proofs.Math.Nat.{pow-zero, pow-suc, pow-le-pow_right, div-lt_iff_lt-mul}
-use Rattle.std.proofs.lemmas.Bool.{cases_Bool, cases_lt, or_parts, or_from, le-ltb, lt-leb, and_parts, leb-true, ltb-true}
-use Rattle.std.proofs.lemmas.Option.{cond_some}
-use Rattle.std.proofs.lemmas.List.Folds.{list_any-append}
-use Rattle.std.proofs.lemmas.Int.Digits.{number_push, digits_value-lt}
-use Rattle.std.proofs.lemmas.List.{length_push, drop-set}
-use Rattle.std.proofs.lemmas.Fmt.{decimal_digit, decimal_step, length-decimal-le}
-use Rattle.std.specs.Char.{digit_value, is_digit}
-use Rattle.std.specs.List.{list_all, list_any, position, position_or_len}
-use Rattle.std.specs.Str.Parse.{AllDigits, digits_value}
-use Rattle.std.specs.Int.Digits.{number_from_digits, AllBelowBase}
-use Rattle.std.specs.Net.Text.{dotted_text}
-use Rattle.addr.specs.Digits.{in_three_digits}
+use Rattle.addr.proofs.Vocabulary.{◌≡◌, ◌⊎◌, ℕ, zero, suc, ◌+◌, ◌*◌, ◌/◌, ◌%◌, ◌^◌, ◌<◌, ◌≤◌, true, false, ◌==◌, List, [], ◌∷◌, ◌++◌, length, get_or, take, drop, set, Option, Some, None, lit≤, lit<, refl, sym, ap, ◌∙◌, inl, inr, arith, add-one, one-add, cond, nat_le, append_assoc, length-append, ne_eqb, eq-eqb, le-leb, lt-ltb, option_map, pow-zero, pow-suc, pow-le-pow_right, div-lt_iff_lt-mul, cases_Bool, cases_lt, or_parts, or_from, le-ltb, lt-leb, and_parts, leb-true, ltb-true, cond_some, list_any-append, number_push, digits_value-lt, length_push, drop-set, decimal_digit, decimal_step, length-decimal-le, digit_value, is_digit, list_all, list_any, position, position_or_len, AllDigits, digits_value, number_from_digits, AllBelowBase, dotted_text, in_three_digits}
+use Rattle.std.proofs.Common.{decimal}
 use Rattle.addr.specs.PrefixText.{digits_in, cut_at, short_number}
 
 -- ---- digits in a base

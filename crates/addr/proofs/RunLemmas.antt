@@ -1,15 +1,6 @@
 -- Runs that are apart are the maximal runs of their addresses, so lists of the same addresses have the same runs.
-use Rattle.std.proofs.Common.{◌≡◌, ℕ, ◌+◌, ◌-◌, ◌≤◌, Bool, true, false, not, ◌&&◌, ◌||◌, cond, List, [], ◌∷◌, ◌++◌, ◌⊎◌, inl, inr, filter, refl, sym, ap, ap₂, ◌∙◌, subst, arith}
-use Rattle.std.specs.List.{list_all}
-use Rattle.std.proofs.lemmas.Bool.{cases_lt, and_parts, and_from, or_cases, or_left, or_right, false≢true, not-true}
-use Rattle.std.proofs.lemmas.Bool.Decides.{nat_tests}
-use Rattle.std.proofs.Math.Bool.{and-false, or_comm}
-use Rattle.std.proofs.lemmas.List.Folds.{list_all-append, list_any-append, Any-from_list_any, list_any-from_Any}
+use Rattle.addr.proofs.Vocabulary.{◌≡◌, ℕ, ◌+◌, ◌-◌, ◌≤◌, Bool, true, false, not, ◌&&◌, ◌||◌, cond, List, [], ◌∷◌, ◌++◌, ◌⊎◌, inl, inr, filter, refl, sym, ap, ap₂, ◌∙◌, subst, arith, list_all, cases_lt, and_parts, and_from, or_cases, or_left, or_right, false≢true, not-true, nat_tests, and-false, or_comm, list_all-append, list_any-append, Any-from_list_any, list_any-from_Any, Address, is_between, span_has, spans_have, is_apart_below, is_apart, span_eq, is_one_of, without_runs, same_span, AreApart, AreMaximal, Family, Span}
 use Rattle.std.proofs.lemmas.Map.Views.{any-filter_same}
-use Rattle.addr.specs.Address.{Address, is_between}
-use Rattle.addr.specs.Spans.{span_has, spans_have, is_apart_below, is_apart, span_eq, is_one_of, without_runs, same_span, AreApart, AreMaximal}
-use Rattle.addr.specs.declared.family.Family.{Family}
-use Rattle.addr.specs.declared.span.Span.{Span}
 use Rattle.addr.proofs.Equality.{equal_span, span_itself, same_family, family_tells}
 use Rattle.addr.proofs.AddressLemmas.{between_at}
 use Rattle.addr.proofs.SpanLemmas.{is_gap, family_lt_tells}

@@ -1,32 +1,11 @@
 -- Maximal runs rise, so a search by halves finds a run among them, and those that end before a prefix.
-use Rattle.std.proofs.Common.{◌≡◌, ℕ, zero, suc, ◌+◌, ◌≤◌, ◌<◌, Bool, true, false, ◌&&◌, ◌||◌, nat_le, nat_lt, List, [], ◌∷◌, length, get_or, drop, refl, sym, ap, ◌∙◌, subst, arith, inl, inr, Ordering, Result, Ok, Err, is_ok}
-use Rattle.std.specs.Cmp.{IsTotalOrder, nat_cmp_total, on_total, then_total}
-use Rattle.std.specs.FinMap.{IsAntisymmetric, nat_cmp-IsAntisymmetric}
-use Rattle.std.specs.List.{AllByRecursion, list_all, list_any, slice_get}
+use Rattle.addr.proofs.Vocabulary.{◌≡◌, ℕ, zero, suc, ◌+◌, ◌≤◌, ◌<◌, Bool, true, false, ◌&&◌, ◌||◌, nat_le, nat_lt, List, [], ◌∷◌, length, get_or, drop, refl, sym, ap, ◌∙◌, subst, arith, inl, inr, Ordering, Result, Ok, Err, is_ok, IsTotalOrder, nat_cmp_total, on_total, then_total, IsAntisymmetric, nat_cmp-IsAntisymmetric, AllByRecursion, list_all, list_any, slice_get, option_map_or, nat_cmp, is_lt, ordering_index, ordering_reverse, ordering_then, Less, Equal, Greater, cases_Bool, cases_lt, and_parts, false≢true, nat_tests, tied_itself, list_any_none, list_any_at, searchable_from_sorted, AllPass-from_list_all, last_of, family_eq, family_cmp, family_lt, is_apart_below, is_before, span_eq, is_one_of, same_span, span_covers, span_meets, AreMaximal, Family, V4, V6, Prefix, Span, family_total}
 use Rattle.std.specs.List.Sorted.{IsBinarySearchResult, IsNonDecreasingBy, IsPartitionedBy, IsPartitionPoint, IsSearchInRange, IsStrictlySortedBy}
-use Rattle.std.specs.Option.{option_map_or}
-use Rattle.std.specs.Ordering.{nat_cmp, is_lt, ordering_index, ordering_reverse, ordering_then}
-use Rattle.std.specs.declared.cmp.Ordering.TheVariants.{Less, Equal, Greater}
-use Rattle.std.proofs.lemmas.Bool.{cases_Bool, cases_lt, and_parts, false≢true}
-use Rattle.std.proofs.lemmas.Bool.Decides.{nat_tests}
-use Rattle.std.proofs.lemmas.Cmp.{tied_itself}
-use Rattle.std.proofs.lemmas.List.Folds.{list_any_none, list_any_at}
-use Rattle.std.proofs.lemmas.List.Sorted.{searchable_from_sorted}
-use Rattle.std.proofs.lemmas.List.Sums.{AllPass-from_list_all}
 use Rattle.std.proofs.lemmas.Map.Keys.{Less-from_sorted}
-use Rattle.addr.specs.Address.{last_of}
-use Rattle.addr.specs.Family.{family_eq}
-use Rattle.addr.specs.Order.{family_cmp}
-use Rattle.addr.specs.Spans.{family_lt, is_apart_below, is_before, span_eq, is_one_of, same_span, span_covers, span_meets, AreMaximal}
 use Rattle.addr.specs.contracts.span.SpanOrd.TheImpl as SpanOrd
-use Rattle.addr.specs.declared.family.Family.{Family}
-use Rattle.addr.specs.declared.family.Family.TheVariants.{V4, V6}
-use Rattle.addr.specs.declared.prefix.Prefix.{Prefix}
-use Rattle.addr.specs.declared.span.Span.{Span}
 use Rattle.addr.proofs.AddressLemmas.{first-last}
 use Rattle.addr.proofs.Equality.{equal_span, span_itself, family_tells}
 use Rattle.addr.proofs.OrderLemmas.{exact_family, derived_family, both_equal}
-use Rattle.addr.specs.steps.TotalOrders.{family_total}
 use Rattle.addr.proofs.SpanLemmas.{is_gap, family_lt_tells}
 
 -- by family, first and last address

@@ -1,20 +1,7 @@
 -- Runs of addresses: what lists of maximal runs have, and how they grow.
-use Rattle.std.proofs.Common.{◌≡◌, ℕ, ◌+◌, ◌≤◌, ◌<◌, Bool, true, false, ◌&&◌, ◌||◌, nat_le, nat_lt, refl, arith, ◌↔◌, ◌⊎◌, IsTrue, inl, inr, List, [], ◌∷◌, ◌++◌}
-use Rattle.std.specs.List.{list_any, list_all}
-use Rattle.std.proofs.lemmas.Bool.{cases_Bool, and_parts, and_from, or_cases, or_left, or_right, false≢true}
-use Rattle.std.proofs.lemmas.Bool.Decides.{nat_tests}
-use Rattle.std.proofs.lemmas.List.Folds.{list_all-append, Any-from_list_any, list_any-from_Any}
-use Rattle.std.proofs.lemmas.List.Sums.{AllPass-from_list_all, list_all-from_AllPass}
-use Rattle.addr.specs.Family.{family_eq}
-use Rattle.addr.specs.Address.{Address, is_between, last_of, has_address}
-use Rattle.addr.specs.Spans.{span_has, spans_have, family_lt, is_apart_below, AreMaximal, span_covers, span_meets, HaveAll, HaveSome}
-use Rattle.addr.specs.steps.Parts.{IsWithin}
+use Rattle.addr.proofs.Vocabulary.{◌≡◌, ℕ, ◌+◌, ◌≤◌, ◌<◌, Bool, true, false, ◌&&◌, ◌||◌, nat_le, nat_lt, refl, arith, ◌↔◌, ◌⊎◌, IsTrue, inl, inr, List, [], ◌∷◌, ◌++◌, list_any, list_all, cases_Bool, and_parts, and_from, or_cases, or_left, or_right, false≢true, nat_tests, list_all-append, Any-from_list_any, list_any-from_Any, AllPass-from_list_all, list_all-from_AllPass, family_eq, Address, is_between, last_of, has_address, span_has, spans_have, family_lt, is_apart_below, AreMaximal, span_covers, span_meets, HaveAll, HaveSome, IsWithin, Family, V4, V6, Prefix, Span}
 use Rattle.addr.proofs.Equality.{family_tells}
 use Rattle.addr.proofs.AddressLemmas.{between_within, between_at, overlap_by_shared, shared, first-last}
-use Rattle.addr.specs.declared.family.Family.{Family}
-use Rattle.addr.specs.declared.family.Family.TheVariants.{V4, V6}
-use Rattle.addr.specs.declared.prefix.Prefix.{Prefix}
-use Rattle.addr.specs.declared.span.Span.{Span}
 
 -- whether an end is apart below a start
 abbrev pub is_gap : Family → ℕ → Family → ℕ → Bool

@@ -1,23 +1,8 @@
 -- One more run looked at, while a run is added to a set of addresses or taken out of it.
-use Rattle.std.proofs.Common.{◌≡◌, ℕ, ◌+◌, ◌-◌, ◌≤◌, ◌<◌, Bool, true, false, ◌&&◌, ◌||◌, not, nat_lt, refl, sym, ap, subst, ◌∙◌, arith, List, [], ◌∷◌, ◌++◌, Option, Some, None, IfSome, take, drop, get_or, length, suc, add-one, take_all}
-use Rattle.std.specs.List.{list_all}
-use Rattle.std.specs.Option.{option_to_list}
-use Rattle.std.proofs.lemmas.Bool.{and_parts, and_from}
-use Rattle.std.proofs.lemmas.Bool.Decides.{nat_tests}
-use Rattle.std.proofs.lemmas.List.{take_more}
+use Rattle.addr.proofs.Vocabulary.{◌≡◌, ℕ, ◌+◌, ◌-◌, ◌≤◌, ◌<◌, Bool, true, false, ◌&&◌, ◌||◌, not, nat_lt, refl, sym, ap, subst, ◌∙◌, arith, List, [], ◌∷◌, ◌++◌, Option, Some, None, IfSome, take, drop, get_or, length, suc, add-one, take_all, list_all, option_to_list, and_parts, and_from, nat_tests, take_more, or-false, and-false, or_assoc, drop-cons, list_all-append, list_any-append, AllPass-from_list_all, list_all-from_AllPass, family_eq, Address, is_between, Family, span_has, spans_have, is_apart_below, AreMaximal, IsWithin, AreParts, part_has, is_after, Span}
 use mathlib.Core.Bool.{and-or_distrib_right}
-use Rattle.std.proofs.Math.Bool.{or-false, and-false, or_assoc}
-use Rattle.std.proofs.Math.Seq.{drop-cons}
-use Rattle.std.proofs.lemmas.List.Folds.{list_all-append, list_any-append}
-use Rattle.std.proofs.lemmas.List.Sums.{AllPass-from_list_all, list_all-from_AllPass}
-use Rattle.addr.specs.Family.{family_eq}
-use Rattle.addr.specs.Address.{Address, is_between}
-use Rattle.addr.specs.declared.family.Family.{Family}
 use Rattle.addr.proofs.Equality.{family_tells}
-use Rattle.addr.specs.Spans.{span_has, spans_have, is_apart_below, AreMaximal}
-use Rattle.addr.specs.steps.Parts.{IsWithin, AreParts, part_has, is_after}
 use Rattle.addr.proofs.SpanLemmas.{is_gap, all_below, all_above, AllApart, maximal_append, all_weaker, apart_trans, apart_to_part, apart_from_part}
-use Rattle.addr.specs.declared.span.Span.{Span}
 
 -- the runs kept, then the pending one, then those still to come; together what was had and what is added
 pub record Adding (done rest : List Span) (added : Span) (kept : List Span) (pending : Span) : Type 0 where

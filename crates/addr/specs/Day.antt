@@ -76,9 +76,9 @@ year_of day = last_year 9999 day
 unfoldable pub month_of : ℕ → ℕ
 month_of day = last_month (year_of day) 12 day
 
-unfoldable pub day_of : ℕ → ℕ
-day_of day = unsigned_abs (pos (day + 1) -ℤ days_from_civil (pos (year_of day)) (month_of day) 1)
+unfoldable pub day_of_month : ℕ → ℕ
+day_of_month day = unsigned_abs (pos (day + 1) -ℤ days_from_civil (pos (year_of day)) (month_of day) 1)
 
 -- the text of a day
 unfoldable pub day_text : ℕ → List ℕ
-day_text day = date_text (year_of day) (month_of day) (day_of day)
+day_text day = date_text (year_of day) (month_of day) (day_of_month day)

@@ -1,21 +1,9 @@
 -- A change carries the rows of every holder from a history to the one with the command.
-use Rattle.std.proofs.Common.{◌≡◌, ℕ, Bool, true, false, ◌||◌, cond, List, ◌∷◌, inl, inr, Option, Some, None, refl, sym, ap, ◌∙◌, subst}
-use Rattle.std.proofs.lemmas.Bool.{cases_Bool, cond-false, false≢true}
-use Rattle.std.proofs.Math.Bool.{or-true}
-use Rattle.addr.specs.Address.{Address}
+use Rattle.registry.proofs.Vocabulary.{◌≡◌, ℕ, Bool, true, false, ◌||◌, cond, List, ◌∷◌, inl, inr, Option, Some, None, refl, sym, ap, ◌∙◌, subst, cases_Bool, cond-false, false≢true, or-true, Address, Auth, Command, Register, Grant, Revoke, Create, Amend, Withdraw, Slurm, Granted, Entry, History, same_name, registers, is_registered, resource_holder, is_held_by, granted_after, grants_after, grants_made, grant_terms, created_after, terms_after, authorizations_made, authorization_terms, HeldSinceMade, Keeps, AreActive, holder_of, is_this}
 use Rattle.slurm.specs.declared.set.NamedSlurm.{NamedSlurm}
-use Rattle.registry.specs.declared.authorization.Auth.{Auth}
 use Rattle.registry.specs.declared.change.Change.TheVariants.{Holders, Exceptions as Replace}
 use Rattle.registry.specs.declared.change.Edit.{Edit}
-use Rattle.registry.specs.declared.command.Command.{Command}
-use Rattle.registry.specs.declared.command.Command.TheVariants.{Register, Grant, Revoke, Create, Amend, Withdraw, Slurm}
-use Rattle.registry.specs.declared.grant.Granted.{Granted}
-use Rattle.registry.specs.History.{Entry, History, same_name, registers, is_registered}
-use Rattle.registry.specs.Resources.{resource_holder, is_held_by}
-use Rattle.registry.specs.Terms.{granted_after, grants_after, grants_made, grant_terms, created_after, terms_after, authorizations_made, authorization_terms, HeldSinceMade, Keeps, AreActive}
-use Rattle.registry.specs.Answer.{holder_of}
 use Rattle.registry.specs.ExceptionsInForce.{files_in_force}
-use Rattle.registry.specs.HolderEntries.{is_this}
 use Rattle.registry.specs.Rows.{Rows, RowsOf, RowsIfAny, edited, edited_if_any, changed, Carries}
 use Rattle.registry.proofs.Names.{same_name-same, same_name-true, held_by_same}
 use Rattle.registry.proofs.Held.{active-kept}

@@ -1,17 +1,5 @@
 -- Authorizations that end where a prefix of their terms shares an address with a prefix that moves.
-use Rattle.std.proofs.Common.{◌≡◌, ℕ, ◌<◌, ◌≤◌, Bool, true, false, not, ◌||◌, cond, eqb, List, [], ◌∷◌, ◌↔◌, inl, inr, Some, refl, sym, ap, ◌∙◌, subst, arith, map, filter}
-use Rattle.std.specs.List.{list_any}
-use Rattle.std.proofs.lemmas.Bool.{cases_Bool, false≢true, or_parts}
-use Rattle.std.proofs.Math.Bool.{or-true}
-use Rattle.std.proofs.lemmas.Bool.Decides.{nat_tests}
-use Rattle.addr.specs.Address.{Address, has_address, overlaps}
-use Rattle.addr.specs.declared.prefix.Prefix.{Prefix}
-use Rattle.addr.proofs.AddressLemmas.{overlaps_some}
-use Rattle.registry.specs.declared.authorization.Auth.{Auth}
-use Rattle.addr.specs.declared.roa_prefix.RoaPrefix.{RoaPrefix}
-use Rattle.registry.specs.History.{Entry, History}
-use Rattle.registry.specs.Resources.{resource_holder}
-use Rattle.registry.specs.Terms.{entries_have, terms_overlap, authorizations_made, authorization_terms, HeldSinceMade, Keeps, AreActive}
+use Rattle.registry.proofs.Vocabulary.{◌≡◌, ℕ, ◌<◌, ◌≤◌, Bool, true, false, not, ◌||◌, cond, eqb, List, [], ◌∷◌, ◌↔◌, inl, inr, Some, refl, sym, ap, ◌∙◌, subst, arith, map, filter, list_any, cases_Bool, false≢true, or_parts, or-true, nat_tests, Address, has_address, overlaps, Prefix, overlaps_some, Auth, RoaPrefix, Entry, History, resource_holder, entries_have, terms_overlap, authorizations_made, authorization_terms, HeldSinceMade, Keeps, AreActive}
 use Rattle.registry.proofs.Numbers.{Numbered}
 use Rattle.registry.proofs.Kept.{Keeps-filter}
 use Rattle.registry.proofs.Held.{authorization_terms-numbered, held_now}

@@ -1,18 +1,6 @@
 -- Lists of entries: those of an authorization that is amended, and what two lists share.
-use Rattle.std.proofs.Common.{◌≡◌, ℕ, suc, ◌≤◌, Bool, true, false, ◌&&◌, ◌||◌, ◌==◌, List, [], ◌∷◌, length, inl, inr, refl, sym, ap, subst, ◌∙◌, arith}
-use Rattle.std.specs.List.{list_any}
-use Rattle.std.proofs.lemmas.Bool.{cases_Bool, false≢true, and_from, and_parts, eqb-true}
-use Rattle.std.proofs.Math.Bool.{or-true}
-use Rattle.addr.specs.Address.{prefix_eq, fits_max_length}
-use Rattle.addr.proofs.Equality.{equal_prefix}
-use Rattle.addr.specs.declared.prefix.Prefix.{Prefix}
+use Rattle.registry.proofs.Vocabulary.{◌≡◌, ℕ, suc, ◌≤◌, Bool, true, false, ◌&&◌, ◌||◌, ◌==◌, List, [], ◌∷◌, length, inl, inr, refl, sym, ap, subst, ◌∙◌, arith, list_any, cases_Bool, false≢true, and_from, and_parts, eqb-true, or-true, prefix_eq, fits_max_length, equal_prefix, Prefix, ImportRow, RoaPrefix, is_entry, are_shared, row_terms, Rise, AreEntries, with_maxes, fit_lengths, maxes_fit}
 use Rattle.registry.proofs.Repeats.{eqb-flips, prefix_eq-flips}
-use Rattle.registry.specs.declared.authorization.ImportRow.{ImportRow}
-use Rattle.addr.specs.declared.roa_prefix.RoaPrefix.{RoaPrefix}
-use Rattle.addr.specs.VrpParts.{is_entry}
-use Rattle.registry.specs.Terms.{are_shared, row_terms}
-use Rattle.registry.specs.RoaPrefixes.{Rise, AreEntries, with_maxes}
-use Rattle.registry.specs.Verdict.{fit_lengths, maxes_fit}
 use Rattle.registry.specs.declared.roa_prefixes.TheConstants.{MOST_ENTRIES}
 
 -- a row of an import asks for one entry

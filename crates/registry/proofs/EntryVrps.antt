@@ -1,17 +1,8 @@
 -- The VRPs of the entries of an authorization.
-use Rattle.std.proofs.Common.{◌≡◌, true, ◌==◌, ◌↔◌, sym, ap, ◌∙◌, subst, Contains}
-use Rattle.std.proofs.lemmas.Bool.{and_from, and_parts, eq-eqb, eqb-true}
+use Rattle.registry.proofs.Vocabulary.{◌≡◌, true, ◌==◌, ◌↔◌, sym, ap, ◌∙◌, subst, Contains, and_from, and_parts, eq-eqb, eqb-true, equal_prefix, prefix_itself, prefix_eq, same_vrp, Prefix, is_entry, IsVrpOfEntry, IsVrpOf, Auth, RoaPrefix}
 use Rattle.std.proofs.lemmas.List.Folds.{Any-from_list_any, list_any-from_Any}
-use Rattle.addr.proofs.Equality.{equal_prefix, prefix_itself}
-use Rattle.addr.specs.Address.{prefix_eq}
-use Rattle.addr.specs.Order.{same_vrp}
 use Rattle.addr.specs.declared.asn.Asn.{Asn}
-use Rattle.addr.specs.declared.prefix.Prefix.{Prefix}
 use Rattle.addr.specs.declared.vrp.Vrp.{Vrp}
-use Rattle.addr.specs.VrpParts.{is_entry, IsVrpOfEntry}
-use Rattle.registry.specs.Terms.{IsVrpOf}
-use Rattle.registry.specs.declared.authorization.Auth.{Auth}
-use Rattle.addr.specs.declared.roa_prefix.RoaPrefix.{RoaPrefix}
 
 -- an entry and an AS have one VRP
 pub one_of_entry : (e : RoaPrefix) (asn : Asn) (v w : Vrp) → IsVrpOfEntry e asn v → IsVrpOfEntry e asn w → v ≡ w

@@ -1,16 +1,6 @@
 -- The active authorizations after a command, from those before it.
-use Rattle.std.proofs.Common.{◌≡◌, ℕ, ◌+◌, ◌<◌, ◌≤◌, true, false, not, ◌||◌, cond, eqb, List, [], ◌∷◌, ◌++◌, Some, refl, sym, ap, ◌∙◌, subst, arith, map, filter}
+use Rattle.registry.proofs.Vocabulary.{◌≡◌, ℕ, ◌+◌, ◌<◌, ◌≤◌, true, false, not, ◌||◌, cond, eqb, List, [], ◌∷◌, ◌++◌, Some, refl, sym, ap, ◌∙◌, subst, arith, map, filter, All-nil, All-cons, All-contains, Address, has_address, Auth, RoaPrefix, Command, Create, Amend, Withdraw, Entry, History, same_name, resource_holder, with_maxes, with_terms, entries_have, numbered_terms, HoldsTerms, created_after, terms_after, authorizations_made, authorization_terms, amended, HeldSinceMade, Keeps, AreActive}
 use Rattle.std.specs.List.{All, Contains}
-use Rattle.std.proofs.lemmas.List.Elements.{All-nil, All-cons, All-contains}
-use Rattle.addr.specs.Address.{Address, has_address}
-use Rattle.registry.specs.declared.authorization.Auth.{Auth}
-use Rattle.addr.specs.declared.roa_prefix.RoaPrefix.{RoaPrefix}
-use Rattle.registry.specs.declared.command.Command.{Command}
-use Rattle.registry.specs.declared.command.Command.TheVariants.{Create, Amend, Withdraw}
-use Rattle.registry.specs.History.{Entry, History, same_name}
-use Rattle.registry.specs.Resources.{resource_holder}
-use Rattle.registry.specs.RoaPrefixes.{with_maxes}
-use Rattle.registry.specs.Terms.{with_terms, entries_have, numbered_terms, HoldsTerms, created_after, terms_after, authorizations_made, authorization_terms, amended, HeldSinceMade, Keeps, AreActive}
 use Rattle.registry.proofs.Numbers.{Numbered, Numbered-high, Numbered-append, Numbered-filter, Numbered-map}
 use Rattle.registry.proofs.Kept.{Keeps-numbered, Keeps-same}
 

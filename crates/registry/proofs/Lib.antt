@@ -12,3 +12,4 @@ pub mod Entries
 pub mod EntryVrps
 pub mod Rising
 pub mod RowOrder
+pub mod Vocabulary

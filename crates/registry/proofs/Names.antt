@@ -1,9 +1,5 @@
 -- Equal names, and who holds an address.
-use Rattle.std.proofs.Common.{◌≡◌, ℕ, true, false, List, Option, Some, None, refl, sym, ap, ◌∙◌, inl, inr}
-use Rattle.std.proofs.lemmas.Bool.{cases_Bool, false≢true}
-use Rattle.std.specs.Cmp.Lexicographic.{bytes_decides}
-use Rattle.registry.specs.History.{same_name}
-use Rattle.registry.specs.Resources.{is_held_by}
+use Rattle.registry.proofs.Vocabulary.{◌≡◌, ℕ, true, false, List, Option, Some, None, refl, sym, ap, ◌∙◌, inl, inr, cases_Bool, false≢true, bytes_decides, same_name, is_held_by}
 
 pub same_name-same : (h : List ℕ) → same_name h h ≡ true
 same_name-same h = (bytes_decides h h).1 refl

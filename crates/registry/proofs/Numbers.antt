@@ -1,6 +1,5 @@
 -- Authorizations whose numbers rise, and lie above one number and up to another.
-use Rattle.std.proofs.Common.{◌≡◌, ℕ, ◌<◌, ◌≤◌, Bool, true, false, cond, List, [], ◌∷◌, ◌++◌, sym, subst, arith, map, filter}
-use Rattle.registry.specs.declared.authorization.Auth.{Auth}
+use Rattle.registry.proofs.Vocabulary.{◌≡◌, ℕ, ◌<◌, ◌≤◌, Bool, true, false, cond, List, [], ◌∷◌, ◌++◌, sym, subst, arith, map, filter, Auth}
 
 abbrev pub Numbered : ℕ → List Auth → ℕ → Type 0
 Numbered low [] high = low ≤ high

@@ -1,16 +1,6 @@
 -- A prefix is in the pool where a walk along the pool's prefixes reaches its end.
-use Rattle.std.proofs.Common.{◌≡◌, ℕ, ◌<◌, ◌≤◌, Bool, true, false, ◌||◌, List, [], ◌∷◌, inl, inr, Option, Some, None, Bor, option_copied, MatchOption, IsSomeAnd, IfNone, IfSome, refl, sym, ap, ◌∙◌, subst, arith}
-use Rattle.std.specs.List.{list_any, find}
-use Rattle.std.proofs.lemmas.Bool.{cases_Bool, cases_lt, cond-true, cond-false, false≢true}
+use Rattle.registry.proofs.Vocabulary.{◌≡◌, ℕ, ◌<◌, ◌≤◌, Bool, true, false, ◌||◌, List, [], ◌∷◌, inl, inr, Option, Some, None, Bor, option_copied, MatchOption, IsSomeAnd, IfNone, IfSome, refl, sym, ap, ◌∙◌, subst, arith, list_any, find, cases_Bool, cases_lt, cond-true, cond-false, false≢true, or-true, nat_tests, is_between, has_address, last_of, Family, V4, V6, Prefix, between_at, pool_has, IsInPool, HasFromTo}
 use Rattle.std.proofs.lemmas.Option.{none-some, same_Some}
-use Rattle.std.proofs.Math.Bool.{or-true}
-use Rattle.std.proofs.lemmas.Bool.Decides.{nat_tests}
-use Rattle.addr.specs.Address.{is_between, has_address, last_of}
-use Rattle.addr.specs.declared.family.Family.{Family}
-use Rattle.addr.specs.declared.family.Family.TheVariants.{V4, V6}
-use Rattle.addr.specs.declared.prefix.Prefix.{Prefix}
-use Rattle.addr.proofs.AddressLemmas.{between_at}
-use Rattle.registry.specs.Pool.{pool_has, IsInPool, HasFromTo}
 
 find_none : (test : Prefix → Bool) (pool : List Prefix) → find test pool ≡ None → list_any test pool ≡ false
 find_none test [] is = refl

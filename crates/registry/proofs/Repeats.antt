@@ -1,17 +1,8 @@
 -- A walk along a list that looks for a value that occurs twice, and lists in another order.
-use Rattle.std.proofs.Common.{◌≡◌, ℕ, ◌-◌, ◌<◌, Bool, true, false, ◌||◌, eqb, List, [], ◌∷◌, length, take, drop, get_or, refl, sym, ap, ◌∙◌, arith}
-use Rattle.std.specs.List.{list_any, IsDistinct, AllByRecursion}
-use Rattle.std.specs.List.Sorted.{IsPermutation}
-use Rattle.std.proofs.lemmas.List.{take_all}
+use Rattle.registry.proofs.Vocabulary.{◌≡◌, ℕ, ◌-◌, ◌<◌, Bool, true, false, ◌||◌, eqb, List, [], ◌∷◌, length, take, drop, get_or, refl, sym, ap, ◌∙◌, arith, list_any, AllByRecursion, IsPermutation, take_all, or_parts, nat_tests, prefix_eq, Family, V4, V6, Prefix, has_repeat}
+use Rattle.std.specs.List.{IsDistinct}
 use Rattle.std.proofs.lemmas.Map.Keys.{IsDistinct-IsPermutation}
-use Rattle.std.proofs.lemmas.Bool.{or_parts}
-use Rattle.std.proofs.lemmas.Bool.Decides.{nat_tests}
 use Rattle.addr.specs.Family.{family_eq}
-use Rattle.addr.specs.Address.{prefix_eq}
-use Rattle.addr.specs.declared.family.Family.{Family}
-use Rattle.addr.specs.declared.family.Family.TheVariants.{V4, V6}
-use Rattle.addr.specs.declared.prefix.Prefix.{Prefix}
-use Rattle.registry.specs.Repeats.{has_repeat}
 
 -- the list without its first value, as a slice pattern has it
 pub rest_of : {T : Type 0} (y : T) (ys : List T) → take (length (y ∷ ys) - 1) (drop 1 (y ∷ ys)) ≡ ys

@@ -1,20 +1,9 @@
 -- Entries that rise by prefix, and sorted ones that do not, which have some prefix twice.
-use Rattle.std.proofs.Common.{◌≡◌, ℕ, zero, suc, ◌+◌, ◌<◌, Bool, true, false, ◌||◌, List, [], ◌∷◌, length, get_or, Ordering, refl, sym, ap, subst, ◌∙◌, arith}
-use Rattle.std.specs.Prelude.{◌↔◌, IsTrue, IsPermutation}
+use Rattle.registry.proofs.Vocabulary.{◌≡◌, ℕ, zero, suc, ◌+◌, ◌<◌, Bool, true, false, ◌||◌, List, [], ◌∷◌, length, get_or, Ordering, refl, sym, ap, subst, ◌∙◌, arith, ◌↔◌, is_lt, ordering_reverse, AllAdjacentBelow, IsAllAdjacentAnswer, list_any, IsSortedByKey, both_ways, or_right, IsPermutation-sym, prefix_eq, prefix_cmp, Prefix, prefix_itself, equal_prefix, RoaPrefix, Rise, have_one_prefix, repeats_prefix}
+use Rattle.std.specs.Prelude.{IsTrue, IsPermutation}
 use Rattle.std.specs.declared.cmp.Ordering.TheVariants.{Less, Equal, Greater}
-use Rattle.std.specs.Ordering.{is_lt, ordering_reverse}
-use Rattle.std.specs.List.{AllAdjacentBelow, IsAllAdjacentAnswer, list_any}
-use Rattle.std.specs.List.Sorted.{IsSortedByKey}
-use Rattle.std.proofs.lemmas.Bool.{both_ways, or_right}
-use Rattle.std.proofs.lemmas.List.Sorted.{IsPermutation-sym}
-use Rattle.addr.specs.Address.{prefix_eq}
-use Rattle.addr.specs.Order.{prefix_cmp}
-use Rattle.addr.specs.declared.prefix.Prefix.{Prefix}
-use Rattle.addr.proofs.Equality.{prefix_itself, equal_prefix}
 use Rattle.addr.proofs.OrderLemmas.{prefix_order, less_is}
 use Rattle.registry.proofs.Repeats.{has_repeat-moved, prefix_eq-flips}
-use Rattle.addr.specs.declared.roa_prefix.RoaPrefix.{RoaPrefix}
-use Rattle.registry.specs.RoaPrefixes.{Rise, have_one_prefix, repeats_prefix}
 
 -- ---- rising, by index and by recursion
 

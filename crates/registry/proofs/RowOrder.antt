@@ -1,11 +1,8 @@
 -- The rows of an import that tie in their order are those whose fields are all the same.
-use Rattle.std.proofs.Common.{◌≡◌, Bool, ◌&&◌, ◌==◌, sym}
+use Rattle.registry.proofs.Vocabulary.{◌≡◌, Bool, ◌&&◌, ◌==◌, sym, is_eq, prefix_eq, ImportRow}
 use Rattle.std.specs.Cmp.{both_tied, unsigned_ties}
-use Rattle.std.specs.Ordering.{is_eq}
-use Rattle.addr.specs.Address.{prefix_eq}
 use Rattle.addr.specs.steps.TotalOrders.{prefix_ties}
 use Rattle.registry.specs.contracts.authorization.ImportRowOrd.TheImpl as ImportRowOrd
-use Rattle.registry.specs.declared.authorization.ImportRow.{ImportRow}
 
 pub row_ties : (r s : ImportRow)
     → ((r.asn.0 == s.asn.0) && (prefix_eq r.prefix s.prefix && ((r.max == s.max) && ((r.from == s.from) && (r.until == s.until)))))

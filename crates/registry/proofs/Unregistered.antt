@@ -1,20 +1,8 @@
 -- In a legal history a holder that is not registered has nothing.
-use Rattle.std.proofs.Common.{◌≡◌, ℕ, Bool, true, false, cond, eqb, List, [], ◌∷◌, inl, inr, Some, None, refl, sym, ap, ◌∙◌}
-use Rattle.std.proofs.lemmas.Bool.{cases_Bool, false≢true, or_parts}
-use Rattle.std.specs.List.{list_any}
-use Rattle.addr.specs.Address.{Address, has_address}
+use Rattle.registry.proofs.Vocabulary.{◌≡◌, ℕ, Bool, true, false, cond, eqb, List, [], ◌∷◌, inl, inr, Some, None, refl, sym, ap, ◌∙◌, cases_Bool, false≢true, or_parts, list_any, Address, has_address, Granted, Command, Register, Delegate, Transfer, Reclaim, Grant, Revoke, Create, Amend, Withdraw, Import, Slurm, Entry, History, same_name, registers, is_registered, resource_holder, is_held_by, grant_terms, grants_made, authorizations_made, authorization_terms, holder_of, is_this, Verdict}
 use Rattle.registry.specs.declared.charter.Charter.{Charter}
-use Rattle.registry.specs.declared.grant.Granted.{Granted}
 use Rattle.registry.specs.declared.grant.Access.TheVariants.{Alter}
-use Rattle.registry.specs.declared.command.Command.{Command}
-use Rattle.registry.specs.declared.command.Command.TheVariants.{Register, Delegate, Transfer, Reclaim, Grant, Revoke, Create, Amend, Withdraw, Import, Slurm}
-use Rattle.registry.specs.History.{Entry, History, same_name, registers, is_registered}
-use Rattle.registry.specs.Resources.{resource_holder, is_held_by}
-use Rattle.registry.specs.Terms.{grant_terms, grants_made, authorizations_made, authorization_terms}
 use Rattle.registry.specs.Permission.{has_access}
-use Rattle.registry.specs.Answer.{holder_of}
-use Rattle.registry.specs.HolderEntries.{is_this}
-use Rattle.registry.specs.Verdict.{Verdict}
 use Rattle.registry.specs.Unregistered.{HasNothing, UnregisteredHaveNothing}
 use Rattle.registry.proofs.Names.{same_name-true}
 use Rattle.registry.proofs.Carry.{keeps_unnamed}

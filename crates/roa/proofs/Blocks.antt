@@ -1,19 +1,7 @@
 -- The blocks of both families and the whole content: what is read is what is written.
-use Rattle.std.proofs.Common.{◌≡◌, ℕ, ◌+◌, ◌-◌, ◌*◌, ◌^◌, ◌<◌, ◌≤◌, false, cond, eqb, List, [], ◌∷◌, ◌++◌, length, Option, Some, None, refl, sym, ap, subst, ◌∙◌, inl, inr, arith}
-use Rattle.std.specs.Prelude.{nat_eq}
+use Rattle.roa.proofs.Vocabulary.{◌≡◌, ℕ, ◌+◌, ◌-◌, ◌*◌, ◌^◌, ◌<◌, ◌≤◌, false, cond, eqb, List, [], ◌∷◌, ◌++◌, length, Option, Some, None, refl, sym, ap, subst, ◌∙◌, inl, inr, arith, nat_eq, flat_map, AllByRecursion, cases_eq, cases_Bool, eq-eqb, ne_eqb, same_Some, option_and_then_some, length-append, append-nil, nil_from_length, flat_map-cons, Family, V4, V6, family_octets, be_octets, integer_len, integer, element, sequence, octet_string, ◌>>=◌, Numbers, sole_element, integer_of, entries_in_octets, entries_after, AreOctets}
 use Rattle.std.specs.Cmp.Lexicographic.{pointwise, bytes_decides}
-use Rattle.std.specs.List.{flat_map, AllByRecursion}
-use Rattle.std.proofs.lemmas.Bool.{cases_eq, cases_Bool, eq-eqb, ne_eqb}
-use Rattle.std.proofs.lemmas.Option.{same_Some, option_and_then_some}
-use Rattle.std.proofs.lemmas.List.{length-append, append-nil, nil_from_length}
-use Rattle.std.proofs.lemmas.List.Concat.{flat_map-cons}
-use Rattle.addr.specs.declared.family.Family.{Family}
-use Rattle.addr.specs.declared.family.Family.TheVariants.{V4, V6}
-use Rattle.roa.specs.RoaContent.{family_octets}
-use Rattle.roa.specs.ContentOctets.{be_octets, integer_len, integer, element, sequence, octet_string}
-use Rattle.addr.specs.PrefixText.{◌>>=◌}
-use Rattle.roa.specs.steps.Reading.{Numbers, element_at, whole, integer_of, entries_in_octets, block_at, entries_after, family_at, blocks_of, fields_of, content_of}
-use Rattle.roa.specs.RoaContent.{AreOctets}
+use Rattle.roa.specs.steps.Reading.{element_at, block_at, family_at, blocks_of, fields_of, content_of}
 use Rattle.roa.proofs.Octets.{length-be_octets}
 use Rattle.roa.proofs.Elements.{Takes, element_again, element_only, whole_again, whole_only}
 use Rattle.roa.proofs.Primitives.{integer_len_bound, integer_again, integer_only}
@@ -50,7 +38,7 @@ block_again family n ns rest all few =
     element_again 48 (octet_string (family_octets family) ++ sequence (flat_map numbers_octets (n ∷ ns))) rest size3 in
     let second : element_at 4 (octet_string (family_octets family) ++ sequence (flat_map numbers_octets (n ∷ ns))) ≡ Some (family_octets family, sequence (flat_map numbers_octets (n ∷ ns))) =
     element_again 4 (family_octets family) (sequence (flat_map numbers_octets (n ∷ ns))) (omega (arith, length-family_octets family)) in
-    let third : whole 48 (sequence (flat_map numbers_octets (n ∷ ns))) ≡ Some (flat_map numbers_octets (n ∷ ns)) = whole_again 48 (flat_map numbers_octets (n ∷ ns)) (omega (arith, size)) in
+    let third : sole_element 48 (sequence (flat_map numbers_octets (n ∷ ns))) ≡ Some (flat_map numbers_octets (n ∷ ns)) = whole_again 48 (flat_map numbers_octets (n ∷ ns)) (omega (arith, size)) in
     let some : eqb (length (flat_map numbers_octets (n ∷ ns))) 0 ≡ false = ne_eqb _ 0 (λ z. omega (arith, ap length (flat_map-cons numbers_octets n ns), z)) in
     rw (first, second, (bytes_decides (family_octets family) (family_octets family)).1 refl, third, some) refl
 
@@ -77,15 +65,15 @@ TakesBlock family bytes p = Takes bytes (sequence (octet_string (family_octets f
 block_only : (family : Family) (bytes : List ℕ) (p : List ℕ × List ℕ) → AreOctets bytes → block_at family bytes ≡ Some p → TakesBlock family bytes p
 unfolding block_at
 block_only family bytes p are e =
-    option_and_then_some (λ (b : List ℕ × List ℕ). element_at 4 b.0 >>= λ octets. cond (pointwise nat_eq octets.0 (family_octets family)) (whole 48 octets.1 >>= λ addresses. cond (eqb (length addresses) 0) None (Some (addresses, b.1))) None) (element_at 48 bytes) p e (λ b found e1.
-    option_and_then_some (λ (octets : List ℕ × List ℕ). cond (pointwise nat_eq octets.0 (family_octets family)) (whole 48 octets.1 >>= λ addresses. cond (eqb (length addresses) 0) None (Some (addresses, b.1))) None) (element_at 4 b.0) p e1 (λ octets found2 e2.
+    option_and_then_some (λ (b : List ℕ × List ℕ). element_at 4 b.0 >>= λ octets. cond (pointwise nat_eq octets.0 (family_octets family)) (sole_element 48 octets.1 >>= λ addresses. cond (eqb (length addresses) 0) None (Some (addresses, b.1))) None) (element_at 48 bytes) p e (λ b found e1.
+    option_and_then_some (λ (octets : List ℕ × List ℕ). cond (pointwise nat_eq octets.0 (family_octets family)) (sole_element 48 octets.1 >>= λ addresses. cond (eqb (length addresses) 0) None (Some (addresses, b.1))) None) (element_at 4 b.0) p e1 (λ octets found2 e2.
     let t = element_only 48 bytes b are found in
     let f = element_only 4 b.0 octets t.1 found2 in
     elim (cases_Bool (pointwise nat_eq octets.0 (family_octets family))) [
       | inr other ↦ let e3 = rw other at e2 in absurd cc
       | inl same ↦
           let e3 = rw same at e2 in
-          option_and_then_some (λ (addresses : List ℕ). cond (eqb (length addresses) 0) None (Some (addresses, b.1))) (whole 48 octets.1) p e3 (λ addresses found3 e4.
+          option_and_then_some (λ (addresses : List ℕ). cond (eqb (length addresses) 0) None (Some (addresses, b.1))) (sole_element 48 octets.1) p e3 (λ addresses found3 e4.
           let w = whole_only 48 octets.1 addresses f.0.rest_octets found3 in
           elim (cases_eq (length addresses) 0) [
             | inl none ↦ let e5 = rw (eq-eqb (length addresses) 0 none) at e4 in absurd cc
@@ -194,10 +182,10 @@ length-fields number four six are = omega (arith, length-append (integer number)
 pub content_again : (number : ℕ) (four six : List Numbers) → number < 2 ^ 32 → AreBlocks four six → content_of (spelled number four six) ≡ Some (number, four ++ six)
 unfolding content_of fields_of
 content_again number four six small are =
-    let fields : whole 48 (spelled number four six) ≡ Some (integer number ++ sequence (blocks_octets four six)) = whole_again 48 (integer number ++ sequence (blocks_octets four six)) (length-fields number four six are) in
+    let fields : sole_element 48 (spelled number four six) ≡ Some (integer number ++ sequence (blocks_octets four six)) = whole_again 48 (integer number ++ sequence (blocks_octets four six)) (length-fields number four six are) in
     let asn : element_at 2 (integer number ++ sequence (blocks_octets four six)) ≡ Some (be_octets (integer_len number) number, sequence (blocks_octets four six)) =
     element_again 2 (be_octets (integer_len number) number) (sequence (blocks_octets four six)) (omega (arith, length-be_octets (integer_len number) number, integer_len_bound number)) in
-    let blocks : whole 48 (sequence (blocks_octets four six)) ≡ Some (blocks_octets four six) = whole_again 48 (blocks_octets four six) (omega (arith, length-blocks four six are)) in
+    let blocks : sole_element 48 (sequence (blocks_octets four six)) ≡ Some (blocks_octets four six) = whole_again 48 (blocks_octets four six) (omega (arith, length-blocks four six are)) in
     rw (fields, asn, integer_again number small, blocks, blocks_again four six are) refl
 
 pub record ReadsContent (bytes : List ℕ) (number : ℕ) (ns : List Numbers) : Type 0 where
@@ -211,10 +199,10 @@ pub record ReadsContent (bytes : List ℕ) (number : ℕ) (ns : List Numbers) : 
 fields_only : (bytes : List ℕ) (p : ℕ × List ℕ) → AreOctets bytes → fields_of bytes ≡ Some p → (bytes ≡ sequence (integer p.0 ++ sequence p.1)) × (p.0 < 2 ^ 32) × AreOctets p.1
 unfolding fields_of
 fields_only bytes p octets e =
-    option_and_then_some (λ (fields : List ℕ). element_at 2 fields >>= λ asn. integer_of asn.0 >>= λ number. whole 48 asn.1 >>= λ blocks. Some (number, blocks)) (whole 48 bytes) p e (λ fields found e1.
-    option_and_then_some (λ (asn : List ℕ × List ℕ). integer_of asn.0 >>= λ number. whole 48 asn.1 >>= λ blocks. Some (number, blocks)) (element_at 2 fields) p e1 (λ asn found2 e2.
-    option_and_then_some (λ (number : ℕ). whole 48 asn.1 >>= λ blocks. Some (number, blocks)) (integer_of asn.0) p e2 (λ number found3 e3.
-    option_and_then_some (λ (blocks : List ℕ). Some (number, blocks)) (whole 48 asn.1) p e3 (λ blocks found4 e4.
+    option_and_then_some (λ (fields : List ℕ). element_at 2 fields >>= λ asn. integer_of asn.0 >>= λ number. sole_element 48 asn.1 >>= λ blocks. Some (number, blocks)) (sole_element 48 bytes) p e (λ fields found e1.
+    option_and_then_some (λ (asn : List ℕ × List ℕ). integer_of asn.0 >>= λ number. sole_element 48 asn.1 >>= λ blocks. Some (number, blocks)) (element_at 2 fields) p e1 (λ asn found2 e2.
+    option_and_then_some (λ (number : ℕ). sole_element 48 asn.1 >>= λ blocks. Some (number, blocks)) (integer_of asn.0) p e2 (λ number found3 e3.
+    option_and_then_some (λ (blocks : List ℕ). Some (number, blocks)) (sole_element 48 asn.1) p e3 (λ blocks found4 e4.
     let w = whole_only 48 bytes fields octets found in
     let a = element_only 2 fields asn w.1 found2 in
     let i = integer_only asn.0 number a.1 found3 in

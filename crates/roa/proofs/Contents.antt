@@ -1,21 +1,7 @@
 -- The two laws of a content: its octets are read as it, and what is read has these octets.
-use Rattle.std.proofs.Common.{◌≡◌, ℕ, suc, ◌+◌, ◌<◌, ◌≤◌, Bool, true, cond, leb, List, [], ◌∷◌, ◌++◌, length, map, Some, None, refl, sym, ap, subst, ◌∙◌, inl, inr, ◌⊎◌, arith}
-use Rattle.std.specs.declared.cmp.Ordering.TheVariants.{Less}
-use Rattle.std.specs.List.{flat_map, list_all, AllByRecursion}
-use Rattle.std.proofs.lemmas.Bool.{leb-true, le-leb, and_parts, and_from}
-use Rattle.std.proofs.lemmas.Option.{none-some, some_pair_parts}
-use Rattle.std.proofs.lemmas.List.{map-append, length-append}
-use Rattle.std.proofs.lemmas.List.Concat.{flat_map-cons}
-use Rattle.addr.specs.Family.{width, family_eq}
-use Rattle.addr.specs.declared.asn.Asn.{Asn}
-use Rattle.addr.specs.declared.family.Family.{Family}
-use Rattle.addr.specs.declared.family.Family.TheVariants.{V4, V6}
-use Rattle.addr.proofs.AddressLemmas.{first_below}
+use Rattle.roa.proofs.Vocabulary.{◌≡◌, ℕ, suc, ◌+◌, ◌<◌, ◌≤◌, Bool, true, cond, leb, List, [], ◌∷◌, ◌++◌, length, map, Some, None, refl, sym, ap, subst, ◌∙◌, inl, inr, ◌⊎◌, arith, Less, flat_map, list_all, AllByRecursion, leb-true, le-leb, and_parts, and_from, none-some, some_pair_parts, map-append, length-append, flat_map-cons, width, family_eq, Asn, Family, V4, V6, first_below, RouteOriginAttestation, IsContent, AreCanonical, Rises, entry_order, is_in_range, family_octets, of_family, AreOctetsOf, integer, sequence, octet_string, entry_octets, roa_ip_address_family, Numbers, numbers, element_at, content_of, AreOctets}
 use Rattle.addr.specs.declared.roa_prefix.RoaPrefix.{RoaPrefix as Entry}
-use Rattle.roa.specs.RoaContent.{RouteOriginAttestation, IsContent, AreCanonical, Rises, entry_order, is_in_range, family_octets, of_family}
-use Rattle.roa.specs.ContentOctets.{AreOctetsOf, integer, sequence, octet_string, entry_octets, roa_ip_address_family, content_octets}
-use Rattle.roa.specs.steps.Reading.{Numbers, numbers, element_at, content_of}
-use Rattle.roa.specs.RoaContent.{AreOctets}
+use Rattle.roa.specs.ContentOctets.{content_octets}
 use Rattle.roa.proofs.Elements.{element_again}
 use Rattle.roa.proofs.Entries.{IsEntry, numbers_octets}
 use Rattle.roa.proofs.Blocks.{block_octets, AreBlocks, spelled, length-fields, content_again, content_only}

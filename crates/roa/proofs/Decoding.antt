@@ -1,13 +1,6 @@
 -- What decoding answers, in terms of the grammar.
-use Rattle.std.proofs.Common.{◌≡◌, ℕ, List, map, Option, Some, None, refl, sym, ap, subst, ◌∙◌}
-use Rattle.std.specs.Prelude.{Err, IfSome, IfNone, IfOk, MatchResult}
-use Rattle.std.specs.Option.{ok_or}
-use Rattle.addr.specs.declared.asn.Asn.{Asn}
+use Rattle.roa.proofs.Vocabulary.{◌≡◌, ℕ, List, map, Option, Some, None, refl, sym, ap, subst, ◌∙◌, Err, IfSome, IfNone, IfOk, MatchResult, ok_or, Asn, DecodeFault, NotContent, Memory, RouteOriginAttestation, IsContent, AreCanonical, Encodes, Numbers, numbers, content_of, IsReadAs}
 use Rattle.addr.specs.declared.roa_prefix.RoaPrefix.{RoaPrefix as Entry}
-use Rattle.roa.specs.declared.fault.DecodeFault.{DecodeFault}
-use Rattle.roa.specs.declared.fault.DecodeFault.TheVariants.{NotContent, Memory}
-use Rattle.roa.specs.RoaContent.{RouteOriginAttestation, IsContent, AreCanonical, Encodes}
-use Rattle.roa.specs.steps.Reading.{Numbers, numbers, content_of, IsReadAs}
 use Rattle.roa.proofs.Contents.{content_made, WasRead, is_only, is_none}
 use Rattle.roa.proofs.Grammar.{encodes_is, encodes_from}
 

@@ -1,11 +1,6 @@
 -- Identifier, length and contents: what is read is what is written, and no element begins another.
-use Rattle.std.proofs.Common.{◌≡◌, ℕ, ◌+◌, ◌*◌, ◌/◌, ◌%◌, ◌<◌, ◌≤◌, false, cond, ltb, eqb, List, [], ◌∷◌, ◌++◌, length, take, drop, Some, None, refl, sym, ap, subst, ◌∙◌, inl, inr, append_assoc, arith}
-use Rattle.std.proofs.lemmas.Bool.{cases_lt, cases_eq, lt-ltb, le-ltb, eq-eqb, ne_eqb}
-use Rattle.std.proofs.lemmas.Option.{same_Some, option_and_then_some}
-use Rattle.std.proofs.lemmas.List.{take_at, drop_at, take-append-drop, length-append, length-take, append-nil, nil_from_length}
-use Rattle.roa.specs.ContentOctets.{length_octets, element}
-use Rattle.roa.specs.steps.Reading.{one_octet_at, two_octets_at, length_at, contents_at, element_at, whole}
-use Rattle.roa.specs.RoaContent.{AreOctets}
+use Rattle.roa.proofs.Vocabulary.{◌≡◌, ℕ, ◌+◌, ◌*◌, ◌/◌, ◌%◌, ◌<◌, ◌≤◌, false, cond, ltb, eqb, List, [], ◌∷◌, ◌++◌, length, take, drop, Some, None, refl, sym, ap, subst, ◌∙◌, inl, inr, append_assoc, arith, cases_lt, cases_eq, lt-ltb, le-ltb, eq-eqb, ne_eqb, same_Some, option_and_then_some, take_at, drop_at, take-append-drop, length-append, length-take, append-nil, nil_from_length, length_octets, element, AreOctets}
+use Rattle.roa.specs.steps.Reading.{one_octet_at, two_octets_at, length_at, contents_at, element_at, sole_element}
 use Rattle.roa.proofs.Octets.{AreOctets-take, AreOctets-drop}
 
 -- what a reader took from the front
@@ -124,14 +119,14 @@ element_only tag (t ∷ rest) p octets e =
     ]
 
 -- an element that is all of the octets
-pub whole_again : (tag : ℕ) (contents : List ℕ) → length contents < 65536 → whole tag (element tag contents) ≡ Some contents
-unfolding whole
+pub whole_again : (tag : ℕ) (contents : List ℕ) → length contents < 65536 → sole_element tag (element tag contents) ≡ Some contents
+unfolding sole_element
 whole_again tag contents h =
     let one : element_at tag (element tag contents) ≡ Some (contents, []) = ap (element_at tag) (sym (append-nil (element tag contents))) ∙ element_again tag contents [] h in
     rw one refl
 
-pub whole_only : (tag : ℕ) (bytes contents : List ℕ) → AreOctets bytes → whole tag bytes ≡ Some contents → (bytes ≡ element tag contents) × AreOctets contents × (length contents < 65536)
-unfolding whole
+pub whole_only : (tag : ℕ) (bytes contents : List ℕ) → AreOctets bytes → sole_element tag bytes ≡ Some contents → (bytes ≡ element tag contents) × AreOctets contents × (length contents < 65536)
+unfolding sole_element
 whole_only tag bytes contents octets e =
     option_and_then_some (λ (p : List ℕ × List ℕ). cond (eqb (length p.1) 0) (Some p.0) None) (element_at tag bytes) contents e (λ p found e1.
     elim (cases_eq (length p.1) 0) [

@@ -1,18 +1,6 @@
 -- Entries: what is read is what is written.
-use Rattle.std.proofs.Common.{◌≡◌, ℕ, zero, suc, ◌*◌, ◌^◌, ◌<◌, ◌≤◌, false, cond, ltb, leb, eqb, ◌&&◌, List, [], ◌∷◌, ◌++◌, length, Some, None, refl, sym, ap, subst, ◌∙◌, inl, inr, arith}
-use Rattle.std.specs.List.{flat_map, AllByRecursion}
-use Rattle.std.proofs.lemmas.Bool.{cases_lt, cases_eq, cases_Bool, lt-ltb, le-ltb, le-leb, eq-eqb, ne_eqb, ltb-true, leb-true, and_parts}
-use Rattle.std.proofs.lemmas.Option.{same_Some, option_and_then_some}
-use Rattle.std.proofs.lemmas.List.{length-append, nil_from_length}
-use Rattle.std.proofs.lemmas.List.Concat.{flat_map-cons}
-use Rattle.addr.specs.Family.{width}
-use Rattle.addr.specs.Address.{IsPrefix}
-use Rattle.addr.specs.declared.family.Family.{Family}
-use Rattle.addr.proofs.AddressLemmas.{width_small}
-use Rattle.roa.specs.ContentOctets.{be_octets, integer_len, integer, element, bit_string, max_length, roa_ip_address}
-use Rattle.addr.specs.PrefixText.{◌>>=◌}
-use Rattle.roa.specs.steps.Reading.{Numbers, element_at, whole, integer_of, prefix_of, max_of, entry_of, entry_at, entries_in_octets}
-use Rattle.roa.specs.RoaContent.{AreOctets}
+use Rattle.roa.proofs.Vocabulary.{◌≡◌, ℕ, zero, suc, ◌*◌, ◌^◌, ◌<◌, ◌≤◌, false, cond, ltb, leb, eqb, ◌&&◌, List, [], ◌∷◌, ◌++◌, length, Some, None, refl, sym, ap, subst, ◌∙◌, inl, inr, arith, flat_map, AllByRecursion, cases_lt, cases_eq, cases_Bool, lt-ltb, le-ltb, le-leb, eq-eqb, ne_eqb, ltb-true, leb-true, and_parts, same_Some, option_and_then_some, length-append, nil_from_length, flat_map-cons, width, IsPrefix, Family, width_small, be_octets, integer_len, integer, element, bit_string, max_length, roa_ip_address, ◌>>=◌, Numbers, element_at, sole_element, integer_of, prefix_of, AreOctets}
+use Rattle.roa.specs.steps.Reading.{max_of, entry_of, entry_at, entries_in_octets}
 use Rattle.roa.proofs.Octets.{length-be_octets}
 use Rattle.roa.proofs.Elements.{Takes, element_again, element_only, whole_again, whole_only}
 use Rattle.roa.proofs.Primitives.{integer_len_bound, integer_again, integer_only, prefix_again, prefix_only, bit_contents}
@@ -38,7 +26,7 @@ max_again family bits max long fits =
       | inl lt ↦
           let below : max < 2 ^ 32 = omega (arith, width_small family) in
           let size : length (be_octets (integer_len max) max) < 65536 = omega (arith, length-be_octets (integer_len max) max, integer_len_bound max) in
-          let read : whole 2 (integer max) ≡ Some (be_octets (integer_len max) max) = whole_again 2 (be_octets (integer_len max) max) size in
+          let read : sole_element 2 (integer max) ≡ Some (be_octets (integer_len max) max) = whole_again 2 (be_octets (integer_len max) max) size in
           let some : eqb (length (integer max)) 0 ≡ false = ne_eqb _ 0 (λ z. omega (arith, z)) in
           rw (lt-ltb bits max lt, some, read, integer_again max below, lt-ltb bits max lt, le-leb max (width family) fits) refl
     ]
@@ -54,7 +42,7 @@ max_only family bits octets max are small e =
           subst (λ (m : ℕ). (octets ≡ max_length bits m) × (bits ≤ m) × (m ≤ width family)) (same_Some bits max e') (parts, omega arith, small)
       | inr some ↦
           let e' = rw (ne_eqb (length octets) 0 some) at e in
-          option_and_then_some (λ (contents : List ℕ). integer_of contents >>= λ m. cond (ltb bits m && leb m (width family)) (Some m) None) (whole 2 octets) max e' (λ contents found e1.
+          option_and_then_some (λ (contents : List ℕ). integer_of contents >>= λ m. cond (ltb bits m && leb m (width family)) (Some m) None) (sole_element 2 octets) max e' (λ contents found e1.
           option_and_then_some (λ (m : ℕ). cond (ltb bits m && leb m (width family)) (Some m) None) (integer_of contents) max e1 (λ m found' e2.
           let w = whole_only 2 octets contents are found in
           let i = integer_only contents m w.1 found' in

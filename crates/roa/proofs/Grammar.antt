@@ -1,17 +1,7 @@
 -- The grammar relates a content to the octets that the function gives, and to no others.
-use Rattle.std.proofs.Common.{◌≡◌, ℕ, ◌-◌, ◌*◌, ◌/◌, ◌^◌, ◌<◌, ◌≤◌, Bool, true, false, cond, List, [], ◌∷◌, ◌++◌, length, refl, sym, ap, subst, ◌∙◌, inl, inr, arith}
-use Rattle.std.specs.List.{flat_map, list_all}
-use Rattle.std.proofs.lemmas.Bool.{cases_lt, lt-ltb, le-ltb, and_parts, and_from}
-use Rattle.std.proofs.lemmas.Nat.{shl-shr}
-use Rattle.std.proofs.lemmas.List.Concat.{flat_map-cons}
-use Rattle.addr.specs.Family.{width, family_eq}
-use Rattle.addr.specs.Address.{IsPrefix}
-use Rattle.addr.specs.declared.family.Family.{Family}
-use Rattle.addr.specs.declared.family.Family.TheVariants.{V4, V6}
-use Rattle.addr.proofs.AddressLemmas.{width_small}
+use Rattle.roa.proofs.Vocabulary.{◌≡◌, ℕ, ◌-◌, ◌*◌, ◌/◌, ◌^◌, ◌<◌, ◌≤◌, Bool, true, false, cond, List, [], ◌∷◌, ◌++◌, length, refl, sym, ap, subst, ◌∙◌, inl, inr, arith, flat_map, list_all, cases_lt, lt-ltb, le-ltb, and_parts, and_from, shl-shr, flat_map-cons, width, family_eq, IsPrefix, Family, V4, V6, width_small, RouteOriginAttestation, IsContent, is_in_range, be_value, IsElement, IsInteger, AreFirstBits, IsBitString, IsMaxLength, IsRoaIpAddress, AreRoaIpAddresses, family_octets, IsBlock, of_family, Encodes, be_octets, length_octets, element, sequence, integer_len, integer, octet_string, bit_octets, bit_string, max_length, entry_octets, roa_ip_address_family, AreOctetsOf}
 use Rattle.addr.specs.declared.roa_prefix.RoaPrefix.{RoaPrefix as Entry}
-use Rattle.roa.specs.RoaContent.{RouteOriginAttestation, IsContent, is_in_range, be_value, IsElement, IsInteger, AreFirstBits, IsBitString, IsMaxLength, IsRoaIpAddress, AreRoaIpAddresses, family_octets, IsBlock, of_family, Encodes}
-use Rattle.roa.specs.ContentOctets.{be_octets, length_octets, element, sequence, integer_len, integer, octet_string, bit_octets, bit_string, max_length, entry_octets, roa_ip_address_family, content_octets, AreOctetsOf}
+use Rattle.roa.specs.ContentOctets.{content_octets}
 use Rattle.roa.proofs.Octets.{length-be_octets, be_octets-be_value, be_value-be_octets, AreOctets-be_octets}
 use Rattle.roa.proofs.Primitives.{integer_len_bound, bit_contents, first_octets_fit, octets_back}
 use Rattle.roa.proofs.Sizes.{length-bit_contents, length-entry_contents, length-family_octets, addresses_short, block_short, blocks_short, fields_short}

@@ -13,3 +13,4 @@ pub mod Written
 pub mod Shortest
 pub mod Grammar
 pub mod Decoding
+pub mod Vocabulary

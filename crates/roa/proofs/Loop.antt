@@ -1,14 +1,7 @@
 -- Reading the entries of a family one after the other, as a loop does.
-use Rattle.std.proofs.Common.{◌≡◌, ℕ, zero, suc, ◌-◌, ◌≤◌, ◌<◌, List, [], ◌∷◌, ◌++◌, length, map, Option, Some, None, Ok, Err, refl, sym, ap, ◌∙◌, append_assoc, arith}
-use Rattle.std.specs.Option.{option_map, ok_or}
-use Rattle.roa.specs.declared.fault.DecodeFault.{DecodeFault}
-use Rattle.roa.specs.declared.fault.DecodeFault.TheVariants.{NotContent}
-use Rattle.std.proofs.lemmas.Bool.{eq-eqb, ne_eqb}
-use Rattle.std.proofs.lemmas.List.{append-nil, length-append, map-append}
-use Rattle.addr.specs.declared.family.Family.{Family}
+use Rattle.roa.proofs.Vocabulary.{◌≡◌, ℕ, zero, suc, ◌-◌, ◌≤◌, ◌<◌, List, [], ◌∷◌, ◌++◌, length, map, Option, Some, None, Ok, Err, refl, sym, ap, ◌∙◌, append_assoc, arith, option_map, ok_or, DecodeFault, NotContent, eq-eqb, ne_eqb, append-nil, length-append, map-append, Family, ◌>>=◌, ReadsAs, Numbers, numbers, entry_at}
 use Rattle.addr.specs.declared.roa_prefix.RoaPrefix.{RoaPrefix as Entry}
-use Rattle.addr.specs.PrefixText.{◌>>=◌}
-use Rattle.roa.specs.steps.Reading.{ReadsAs, Numbers, numbers, entry_at, entries_in_octets}
+use Rattle.roa.specs.steps.Reading.{entries_in_octets}
 
 -- what was read before, and what is still read
 abbrev pub with_front : List Entry → Option (List Numbers) → Option (List Numbers)

@@ -1,10 +1,5 @@
 -- Numbers as octets, the most significant one first.
-use Rattle.std.proofs.Common.{◌≡◌, ℕ, zero, suc, ◌+◌, ◌-◌, ◌*◌, ◌/◌, ◌%◌, ◌^◌, ◌<◌, ◌≤◌, List, [], ◌∷◌, ◌++◌, length, get_or, take, drop, refl, sym, ap, ◌∙◌, append_assoc, arith}
-use Rattle.std.proofs.Math.Nat.{pow-le-pow_right}
-use Rattle.std.proofs.lemmas.List.{take_more, length-append, length-take}
-use Rattle.std.proofs.lemmas.Nat.{pow_pos, pow-add, div-mul-add, mod-mul-add, mod_below, div_below, div-add-mod', mul-add-lt, one_shl}
-use Rattle.roa.specs.ContentOctets.{be_octets}
-use Rattle.roa.specs.RoaContent.{be_value, AreOctets}
+use Rattle.roa.proofs.Vocabulary.{◌≡◌, ℕ, zero, suc, ◌+◌, ◌-◌, ◌*◌, ◌/◌, ◌%◌, ◌^◌, ◌<◌, ◌≤◌, List, [], ◌∷◌, ◌++◌, length, get_or, take, drop, refl, sym, ap, ◌∙◌, append_assoc, arith, pow-le-pow_right, take_more, length-append, length-take, pow_pos, pow-add, div-mul-add, mod-mul-add, mod_below, div_below, div-add-mod', mul-add-lt, one_shl, be_octets, be_value, AreOctets}
 
 pub AreOctets-from_index : (bs : List ℕ) → ((i : ℕ) → get_or bs i 0 < 256) → AreOctets bs
 AreOctets-from_index [] h = tt

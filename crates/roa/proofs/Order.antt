@@ -1,21 +1,12 @@
 -- The order of entries: rising by index, sorted lists with a repeated entry.
-use Rattle.std.proofs.Common.{◌≡◌, ℕ, zero, suc, ◌+◌, ◌<◌, ◌≤◌, Bool, true, false, cond, List, [], ◌∷◌, length, get_or, Ordering, refl, sym, ap, subst, ◌∙◌, arith}
-use Rattle.std.specs.Prelude.{◌↔◌, IsTrue, IsPermutation, IsSorted}
-use Rattle.std.specs.declared.cmp.Ordering.TheVariants.{Less, Equal, Greater}
+use Rattle.roa.proofs.Vocabulary.{◌≡◌, ℕ, zero, suc, ◌+◌, ◌<◌, ◌≤◌, Bool, true, false, cond, List, [], ◌∷◌, length, get_or, Ordering, refl, sym, ap, subst, ◌∙◌, arith, ◌↔◌, IsTrue, IsPermutation, IsSorted, Less, Equal, Greater, is_lt, nat_cmp, ordering_reverse, AllAdjacentBelow, IsAllAdjacentAnswer, list_all, count_by, and_from, eq-eqb, both_ways, All-permutation, sum_by-IsPermutation, AllPass-from_list_all, list_all-from_AllPass, prefix_itself, entry_order, entry_eq, is_in_range, Rises}
 use Rattle.std.specs.Cmp.{IsTotalOrder}
-use Rattle.std.specs.Ordering.{is_lt, nat_cmp, ordering_reverse}
-use Rattle.std.specs.List.{AllAdjacentBelow, IsAllAdjacentAnswer, list_all, count_by}
-use Rattle.std.proofs.lemmas.Bool.{and_from, eq-eqb, both_ways}
 use Rattle.std.proofs.lemmas.Cmp.{nat_cmp_total, on_total, then_total}
 use Rattle.std.specs.FinMap.{nat_cmp-IsAntisymmetric}
 use Rattle.std.proofs.lemmas.List.Recursion.{is_count_by}
-use Rattle.std.proofs.lemmas.List.Sorted.{All-permutation, sum_by-IsPermutation}
-use Rattle.std.proofs.lemmas.List.Sums.{AllPass-from_list_all, list_all-from_AllPass}
 use Rattle.addr.specs.declared.roa_prefix.RoaPrefix.{RoaPrefix as Entry}
 use Rattle.addr.specs.Order.{prefix_cmp}
-use Rattle.addr.proofs.Equality.{prefix_itself}
 use Rattle.addr.proofs.OrderLemmas.{prefix_order, both_equal, less_is}
-use Rattle.roa.specs.RoaContent.{entry_order, entry_eq, is_in_range, Rises}
 
 -- ---- rising, by index and by recursion
 

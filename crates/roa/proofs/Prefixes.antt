@@ -1,9 +1,6 @@
 -- Two entries with the same numbers are equal.
-use Rattle.std.proofs.Common.{◌≡◌, ℕ, ap, ◌∙◌}
-use Rattle.addr.specs.Address.{same_prefix}
-use Rattle.addr.specs.declared.prefix.Prefix.{Prefix}
+use Rattle.roa.proofs.Vocabulary.{◌≡◌, ℕ, ap, ◌∙◌, same_prefix, Prefix, Numbers, numbers}
 use Rattle.addr.specs.declared.roa_prefix.RoaPrefix.{RoaPrefix as Entry}
-use Rattle.roa.specs.steps.Reading.{Numbers, numbers}
 
 abbrev entry_made : Prefix → ℕ → Entry
 entry_made p m = record { prefix = p; max = m }

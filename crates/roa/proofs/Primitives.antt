@@ -1,20 +1,6 @@
 -- INTEGER and BIT STRING: what is read is what is written.
-use Rattle.std.proofs.Common.{◌≡◌, ℕ, ◌+◌, ◌-◌, ◌*◌, ◌/◌, ◌%◌, ◌^◌, ◌<◌, ◌≤◌, true, false, ltb, eqb, ◌&&◌, List, [], ◌∷◌, ◌++◌, length, Option, Some, None, refl, sym, ap, subst, ◌∙◌, inl, inr, append_assoc, arith}
-use Rattle.std.specs.Prelude.{◌↔◌, IsSome, IfSome, unwrap_or}
-use Rattle.std.specs.Option.{SomeIff}
-use Rattle.addr.specs.declared.prefix.Prefix.{Prefix}
-use Rattle.std.proofs.lemmas.Bool.{false≢true, cases_lt, cases_eq, cases_Bool, lt-ltb, le-ltb, eq-eqb, ne_eqb, ltb-true, eqb-true, and_parts, and_from}
-use Rattle.std.proofs.lemmas.Option.{same_Some}
-use Rattle.std.proofs.lemmas.Nat.{shl-shr, shr_split, shr_below, shl_below}
-use Rattle.addr.specs.Family.{width}
-use Rattle.addr.specs.Address.{IsPrefix}
-use Rattle.addr.specs.declared.family.Family.{Family}
-use Rattle.addr.specs.declared.family.Family.TheVariants.{V4, V6}
-use Rattle.addr.proofs.AddressLemmas.{below_widest, multiple-at_most}
-use Rattle.roa.specs.ContentOctets.{be_octets, integer_len, bit_octets, length_octets, bit_string}
-use Rattle.roa.specs.RoaContent.{be_value}
-use Rattle.roa.specs.steps.Reading.{integer_of, prefix_of, ReadsAs}
-use Rattle.roa.specs.RoaContent.{AreOctets}
+use Rattle.roa.proofs.Vocabulary.{◌≡◌, ℕ, ◌+◌, ◌-◌, ◌*◌, ◌/◌, ◌%◌, ◌^◌, ◌<◌, ◌≤◌, true, false, ltb, eqb, ◌&&◌, List, [], ◌∷◌, ◌++◌, length, Option, Some, None, refl, sym, ap, subst, ◌∙◌, inl, inr, append_assoc, arith, ◌↔◌, IsSome, IfSome, unwrap_or, SomeIff, Prefix, false≢true, cases_lt, cases_eq, cases_Bool, lt-ltb, le-ltb, eq-eqb, ne_eqb, ltb-true, eqb-true, and_parts, and_from, same_Some, shl-shr, shr_split, shr_below, shl_below, width, IsPrefix, Family, V4, V6, below_widest, multiple-at_most, be_octets, integer_len, bit_octets, length_octets, bit_string, be_value, ReadsAs, AreOctets}
+use Rattle.roa.specs.steps.Reading.{integer_of, prefix_of}
 use Rattle.roa.proofs.Octets.{length-be_octets, be_value-be_octets, be_value_below, be_octets-be_value}
 
 -- ---- INTEGER

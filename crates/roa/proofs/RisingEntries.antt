@@ -1,16 +1,5 @@
 -- Entries that rise: they have one order, and each is there once.
-use Rattle.std.proofs.Common.{◌≡◌, ℕ, zero, suc, ◌+◌, ◌<◌, ◌≤◌, ◌==◌, true, false, cond, List, [], ◌∷◌, length, get_or, inl, inr, refl, sym, ap, subst, ◌∙◌, Contains, arith}
-use Rattle.std.specs.Prelude.{◌⊎◌, IsPermutation}
-use Rattle.std.specs.declared.cmp.Ordering.TheVariants.{Less, Greater}
-use Rattle.std.specs.Ordering.{ordering_reverse}
-use Rattle.std.specs.List.{AllByRecursion, count_by}
-use Rattle.std.proofs.lemmas.Bool.{and_parts, cases_Bool, eqb-true}
-use Rattle.std.proofs.lemmas.List.Elements.{All-contains, All-from_recursion, Contains-append_right}
-use Rattle.std.proofs.lemmas.List.Sorted.{Contains-permutation, IsPermutation-sym}
-use Rattle.std.proofs.lemmas.List.Sums.{sum_by-cons}
-use Rattle.addr.proofs.Equality.{equal_prefix}
-use Rattle.addr.specs.Address.{prefix_eq}
-use Rattle.roa.specs.RoaContent.{Rises, entry_eq, entry_order}
+use Rattle.roa.proofs.Vocabulary.{◌≡◌, ℕ, zero, suc, ◌+◌, ◌<◌, ◌≤◌, ◌==◌, true, false, cond, List, [], ◌∷◌, length, get_or, inl, inr, refl, sym, ap, subst, ◌∙◌, Contains, arith, ◌⊎◌, IsPermutation, Less, Greater, ordering_reverse, AllByRecursion, count_by, and_parts, cases_Bool, eqb-true, All-contains, All-from_recursion, Contains-append_right, Contains-permutation, IsPermutation-sym, sum_by-cons, equal_prefix, prefix_eq, Rises, entry_eq, entry_order}
 use Rattle.addr.specs.declared.roa_prefix.RoaPrefix.{RoaPrefix as Entry}
 use Rattle.roa.proofs.Order.{entry_order_total}
 

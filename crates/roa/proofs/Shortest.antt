@@ -1,9 +1,5 @@
 -- The fewest octets of a number, by the grammar and as a function.
-use Rattle.std.proofs.Common.{◌≡◌, ℕ, zero, suc, ◌+◌, ◌*◌, ◌/◌, ◌%◌, ◌^◌, ◌<◌, ◌≤◌, ◌⊎◌, List, [], ◌∷◌, length, refl, sym, ap, ◌∙◌, inl, inr, arith}
-use Rattle.std.proofs.Math.Nat.{pow-le-pow_right, mul-le-mul_left}
-use Rattle.std.proofs.lemmas.Bool.{cases_lt, lt-ltb, le-ltb}
-use Rattle.roa.specs.RoaContent.{AreOctets, be_value, IsLength, IsTwosComplement}
-use Rattle.roa.specs.ContentOctets.{be_octets, length_octets, integer_len}
+use Rattle.roa.proofs.Vocabulary.{◌≡◌, ℕ, zero, suc, ◌+◌, ◌*◌, ◌/◌, ◌%◌, ◌^◌, ◌<◌, ◌≤◌, ◌⊎◌, List, [], ◌∷◌, length, refl, sym, ap, ◌∙◌, inl, inr, arith, pow-le-pow_right, mul-le-mul_left, cases_lt, lt-ltb, le-ltb, AreOctets, be_value, IsLength, IsTwosComplement, be_octets, length_octets, integer_len}
 use Rattle.roa.proofs.Octets.{be_octets-be_value, be_value-be_octets, AreOctets-be_octets, pow_step}
 
 -- ---- numbers of many octets are large

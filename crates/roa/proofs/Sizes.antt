@@ -1,16 +1,7 @@
 -- How long the parts of a content are: no length comes near 2 ^ 16.
-use Rattle.std.proofs.Common.{◌≡◌, ℕ, ◌+◌, ◌-◌, ◌*◌, ◌/◌, ◌^◌, ◌<◌, ◌≤◌, not, List, [], ◌∷◌, ◌++◌, length, refl, ap, inl, inr, arith}
-use Rattle.std.specs.List.{flat_map}
-use Rattle.std.proofs.lemmas.Bool.{cases_lt, lt-ltb, le-ltb}
-use Rattle.std.proofs.lemmas.List.{length-append}
+use Rattle.roa.proofs.Vocabulary.{◌≡◌, ℕ, ◌+◌, ◌-◌, ◌*◌, ◌/◌, ◌^◌, ◌<◌, ◌≤◌, not, List, [], ◌∷◌, ◌++◌, length, refl, ap, inl, inr, arith, flat_map, cases_lt, lt-ltb, le-ltb, length-append, flat_map-cons, width, family_eq, Family, V4, V6, family_octets, of_family, length_octets, element, be_octets, integer_len, integer, bit_octets, bit_string, max_length, roa_ip_address, entry_octets, roa_ip_address_family}
 use Rattle.std.proofs.lemmas.List.Filters.{length-filter_both}
-use Rattle.std.proofs.lemmas.List.Concat.{flat_map-cons}
-use Rattle.addr.specs.Family.{width, family_eq}
 use Rattle.addr.specs.declared.roa_prefix.RoaPrefix.{RoaPrefix as Entry}
-use Rattle.addr.specs.declared.family.Family.{Family}
-use Rattle.addr.specs.declared.family.Family.TheVariants.{V4, V6}
-use Rattle.roa.specs.RoaContent.{family_octets, of_family}
-use Rattle.roa.specs.ContentOctets.{length_octets, element, be_octets, integer_len, integer, bit_octets, bit_string, max_length, roa_ip_address, entry_octets, roa_ip_address_family}
 use Rattle.roa.proofs.Octets.{length-be_octets}
 use Rattle.roa.proofs.Primitives.{integer_len_bound, bit_octets_bound, bit_contents}
 

@@ -1,15 +1,7 @@
 -- A loop over the entries that writes those of a family.
-use Rattle.std.proofs.Common.{◌≡◌, ℕ, ◌+◌, ◌<◌, Bool, true, false, cond, List, [], ◌∷◌, ◌++◌, length, get_or, take, sym, ap, ◌∙◌, append_assoc}
-use Rattle.std.specs.List.{flat_map}
-use Rattle.std.proofs.lemmas.List.{append-nil}
-use Rattle.std.proofs.lemmas.List.Concat.{flat_map-cons}
+use Rattle.roa.proofs.Vocabulary.{◌≡◌, ℕ, ◌+◌, ◌<◌, Bool, true, false, cond, List, [], ◌∷◌, ◌++◌, length, get_or, take, sym, ap, ◌∙◌, append_assoc, flat_map, append-nil, flat_map-cons, filter_more, family_eq, Family, of_family, entry_octets}
 use Rattle.std.proofs.lemmas.Grind.{flat_map-append}
-use Rattle.std.proofs.lemmas.List.Elements.{filter_more}
-use Rattle.addr.specs.Family.{family_eq}
-use Rattle.addr.specs.declared.family.Family.{Family}
 use Rattle.addr.specs.declared.roa_prefix.RoaPrefix.{RoaPrefix as Entry}
-use Rattle.roa.specs.RoaContent.{of_family}
-use Rattle.roa.specs.ContentOctets.{entry_octets}
 
 abbrev written : Family → List Entry → List ℕ
 written family es = flat_map entry_octets (of_family family es)

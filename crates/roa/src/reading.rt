@@ -1,7 +1,7 @@
 //! Decoding a content.
 ghost use Rattle.std.specs.Prelude.{◌≡◌, ◌<◌, ◌≤◌, ◌*◌, ◌-◌, ◌^◌, length, map, IfSome, IfOk, MatchResult};
 ghost use Rattle.addr.specs.Family.{width};
-ghost use Rattle.roa.specs.steps.Reading.{ReadsAs, length_at, contents_at, element_at, whole, integer_of, prefix_of, max_of, entry_of, entry_at, entries_in_octets, block_at, family_at, blocks_of, fields_of, content_of, numbers, Adds, AddsThen, IsReadAs};
+ghost use Rattle.roa.specs.steps.Reading.{ReadsAs, length_at, contents_at, element_at, sole_element, integer_of, prefix_of, max_of, entry_of, entry_at, entries_in_octets, block_at, family_at, blocks_of, fields_of, content_of, numbers, Adds, AddsThen, IsReadAs};
 ghost use Rattle.roa.specs.RoaContent.{RouteOriginAttestation, IsContent, Encodes, be_value};
 ghost use Rattle.roa.specs.declared.content.TheConstants.Content.{MAX_ENTRIES};
 
@@ -52,9 +52,9 @@ fn read_element(tag: u8, octets: &[u8]) -> Option<(&[u8], &[u8])>
 }
 
 /// The contents of an element with the tag that is all of the octets.
-#[tactic(auto, unfolding(crate::specs::steps::Reading::whole))]
+#[tactic(auto, unfolding(crate::specs::steps::Reading::sole_element))]
 fn read_whole(tag: u8, octets: &[u8]) -> Option<&[u8]>
-    ensures { ReadsAs (λ x. x.now) result (whole tag octets.now) }
+    ensures { ReadsAs (λ x. x.now) result (sole_element tag octets.now) }
 {
     let (contents, rest) = read_element(tag, octets)?;
     if !rest.is_empty() {

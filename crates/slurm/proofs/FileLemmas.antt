@@ -1,14 +1,6 @@
 -- The whole file: its two lists, and what BGPsec adds, of which there must be nothing.
-use Rattle.std.proofs.Common.{◌≡◌, ◌==◌, false, length, List, [], ◌∷◌, Vec, Global, Some, Result, Ok, Err, refl}
-use Rattle.addr.specs.declared.vrp.Vrp.{Vrp}
-use Rattle.json_values.specs.Parts.{both, mapped}
-use Rattle.serde_json.specs.View.{items_view}
+use Rattle.slurm.proofs.Vocabulary.{◌≡◌, ◌==◌, false, length, List, [], ◌∷◌, Vec, Global, Some, Result, Ok, Err, refl, Vrp, both, mapped, items_view, slurm_fault_number, bgpsec_from, SlurmFault, Bgpsec, Filter}
 use Rattle.serde_json.specs.declared.value.Value.{Value}
-use Rattle.slurm.specs.Fault.{slurm_fault_number}
-use Rattle.slurm.specs.steps.SlurmFile.{bgpsec_from}
-use Rattle.slurm.specs.declared.fault.SlurmFault.{SlurmFault}
-use Rattle.slurm.specs.declared.fault.SlurmFault.TheVariants.{Bgpsec}
-use Rattle.slurm.specs.declared.filter.Filter.{Filter}
 
 pub items-both : (filters : Result (Vec Filter Global) SlurmFault) (assertions : Result (Vec Vrp Global) SlurmFault) →
     mapped {B = List Filter × List Vrp} (λ lists. (lists.0.items, lists.1.items)) (both slurm_fault_number filters assertions)

@@ -1,14 +1,5 @@
 -- The test of a filter's match decides the match.
-use Rattle.std.proofs.Common.{List, ◌↔◌, IsTrue}
-use Rattle.std.proofs.lemmas.Bool.Decides.{Decides-and, Decides-eqb}
-use Rattle.std.proofs.lemmas.List.Folds.{Any-from_list_any, list_any-from_Any}
-use Rattle.std.specs.Bool.{Decides}
-use Rattle.std.specs.List.{Any, list_any}
-use Rattle.addr.proofs.AddressLemmas.{contains_each}
-use Rattle.addr.specs.declared.vrp.Vrp.{Vrp}
-use Rattle.slurm.specs.Filter.{FilterMatches, filter_matches}
-use Rattle.slurm.specs.declared.filter.Filter.{Filter}
-use Rattle.slurm.specs.declared.filter.Filter.TheVariants.{Under, By, Both}
+use Rattle.slurm.proofs.Vocabulary.{List, ◌↔◌, IsTrue, Decides-and, Decides-eqb, Any-from_list_any, list_any-from_Any, Decides, Any, list_any, contains_each, Vrp, FilterMatches, filter_matches, Filter, Under, By, Both}
 
 pub filter_matches-Decides : (f : Filter) (v : Vrp) → Decides (filter_matches f v) (FilterMatches f v)
 filter_matches-Decides (Under p) v = contains_each p v.prefix

@@ -10,3 +10,4 @@ pub mod FileLemmas
 pub mod VrpLemmas
 pub mod SlurmFaultLemmas
 pub mod SlurmEntryLemmas
+pub mod Vocabulary

@@ -1,17 +1,6 @@
 -- The test of an overlap decides it, and is that of the filters and of the assertions.
-use Rattle.std.proofs.Common.{◌≡◌, Bool, true, false, ◌||◌, List, [], ◌∷◌, map, Some, refl, sym, ap, ◌∙◌, inl, inr, ◌↔◌, IsTrue}
-use Rattle.std.proofs.lemmas.Bool.{or_cases, or_left, or_right}
-use Rattle.std.proofs.lemmas.List.Folds.{Any-from_list_any, list_any-from_Any, list_any-append}
-use Rattle.std.specs.List.{filter_map, list_any}
-use Rattle.addr.specs.Address.{overlaps}
-use Rattle.addr.specs.declared.prefix.Prefix.{Prefix}
-use Rattle.addr.specs.declared.vrp.Vrp.{Vrp}
-use Rattle.addr.proofs.AddressLemmas.{overlaps_some}
-use Rattle.slurm.specs.Exceptions.{Exceptions}
-use Rattle.slurm.specs.Overlap.{filter_prefix, named_prefixes, overlap, shares, Names, Overlap}
+use Rattle.slurm.proofs.Vocabulary.{◌≡◌, Bool, true, false, ◌||◌, List, [], ◌∷◌, map, Some, refl, sym, ap, ◌∙◌, inl, inr, ◌↔◌, IsTrue, or_cases, or_left, or_right, Any-from_list_any, list_any-from_Any, list_any-append, filter_map, list_any, overlaps, Prefix, Vrp, overlaps_some, Exceptions, filter_prefix, named_prefixes, overlap, shares, Names, Overlap, Filter, Under, By, Both}
 use Rattle.slurm.specs.steps.Overlap.{filter_passes}
-use Rattle.slurm.specs.declared.filter.Filter.{Filter}
-use Rattle.slurm.specs.declared.filter.Filter.TheVariants.{Under, By, Both}
 
 -- ---- by entries
 

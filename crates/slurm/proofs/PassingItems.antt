@@ -1,7 +1,5 @@
 -- Items of a list that pass a test.
-use Rattle.std.proofs.Common.{◌≡◌, Bool, true, false, List, [], ◌∷◌, refl, ap, ◌∙◌, inl, inr, ◌⊎◌}
-use Rattle.std.specs.List.{list_any, AllByRecursion}
-use Rattle.std.proofs.lemmas.Bool.{or_cases, or_left, or_right}
+use Rattle.slurm.proofs.Vocabulary.{◌≡◌, Bool, true, false, List, [], ◌∷◌, refl, ap, ◌∙◌, inl, inr, ◌⊎◌, list_any, AllByRecursion, or_cases, or_left, or_right}
 
 abbrev pub In : {T : Type 0} → T → List T → Type 0
 In x [] = ⊥

@@ -1,6 +1,5 @@
 -- A loop that adds to a list what each item of another gives.
-use Rattle.std.proofs.Common.{◌≡◌, ℕ, ◌+◌, ◌<◌, List, [], ◌∷◌, ◌++◌, length, get_or, take, sym, ap, ◌∙◌, append_assoc}
-use Rattle.std.proofs.lemmas.List.{take_more}
+use Rattle.slurm.proofs.Vocabulary.{◌≡◌, ℕ, ◌+◌, ◌<◌, List, [], ◌∷◌, ◌++◌, length, get_or, take, sym, ap, ◌∙◌, append_assoc, take_more}
 
 pub pushed_more : {X Y : Type 0} (gives : List X → List Y) → ((xs ys : List X) → gives (xs ++ ys) ≡ gives xs ++ gives ys) → (old before after : List Y) (xs : List X) (i : ℕ) (x : X) → i < length xs → x ≡ get_or xs i x
     → before ≡ old ++ gives (take i xs) → after ≡ before ++ gives (x ∷ []) → after ≡ old ++ gives (take (i + 1) xs)

@@ -1,27 +1,9 @@
 -- Reaches in their order: which can enclose a wanted one, and what is kept of them.
-use Rattle.std.proofs.Common.{◌≡◌, ℕ, zero, suc, ◌-◌, ◌≤◌, ◌<◌, ◌==◌, Bool, true, false, if◌then◌else◌, ◌||◌, List, [], ◌∷◌, length, get_or, take, Option, Some, None, refl, sym, ap, subst, ◌∙◌, arith, inl, inr, Ordering}
-use Rattle.std.specs.Cmp.{IsEquivalence, IsTotalOrder, nat_cmp_total, nat_eq_equiv, on_equiv, on_total, then_total}
-use Rattle.std.specs.Cmp.Lexicographic.{options_equiv, options_total}
-use Rattle.std.specs.List.{All, AllPairs, dedup, dedup_from}
-use Rattle.std.specs.List.Sorted.{IsPartitionedBy, IsPartitionPoint, IsSorted}
-use Rattle.std.specs.Option.{option_cmp, option_eq}
-use Rattle.std.specs.Ordering.{is_le, is_lt, nat_cmp, ordering_reverse, ordering_then}
-use Rattle.std.specs.declared.cmp.Ordering.TheVariants.{Less, Equal, Greater}
-use Rattle.std.proofs.lemmas.Bool.{and_from, and_parts, both_ways, cases_Bool, cases_lt, cases_order, eqb-true, eq-eqb}
-use Rattle.std.proofs.lemmas.List.{get_or-take, get_or_read, length-take-le}
+use Rattle.slurm.proofs.Vocabulary.{◌≡◌, ℕ, zero, suc, ◌-◌, ◌≤◌, ◌<◌, ◌==◌, Bool, true, false, if◌then◌else◌, ◌||◌, List, [], ◌∷◌, length, get_or, take, Option, Some, None, refl, sym, ap, subst, ◌∙◌, arith, inl, inr, Ordering, IsEquivalence, IsTotalOrder, nat_cmp_total, nat_eq_equiv, on_equiv, on_total, then_total, options_equiv, options_total, All, AllPairs, dedup, dedup_from, IsPartitionedBy, IsPartitionPoint, IsSorted, option_cmp, option_eq, is_le, is_lt, nat_cmp, ordering_reverse, ordering_then, Less, Equal, Greater, and_from, and_parts, both_ways, cases_Bool, cases_lt, cases_order, eqb-true, eq-eqb, get_or-take, get_or_read, length-take-le, Any-from_list_any, list_any_at, ranks_by, sorted_far, contains, Asn, Prefix, le-trans, prefix_order, cmp-equal, cmp-greater, contains-at_most, contains-between, contains-ends, ends-contains, Filter, encloses, reach_cmp, some_encloses, AreReachesOf, AreWidest}
 use Rattle.std.proofs.lemmas.List.Filters.{All-dedup}
-use Rattle.std.proofs.lemmas.List.Folds.{Any-from_list_any, list_any_at}
 use Rattle.std.proofs.lemmas.List.Kept.{AllPairs-cons}
-use Rattle.std.proofs.lemmas.List.Sorted.{ranks_by, sorted_far}
-use Rattle.addr.specs.Address.{contains}
-use Rattle.addr.specs.declared.asn.Asn.{Asn}
-use Rattle.addr.specs.declared.prefix.Prefix.{Prefix}
-use Rattle.addr.proofs.OrderLemmas.{le-trans, prefix_order}
-use Rattle.addr.proofs.PrefixOrderLemmas.{cmp-equal, cmp-greater, contains-at_most, contains-between, contains-ends, ends-contains}
-use Rattle.slurm.specs.declared.filter.Filter.{Filter}
 use Rattle.slurm.specs.contracts.reach.ReachOrd.TheImpl as ReachOrd
 use Rattle.slurm.specs.declared.reach.Reach.{Reach}
-use Rattle.slurm.specs.steps.Reach.{encloses, reach_cmp, some_encloses, AreReachesOf, AreWidest}
 
 -- ---- the order
 

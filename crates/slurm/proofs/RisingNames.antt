@@ -1,21 +1,11 @@
 -- Files that rise by name, and sorted ones that do not, of which two have one name.
-use Rattle.std.proofs.Common.{◌≡◌, ℕ, zero, suc, ◌+◌, ◌<◌, Bool, true, false, List, [], ◌∷◌, length, get_or, Ordering, refl, sym, ap, subst, ◌∙◌, arith}
-use Rattle.std.specs.Prelude.{◌↔◌, IsTrue, IsPermutation}
-use Rattle.std.specs.declared.cmp.Ordering.TheVariants.{Less, Equal, Greater}
-use Rattle.std.specs.Cmp.{IsTotalOrder, on_total}
-use Rattle.std.specs.Cmp.Lexicographic.{slice_cmp}
-use Rattle.std.specs.List.{AllAdjacentBelow, AllByRecursion, IsAllAdjacentAnswer, IsDistinct}
-use Rattle.std.specs.List.Sorted.{IsSortedByKey, IsStrictlySortedBy}
-use Rattle.std.specs.Ordering.{eq_by_cmp, is_eq, is_lt, nat_cmp, ordering_reverse}
-use Rattle.std.specs.Str.{bytes_eq}
-use Rattle.std.proofs.lemmas.Bool.{both_ways}
+use Rattle.slurm.proofs.Vocabulary.{◌≡◌, ℕ, zero, suc, ◌+◌, ◌<◌, Bool, true, false, List, [], ◌∷◌, length, get_or, Ordering, refl, sym, ap, subst, ◌∙◌, arith, ◌↔◌, IsTrue, Less, Equal, Greater, IsTotalOrder, on_total, slice_cmp, AllAdjacentBelow, AllByRecursion, IsAllAdjacentAnswer, IsSortedByKey, eq_by_cmp, is_eq, is_lt, nat_cmp, ordering_reverse, bytes_eq, both_ways, IsPermutation-sym, less_is, name_cmp, AreNamedOnce, RiseByName, NamedSlurm}
+use Rattle.std.specs.Prelude.{IsPermutation}
+use Rattle.std.specs.List.{IsDistinct}
+use Rattle.std.specs.List.Sorted.{IsStrictlySortedBy}
 use Rattle.std.proofs.lemmas.Cmp.{eq_by_cmp_equiv, nat_list_cmp_total}
-use Rattle.std.proofs.lemmas.List.Sorted.{IsPermutation-sym}
 use Rattle.std.proofs.lemmas.Map.Keys.{IsDistinct-IsPermutation, IsDistinct-from_sorted}
 use Rattle.std.proofs.lemmas.Map.Text.{is_eq-slice_cmp}
-use Rattle.addr.proofs.OrderLemmas.{less_is}
-use Rattle.slurm.specs.SlurmSets.{name_cmp, AreNamedOnce, RiseByName}
-use Rattle.slurm.specs.declared.set.NamedSlurm.{NamedSlurm}
 
 name_total : IsTotalOrder name_cmp
 name_total = on_total (λ f. f.name) nat_list_cmp_total

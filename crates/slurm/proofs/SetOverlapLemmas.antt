@@ -1,21 +1,6 @@
 -- Two files of a set overlap where two of the prefixes that its files name clash.
-use Rattle.std.proofs.Common.{◌≡◌, ◌↔◌, ℕ, Bool, true, false, not, ◌||◌, List, [], ◌∷◌, map, refl, sym, ap, ◌∙◌, inl, inr, IsTrue}
-use Rattle.std.specs.Bool.{Decides}
-use Rattle.std.specs.List.{list_any, flat_map, Any, IsDistinct}
-use Rattle.std.specs.List.Sorted.{IsPermutation}
-use Rattle.std.specs.Str.{bytes_eq}
-use Rattle.std.proofs.lemmas.Bool.{and_from, and_parts, both_ways, or_cases, or_left, or_right}
-use Rattle.std.proofs.lemmas.Bool.Decides.{Decides-or}
-use Rattle.std.proofs.lemmas.List.Folds.{Any-from_list_any, list_any-append, list_any-from_Any}
-use Rattle.std.proofs.lemmas.Slice.Eq.{bytes_eq-Decides}
-use Rattle.addr.specs.Address.{overlaps}
-use Rattle.addr.specs.declared.prefix.Prefix.{Prefix}
-use Rattle.slurm.specs.Exceptions.{Exceptions}
-use Rattle.slurm.specs.Overlap.{named_prefixes, overlap, shares, Overlap}
-use Rattle.slurm.specs.SlurmSets.{some_overlap, AreNamedOnce, SomeOverlap}
-use Rattle.slurm.specs.declared.set.NamedSlurm.{NamedSlurm}
-use Rattle.slurm.specs.declared.walk.NamedPrefix.{NamedPrefix}
-use Rattle.slurm.specs.steps.Walk.{clash, of_file, prefixes_of, some_clash}
+use Rattle.slurm.proofs.Vocabulary.{◌≡◌, ◌↔◌, ℕ, Bool, true, false, not, ◌||◌, List, [], ◌∷◌, map, refl, sym, ap, ◌∙◌, inl, inr, IsTrue, Decides, list_any, flat_map, Any, IsPermutation, bytes_eq, and_from, and_parts, both_ways, or_cases, or_left, or_right, Decides-or, Any-from_list_any, list_any-append, list_any-from_Any, bytes_eq-Decides, overlaps, Prefix, Exceptions, named_prefixes, overlap, shares, Overlap, some_overlap, AreNamedOnce, SomeOverlap, NamedSlurm, NamedPrefix, clash, of_file, prefixes_of, some_clash}
+use Rattle.std.specs.List.{IsDistinct}
 use Rattle.slurm.proofs.PassingItems.{all_in, any_in, in_any, same_tests, In}
 use Rattle.slurm.proofs.OverlapLemmas.{overlap_decides}
 use Rattle.slurm.proofs.WalkLemmas.{some_clash-moved}

@@ -1,31 +1,8 @@
 -- What was read of a file is what its entries say.
-use Rattle.std.proofs.Common.{◌≡◌, ℕ, ◌≤◌, ◌^◌, Bool, true, false, if◌then◌else◌, nat_le, nat_lt, List, [], ◌∷◌, length, ◌+◌, codes, Option, Some, None, option_and_then, Result, Ok, Err, refl, ap, sym, ◌∙◌, subst}
-use Rattle.std.proofs.Math.Decide.{dec_le}
-use Rattle.std.specs.Prelude.{IfOk}
-use Rattle.std.specs.List.{AllZip}
-use Rattle.std.specs.Option.{ok_or}
+use Rattle.slurm.proofs.Vocabulary.{◌≡◌, ℕ, ◌≤◌, ◌^◌, Bool, true, false, if◌then◌else◌, nat_le, nat_lt, List, [], ◌∷◌, length, ◌+◌, codes, Option, Some, None, option_and_then, Result, Ok, Err, refl, ap, sym, ◌∙◌, subst, dec_le, IfOk, AllZip, ok_or, width, Asn, Prefix, Vrp, Data, null, boolean, number, string, array, object, unsigned, negative, float, Items, get, both, mapped, and_then, unless, each, required, optional, only, list_of, as_asn, asn_of, Exceptions, exceptions_of, slurm_fault_number, IsPrefixMember, IsAsnMember, IsFilterOf, SaysFilter, IsMaxLengthMember, SaysAssertion, SaysExceptions, array_at, assertions_at, filters_at, items_at, vrp_if, prefix_or_fault, asn_or_fault, length_in, filter_of, filter_in, max_or_length, assertion_of, assertion_in, entries_from, bgpsec_from, part_in, filters_in, assertions_in, lists_in, slurm_in, MOST_ENTRIES, SlurmFault, Filter, Under, By, Both}
 use Rattle.addr.proofs.PrefixSpellingLemmas.{Spells-spelled_prefix}
-use Rattle.addr.specs.Family.{width}
 use Rattle.addr.specs.PrefixText.{spelled_prefix}
-use Rattle.addr.specs.declared.asn.Asn.{Asn}
-use Rattle.addr.specs.declared.prefix.Prefix.{Prefix}
-use Rattle.addr.specs.declared.vrp.Vrp.{Vrp}
-use Rattle.serde_json.specs.Data.{Data, null, boolean, number, string, array, object, unsigned, negative, float, Items}
-use Rattle.serde_json.specs.Find.{get}
-use Rattle.json_values.specs.Parts.{both, mapped, and_then, unless, each}
-use Rattle.json_values.specs.Tree.{required, optional, only, list_of}
-use Rattle.json_values.specs.Values.{as_asn, asn_of}
-use Rattle.slurm.specs.Exceptions.{Exceptions, exceptions_of}
-use Rattle.slurm.specs.Fault.{slurm_fault_number}
-use Rattle.slurm.specs.SlurmEntries.{IsPrefixMember, IsAsnMember, IsFilterOf, SaysFilter, IsMaxLengthMember, SaysAssertion, SaysExceptions}
-use Rattle.slurm.specs.SlurmFaults.{array_at, assertions_at, filters_at, items_at}
-use Rattle.addr.specs.VrpParts.{vrp_if}
-use Rattle.slurm.specs.steps.SlurmFile.{prefix_or_fault, asn_or_fault, length_in, filter_of, filter_in, max_or_length, assertion_of, assertion_in, entries_from, bgpsec_from, part_in, filters_in, assertions_in, lists_in, slurm_in}
-use Rattle.slurm.specs.declared.exceptions.TheConstants.{MOST_ENTRIES}
-use Rattle.slurm.specs.declared.fault.SlurmFault.{SlurmFault}
 use Rattle.slurm.specs.declared.fault.SlurmFault.TheVariants.{Members, Prefix as PrefixFault, Asn as AsnFault, MaxPrefixLength, TooMany}
-use Rattle.slurm.specs.declared.filter.Filter.{Filter}
-use Rattle.slurm.specs.declared.filter.Filter.TheVariants.{Under, By, Both}
 use Rattle.slurm.specs.declared.members.MaxPrefixLength.{MaxPrefixLength as LengthRead}
 
 -- ---- values that were read

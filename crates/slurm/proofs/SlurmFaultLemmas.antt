@@ -1,37 +1,11 @@
 -- The readers report the lowest of all faults of the tree.
-use Rattle.std.proofs.Common.{◌≡◌, ◌≢◌, ℕ, ◌+◌, ◌≤◌, inl, inr, Bool, true, false, ◌&&◌, ◌||◌, ◌==◌, nat_le, nat_lt, List, [], ◌∷◌, ◌++◌, length, codes, Option, Some, None, is_some, option_and_then, option_map, Result, Ok, Err, refl, ap, sym, subst, ◌∙◌, arith, lit≤}
-use Rattle.std.proofs.lemmas.Bool.{and_parts, le-leb, leb-true}
-use Rattle.std.proofs.lemmas.Bool.Decides.{leb_tells}
-use Rattle.std.proofs.lemmas.List.{append-nil}
+use Rattle.slurm.proofs.Vocabulary.{◌≡◌, ◌≢◌, ℕ, ◌+◌, ◌≤◌, inl, inr, Bool, true, false, ◌&&◌, ◌||◌, ◌==◌, nat_le, nat_lt, List, [], ◌∷◌, ◌++◌, length, codes, Option, Some, None, is_some, option_and_then, option_map, Result, Ok, Err, refl, ap, sym, subst, ◌∙◌, arith, lit≤, and_parts, le-leb, leb-true, leb_tells, append-nil, dec_le, IfOk, IfErr, OnOk, ok_or, fits_max_length, width, Asn, Prefix, Vrp, Data, Items, no_items, item, get, as_object, as_str, lower-first, both, mapped, and_then, required, optional, list_of, as_asn, as_prefix, whole_number, Exceptions, exceptions_of, slurm_fault_number, vrp_if, vrp_with, prefix_or_fault, asn_or_fault, comment_in, length_in, version_from, version_in, filter_of, filter_in, max_or_length, assertion_of, assertion_in, entries_from, bgpsec_from, part_in, filters_in, assertions_in, lists_in, slurm_in, SaysAssertion, SaysFilter, assertions_at, filters_at, assertion_names, file_names, filter_names, filters_faults, assertions_faults, prefix_member, prefix_faults, asn_faults, comment_faults, is_one, version_faults, is_max_length, max_length_faults, filter_faults, assertion_faults, array_at, entries_faults, bgpsec_faults, part_faults, entry_count, file_faults, slurm_fault, MOST_ENTRIES, SlurmFault, Filter}
 use Rattle.std.proofs.lemmas.Slice.Zip.{AllZip-long}
-use Rattle.std.proofs.Math.Decide.{dec_le}
-use Rattle.std.specs.Prelude.{IfOk, IfErr, OnOk}
-use Rattle.std.specs.Option.{ok_or}
 use Rattle.std.specs.Result.{result_err}
-use Rattle.addr.specs.Address.{fits_max_length}
-use Rattle.addr.specs.Family.{width}
-use Rattle.addr.specs.declared.asn.Asn.{Asn}
-use Rattle.addr.specs.declared.prefix.Prefix.{Prefix}
-use Rattle.addr.specs.declared.vrp.Vrp.{Vrp}
-use Rattle.serde_json.specs.Data.{Data, Items, no_items, item}
-use Rattle.serde_json.specs.Find.{get, as_object, as_str}
 use Rattle.json_values.proofs.FaultLemmas.{Pass, Reported, err-both, lowest-append, lowest-passes, pass-append, pass-flat_map, pass-optional, pass-required, pass-unless, reported-both, reported-each, reported-if, reported-mapped, reported-ok_or, reported-only, reported-optional, reported-required, reported-unless}
-use Rattle.json_values.proofs.PartsLemmas.{lower-first}
 use Rattle.json_values.specs.Faults.{fault_unless, lower_of, lowest, name_faults, optional_faults, reading_faults, required_faults}
-use Rattle.json_values.specs.Parts.{both, mapped, and_then}
-use Rattle.json_values.specs.Tree.{required, optional, list_of}
-use Rattle.json_values.specs.Values.{as_asn, as_prefix, whole_number}
-use Rattle.slurm.specs.Exceptions.{Exceptions, exceptions_of}
-use Rattle.slurm.specs.Fault.{slurm_fault_number}
-use Rattle.addr.specs.VrpParts.{vrp_if, vrp_with}
-use Rattle.slurm.specs.steps.SlurmFile.{prefix_or_fault, asn_or_fault, comment_in, length_in, version_from, version_in, filter_of, filter_in, max_or_length, assertion_of, assertion_in, entries_from, bgpsec_from, part_in, filters_in, assertions_in, lists_in, slurm_in}
 use Rattle.slurm.proofs.SlurmEntryLemmas.{lists-said}
-use Rattle.slurm.specs.SlurmEntries.{SaysAssertion, SaysFilter}
-use Rattle.slurm.specs.SlurmFaults.{assertions_at, filters_at, assertion_names, file_names, filter_names, filters_faults, assertions_faults, prefix_of, prefix_faults, asn_faults, comment_faults, is_one, version_faults, is_max_length, max_length_faults, filter_faults, assertion_faults, array_at, entries_faults, bgpsec_faults, part_faults, entry_count, file_faults, slurm_fault}
-use Rattle.slurm.specs.declared.exceptions.TheConstants.{MOST_ENTRIES}
-use Rattle.slurm.specs.declared.fault.SlurmFault.{SlurmFault}
 use Rattle.slurm.specs.declared.fault.SlurmFault.TheVariants.{NotJson, NotObject, Members, Version, Prefix as PrefixFault, Asn as AsnFault, MaxPrefixLength, EmptyFilter, Comment, TooMany, Memory}
-use Rattle.slurm.specs.declared.filter.Filter.{Filter}
 use Rattle.slurm.specs.declared.members.MaxPrefixLength.{MaxPrefixLength as LengthRead}
 
 -- ---- single members
@@ -257,7 +231,7 @@ pass-filter d =
 
 pass-assertion : (d : Data) → Pass is_tree_fault (assertion_faults d)
 pass-assertion d =
-    let p = prefix_of d in
+    let p = prefix_member d in
     pass-append (pass-append (pass-append (pass-append
     (pass-required Members prefix_faults (get (codes "prefix") d) refl (pass-reading as_prefix PrefixFault refl))
     (pass-required Members asn_faults (get (codes "asn") d) refl (pass-reading as_asn AsnFault refl)))

@@ -1,12 +1,6 @@
 -- A VRP is given by its parts, and `vrp_with` is the one of given parts.
-use Rattle.std.proofs.Common.{◌≡◌, ℕ, ◌≤◌, ◌↔◌, true, false, IsSome, IfSome, Option, Some, None, refl, ap, ◌∙◌, subst}
+use Rattle.slurm.proofs.Vocabulary.{◌≡◌, ℕ, ◌≤◌, ◌↔◌, true, false, IsSome, IfSome, Option, Some, None, refl, ap, ◌∙◌, subst, FitsMaxLength, width, Prefix, Asn, Vrp, vrp_if, vrp_with}
 use Rattle.std.proofs.Math.Bridge.{le_prop}
-use Rattle.addr.specs.Address.{FitsMaxLength}
-use Rattle.addr.specs.Family.{width}
-use Rattle.addr.specs.declared.prefix.Prefix.{Prefix}
-use Rattle.addr.specs.declared.asn.Asn.{Asn}
-use Rattle.addr.specs.declared.vrp.Vrp.{Vrp}
-use Rattle.addr.specs.VrpParts.{vrp_if, vrp_with}
 
 abbrev vrp_at : (p : Prefix) (max : ℕ) (asn : Asn) → p.length ≤ max → max ≤ width p.family → Vrp
 vrp_at p max asn low high = record { prefix = p; max = max; asn = asn; at_least_length = low; at_most_width = high }

@@ -1,24 +1,8 @@
 -- The walk along sorted prefixes finds two of different files that share an address, if there are any.
-use Rattle.std.proofs.Common.{◌≡◌, ℕ, zero, suc, ◌+◌, ◌-◌, ◌<◌, ◌≤◌, Bool, true, false, not, List, [], ◌∷◌, length, get_or, take, drop, refl, sym, ap, subst, ◌∙◌, arith, inl, inr, nat_le, if◌then◌else◌}
-use Rattle.std.specs.List.{list_any}
-use Rattle.std.specs.List.Sorted.{IsPermutation, IsSortedByKey}
-use Rattle.std.specs.Ordering.{is_le, is_lt}
-use Rattle.std.specs.Str.{bytes_eq}
+use Rattle.slurm.proofs.Vocabulary.{◌≡◌, ℕ, zero, suc, ◌+◌, ◌-◌, ◌<◌, ◌≤◌, Bool, true, false, not, List, [], ◌∷◌, length, get_or, take, drop, refl, sym, ap, subst, ◌∙◌, arith, inl, inr, nat_le, if◌then◌else◌, list_any, IsPermutation, IsSortedByKey, is_le, is_lt, bytes_eq, and_from, and_parts, both_ways, cases_Bool, le-leb, leb-true, take_all, list_any-IsPermutation, bytes_eq-Decides, contains, last_of, overlaps, Contains, Overlaps, family_eq, width, Prefix, contains_each, first-last, overlaps_some, le-trans, prefix_order, at_most-ends, block-within, contains-between, contains-ends, ends-contains, first-size, size, NamedPrefix, clash, some_clash, walk}
 use Rattle.std.proofs.Math.Seq.{drop-cons}
-use Rattle.std.proofs.lemmas.Bool.{and_from, and_parts, both_ways, cases_Bool, le-leb, leb-true}
-use Rattle.std.proofs.lemmas.List.{take_all}
-use Rattle.std.proofs.lemmas.List.Sorted.{list_any-IsPermutation}
-use Rattle.std.proofs.lemmas.Slice.Eq.{bytes_eq-Decides}
-use Rattle.addr.specs.Address.{contains, last_of, overlaps, Contains, Overlaps}
-use Rattle.addr.specs.Family.{family_eq, width}
 use Rattle.addr.specs.Order.{prefix_cmp}
-use Rattle.addr.specs.declared.prefix.Prefix.{Prefix}
-use Rattle.addr.proofs.AddressLemmas.{contains_each, first-last, overlaps_some}
 use Rattle.addr.proofs.Equality.{equal_family, same_family}
-use Rattle.addr.proofs.OrderLemmas.{le-trans, prefix_order}
-use Rattle.addr.proofs.PrefixOrderLemmas.{at_most-ends, block-within, contains-between, contains-ends, ends-contains, first-size, size}
-use Rattle.slurm.specs.declared.walk.NamedPrefix.{NamedPrefix}
-use Rattle.slurm.specs.steps.Walk.{clash, some_clash, walk}
 use Rattle.slurm.proofs.PassingItems.{any_in, in_any, In}
 use Rattle.slurm.proofs.ReachLemmas.{upwards}
 

@@ -57,14 +57,14 @@ filter_faults d =
 abbrev pub assertion_names : List (List ℕ)
 assertion_names = codes "prefix" ∷ codes "asn" ∷ codes "maxPrefixLength" ∷ codes "comment" ∷ []
 
-abbrev pub prefix_of : Data → Option Prefix
-prefix_of d = option_and_then as_prefix (get (codes "prefix") d)
+abbrev pub prefix_member : Data → Option Prefix
+prefix_member d = option_and_then as_prefix (get (codes "prefix") d)
 
 abbrev pub assertion_faults : Data → List SlurmFault
 assertion_faults d =
     required_faults Members prefix_faults (get (codes "prefix") d)
     ++ required_faults Members asn_faults (get (codes "asn") d)
-    ++ optional_faults (max_length_faults (prefix_of d)) (get (codes "maxPrefixLength") d)
+    ++ optional_faults (max_length_faults (prefix_member d)) (get (codes "maxPrefixLength") d)
     ++ name_faults Members assertion_names d
     ++ optional_faults comment_faults (get (codes "comment") d)
 

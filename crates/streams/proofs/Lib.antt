@@ -1,2 +1,3 @@
 pub mod StreamLemmas
 mod TrailMade
+pub mod Vocabulary

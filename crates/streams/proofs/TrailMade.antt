@@ -1,14 +1,10 @@
 -- A trail of any bytes can be made from nothing, since its bytes are there for proofs alone.
-use Rattle.std.proofs.Common.{List, [], ◌∷◌, refl}
+use Rattle.streams.proofs.Vocabulary.{List, [], ◌∷◌, refl, ◌$◌, ◌∵◌, !, qed, fjoin, fpack, feq_i, done, Valss, nothing, the_row}
 use seplogic.Ra.Ura.{Ura}
 use mir.Val.{Val, vstruct, vnil}
 use base.Logic.{ent, emp}
 use types.Logic.{Logic, sem}
-use types.Kit.{◌$◌, ◌∵◌, !, qed, fjoin, fpack, feq_i, done}
-use denote.RattleType.{Valss}
-use denote.Steps.{nothing}
 use denote.Struct.Struct.{within}
-use Rattle.streams.specs.contracts.trail.Trail.{the_row}
 
 -- how the machine holds it: a struct without fields
 abbrev pub held : Val

@@ -48,8 +48,8 @@ element_at tag [] = None
 element_at tag (t ∷ rest) = if t == tag then contents_at rest else None
 
 -- the contents of an element that is all of the octets
-unfoldable pub whole : ℕ → List ℕ → Option (List ℕ)
-whole tag bytes = element_at tag bytes >>= λ e. if length e.1 == 0 then Some e.0 else None
+unfoldable pub sole_element : ℕ → List ℕ → Option (List ℕ)
+sole_element tag bytes = element_at tag bytes >>= λ e. if length e.1 == 0 then Some e.0 else None
 
 -- a number of at most 32 bits, by the contents of an INTEGER
 unfoldable pub integer_of : List ℕ → Option ℕ
@@ -72,7 +72,7 @@ prefix_of family (unused ∷ octets) =
 unfoldable pub max_of : Family → ℕ → List ℕ → Option ℕ
 max_of family bits octets =
     if length octets == 0 then Some bits
-    else (whole 2 octets >>= λ contents. integer_of contents >>= λ max.
+    else (sole_element 2 octets >>= λ contents. integer_of contents >>= λ max.
     if nat_lt bits max && nat_le max (width family) then Some max else None)
 
 -- an entry, by the contents of its SEQUENCE
@@ -101,7 +101,7 @@ unfoldable pub block_at : Family → List ℕ → Option (List ℕ × List ℕ)
 block_at family bytes = do
   block ← element_at 48 bytes
   octets ← element_at 4 block.0
-  if pointwise nat_eq octets.0 (family_octets family) then (whole 48 octets.1 >>= λ addresses.
+  if pointwise nat_eq octets.0 (family_octets family) then (sole_element 48 octets.1 >>= λ addresses.
       if length addresses == 0 then None else Some (addresses, block.1)) else None
 
 abbrev pub entries_after : ℕ → Family → List ℕ → Option (List ℕ × List ℕ) → Option (List Numbers × List ℕ)
@@ -122,10 +122,10 @@ blocks_of bytes = do
 -- the AS number, and the octets of the blocks
 unfoldable pub fields_of : List ℕ → Option (ℕ × List ℕ)
 fields_of bytes = do
-  fields ← whole 48 bytes
+  fields ← sole_element 48 bytes
   asn ← element_at 2 fields
   number ← integer_of asn.0
-  blocks ← whole 48 asn.1
+  blocks ← sole_element 48 asn.1
   Some (number, blocks)
 
 -- the AS number and the entries

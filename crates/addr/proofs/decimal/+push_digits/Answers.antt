@@ -1,4 +1,4 @@
-use Rattle.std.proofs.Common.{length, ap, append_assoc, length-append, arith, rules}
+use Rattle.addr.proofs.Vocabulary.{length, ap, append_assoc, length-append, arith, rules}
 use Rattle.addr.proofs.PrefixTextLemmas.{decimal_thousands, length_decimal, length_thousands}
 use Rattle.addr.proofs.decimal.+push_digits.Goals as goal
 

@@ -1,7 +1,4 @@
-use Rattle.std.proofs.Common.{◌≡◌, true, sym, ◌∙◌, ap, arith}
-use Rattle.std.specs.Fmt.{decimal}
-use Rattle.std.specs.Cmp.Lexicographic.{bytes_decides}
-use Rattle.addr.specs.Digits.{number_in}
+use Rattle.addr.proofs.Vocabulary.{◌≡◌, true, sym, ◌∙◌, ap, arith, decimal, bytes_decides, number_in}
 use Rattle.addr.proofs.DigitsLemmas.{number_in-decimal, number_in-unread, number_in-rewritten}
 use Rattle.addr.proofs.decimal.number_from_text.Goals as goal
 

@@ -1,6 +1,4 @@
-use Rattle.std.proofs.Common.{◌∙◌, ap}
-use Rattle.std.specs.Result.{result_ok}
-use Rattle.std.proofs.lemmas.Fmt.{parse-decimal}
+use Rattle.addr.proofs.Vocabulary.{◌∙◌, ap, result_ok, parse-decimal}
 use Rattle.addr.proofs.DigitsLemmas.{utf8_decimal}
 use Rattle.addr.proofs.decimal.parse.Goals as goal
 

@@ -1,4 +1,4 @@
-use Rattle.std.proofs.Common.{append_assoc, arith}
+use Rattle.addr.proofs.Vocabulary.{append_assoc, arith}
 use Rattle.addr.proofs.PrefixTextLemmas.{decimal_short_one, decimal_short_more}
 use Rattle.addr.proofs.decimal.push_short.Goals as goal
 use Rattle.addr.proofs.decimal.push_short.Goals.{then-number-ge10, else-number-ge10}

@@ -1,7 +1,4 @@
-use Rattle.std.proofs.Common.{rules}
-use Rattle.std.proofs.lemmas.List.{take_rest}
-use Rattle.std.proofs.lemmas.List.Sorted.{IsPartitionPoint-from_clause}
-use Rattle.addr.specs.Spans.{is_before}
+use Rattle.addr.proofs.Vocabulary.{rules, take_rest, IsPartitionPoint-from_clause, is_before}
 use Rattle.addr.proofs.RunSearch.{IsPlace, before-partitioned, covered-at_place, met-at_place}
 use Rattle.addr.proofs.holdings.first_not_before.Goals as goal
 

@@ -1,4 +1,4 @@
-use Rattle.std.proofs.Common.{◌∙◌, sym}
+use Rattle.addr.proofs.Vocabulary.{◌∙◌, sym}
 use Rattle.addr.proofs.SpanSteps.{last_of_maximal}
 use Rattle.addr.proofs.holdings.is_apart_above.Goals as goal
 

@@ -1,5 +1,4 @@
-use Rattle.std.proofs.Common.{◌∙◌, ◌++◌, ap, append_assoc}
-use Rattle.std.specs.Option.{option_to_list}
+use Rattle.addr.proofs.Vocabulary.{◌∙◌, ◌++◌, ap, append_assoc, option_to_list}
 use Rattle.addr.proofs.SpanSteps.{parts_of}
 use Rattle.addr.proofs.holdings.push_parts.Goals as goal
 

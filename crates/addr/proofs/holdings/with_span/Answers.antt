@@ -1,4 +1,4 @@
-use Rattle.std.proofs.Common.{◌++◌, ◌∷◌, [], take, drop, ◌+◌, ap, sym, ◌∙◌}
+use Rattle.addr.proofs.Vocabulary.{◌++◌, ◌∷◌, [], take, drop, ◌+◌, ap, sym, ◌∙◌}
 use Rattle.addr.proofs.SpanSteps.{adding_first, one_more, add_below, add_above, add_join, adding_at, adding_end}
 use Rattle.addr.proofs.holdings.with_span.Goals as goal
 use Rattle.addr.proofs.holdings.with_span.Goals.{then-is_apart_below+in_ok-push, else-is_apart_below+then-is_apart_below-2+in_ok-push-2, else-is_apart_below+else-is_apart_below-2}

@@ -1,4 +1,4 @@
-use Rattle.std.proofs.Common.{take, drop}
+use Rattle.addr.proofs.Vocabulary.{take, drop}
 use Rattle.addr.proofs.SpanSteps.{Cutting}
 use Rattle.addr.proofs.holdings.without_span.Given as goal
 

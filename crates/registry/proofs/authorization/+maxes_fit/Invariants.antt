@@ -1,4 +1,4 @@
-use Rattle.std.proofs.Common.{length}
+use Rattle.registry.proofs.Vocabulary.{length}
 use Rattle.registry.proofs.authorization.+maxes_fit.Given as goal
 
 abbrev pub decreases-maxes_fit : goal.decreases-maxes_fit

@@ -1,4 +1,4 @@
-use Rattle.std.proofs.Common.{refl, sym, ◌∙◌}
+use Rattle.registry.proofs.Vocabulary.{refl, sym, ◌∙◌}
 use Rattle.registry.proofs.Repeats.{repeat_passed, repeat_found}
 use Rattle.registry.proofs.charter.has_repeat.Goals as goal
 

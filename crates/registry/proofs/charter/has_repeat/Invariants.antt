@@ -1,5 +1,4 @@
-use Rattle.std.proofs.Common.{◌≡◌, length}
-use Rattle.registry.specs.Repeats.{has_repeat}
+use Rattle.registry.proofs.Vocabulary.{◌≡◌, length, has_repeat}
 use Rattle.registry.proofs.charter.has_repeat.Given as goal
 
 abbrev pub invariant-loop-rest : goal.invariant-loop-rest

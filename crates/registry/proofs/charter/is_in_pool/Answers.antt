@@ -1,6 +1,4 @@
-use Rattle.std.proofs.Common.{◌≤◌, refl, arith}
-use Rattle.std.proofs.lemmas.Bool.{false≢true}
-use Rattle.addr.specs.Address.{last_of}
+use Rattle.registry.proofs.Vocabulary.{◌≤◌, refl, arith, false≢true, last_of}
 use Rattle.registry.proofs.PoolLemmas.{pool-whole, pool-hole}
 use Rattle.registry.proofs.charter.is_in_pool.Goals as goal
 

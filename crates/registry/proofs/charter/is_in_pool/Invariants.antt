@@ -1,5 +1,4 @@
-use Rattle.std.proofs.Common.{◌≡◌, ℕ, ◌+◌, ◌-◌, ◌<◌, ◌≤◌, true}
-use Rattle.registry.specs.Pool.{pool_has}
+use Rattle.registry.proofs.Vocabulary.{◌≡◌, ℕ, ◌+◌, ◌-◌, ◌<◌, ◌≤◌, true, pool_has}
 use Rattle.registry.proofs.charter.is_in_pool.Given as goal
 
 abbrev pub invariant-loop-end : goal.invariant-loop-end

@@ -1,7 +1,4 @@
-use Rattle.std.proofs.Common.{arith, subst}
-use Rattle.std.proofs.lemmas.List.{take_all}
-use Rattle.std.proofs.lemmas.List.Elements.{All-more}
-use Rattle.registry.specs.Values.{AskedFits}
+use Rattle.registry.proofs.Vocabulary.{arith, subst, take_all, All-more, AskedFits}
 use Rattle.registry.proofs.laws.all_asked_fit.Goals as goal
 
 pub loop-asked-preserved : goal.loop-asked-preserved

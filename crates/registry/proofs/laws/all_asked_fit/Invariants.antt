@@ -1,5 +1,4 @@
-use Rattle.std.proofs.Common.{All, take}
-use Rattle.registry.specs.Values.{AskedFits}
+use Rattle.registry.proofs.Vocabulary.{All, take, AskedFits}
 use Rattle.registry.proofs.laws.all_asked_fit.Given as goal
 
 abbrev pub invariant-loop-asked : goal.invariant-loop-asked

@@ -1,5 +1,4 @@
-use Rattle.std.proofs.Common.{rules}
-use Rattle.std.proofs.lemmas.List.Sorted.{answers_always}
+use Rattle.registry.proofs.Vocabulary.{rules, answers_always}
 use Rattle.registry.proofs.Rising.{is_before, rise_from_answer}
 use Rattle.registry.proofs.roa_prefixes.rise.Goals as goal
 

@@ -1,6 +1,4 @@
-use Rattle.std.proofs.Common.{arith, ◌≡◌, ℕ, zero, suc, ◌+◌, ◌<◌, ◌≤◌, min, List, [], ◌∷◌, length, take, get_or, slice_set, refl, sym, ap, ◌∙◌}
-use Rattle.registry.specs.RoaPrefixes.{with_maxes}
-use Rattle.addr.specs.declared.roa_prefix.RoaPrefix.{RoaPrefix}
+use Rattle.registry.proofs.Vocabulary.{arith, ◌≡◌, ℕ, zero, suc, ◌+◌, ◌<◌, ◌≤◌, min, List, [], ◌∷◌, length, take, get_or, slice_set, refl, sym, ap, ◌∙◌, with_maxes, RoaPrefix}
 use Rattle.registry.proofs.Entries.{with_maxes-none}
 use Rattle.registry.proofs.roa_prefixes.set_maxes.Goals as goal
 

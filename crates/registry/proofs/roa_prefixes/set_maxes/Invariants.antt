@@ -1,5 +1,4 @@
-use Rattle.std.proofs.Common.{◌≡◌, take}
-use Rattle.registry.specs.RoaPrefixes.{with_maxes}
+use Rattle.registry.proofs.Vocabulary.{◌≡◌, take, with_maxes}
 use Rattle.registry.proofs.roa_prefixes.set_maxes.Given as goal
 
 abbrev pub invariant-loop-index : goal.invariant-loop-index

@@ -1,7 +1,4 @@
-use Rattle.std.proofs.Common.{arith, subst}
-use Rattle.std.proofs.lemmas.List.{take_all}
-use Rattle.std.proofs.lemmas.List.Elements.{All-more}
-use Rattle.registry.specs.Values.{VrpFits}
+use Rattle.registry.proofs.Vocabulary.{arith, subst, take_all, All-more, VrpFits}
 use Rattle.registry.proofs.values.assertions_fit.Goals as goal
 
 pub loop-assertion-preserved : goal.loop-assertion-preserved

@@ -1,5 +1,4 @@
-use Rattle.std.proofs.Common.{All, take}
-use Rattle.registry.specs.Values.{VrpFits}
+use Rattle.registry.proofs.Vocabulary.{All, take, VrpFits}
 use Rattle.registry.proofs.values.assertions_fit.Given as goal
 
 abbrev pub invariant-loop-assertion : goal.invariant-loop-assertion

@@ -1,5 +1,4 @@
-use Rattle.std.proofs.Common.{All, take}
-use Rattle.registry.specs.Values.{FileFits}
+use Rattle.registry.proofs.Vocabulary.{All, take, FileFits}
 use Rattle.registry.proofs.values.files_fit.Given as goal
 
 abbrev pub invariant-loop-named : goal.invariant-loop-named

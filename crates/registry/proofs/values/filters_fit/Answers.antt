@@ -1,7 +1,4 @@
-use Rattle.std.proofs.Common.{arith, subst}
-use Rattle.std.proofs.lemmas.List.{take_all}
-use Rattle.std.proofs.lemmas.List.Elements.{All-more}
-use Rattle.registry.specs.Values.{FilterFits}
+use Rattle.registry.proofs.Vocabulary.{arith, subst, take_all, All-more, FilterFits}
 use Rattle.registry.proofs.values.filters_fit.Goals as goal
 
 pub loop-filter-preserved : goal.loop-filter-preserved

@@ -1,5 +1,4 @@
-use Rattle.std.proofs.Common.{All, take}
-use Rattle.registry.specs.Values.{FilterFits}
+use Rattle.registry.proofs.Vocabulary.{All, take, FilterFits}
 use Rattle.registry.proofs.values.filters_fit.Given as goal
 
 abbrev pub invariant-loop-filter : goal.invariant-loop-filter

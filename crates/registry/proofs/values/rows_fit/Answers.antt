@@ -1,7 +1,4 @@
-use Rattle.std.proofs.Common.{arith, subst}
-use Rattle.std.proofs.lemmas.List.{take_all}
-use Rattle.std.proofs.lemmas.List.Elements.{All-more}
-use Rattle.registry.specs.Values.{ImportRowFits}
+use Rattle.registry.proofs.Vocabulary.{arith, subst, take_all, All-more, ImportRowFits}
 use Rattle.registry.proofs.values.rows_fit.Goals as goal
 
 pub loop-row-preserved : goal.loop-row-preserved

@@ -1,5 +1,4 @@
-use Rattle.std.proofs.Common.{All, take}
-use Rattle.registry.specs.Values.{ImportRowFits}
+use Rattle.registry.proofs.Vocabulary.{All, take, ImportRowFits}
 use Rattle.registry.proofs.values.rows_fit.Given as goal
 
 abbrev pub invariant-loop-row : goal.invariant-loop-row

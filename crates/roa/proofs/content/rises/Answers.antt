@@ -1,5 +1,4 @@
-use Rattle.std.proofs.Common.{rules}
-use Rattle.std.proofs.lemmas.List.Sorted.{answers_always}
+use Rattle.roa.proofs.Vocabulary.{rules, answers_always}
 use Rattle.roa.proofs.Order.{is_before, rises_from_answer}
 use Rattle.roa.proofs.content.rises.Goals as goal
 

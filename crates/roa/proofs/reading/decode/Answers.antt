@@ -1,5 +1,4 @@
-use Rattle.std.proofs.Common.{arith}
-use Rattle.std.proofs.lemmas.Result.{err_from_is_err_and}
+use Rattle.roa.proofs.Vocabulary.{arith, err_from_is_err_and}
 use Rattle.roa.proofs.Octets.{AreOctets-from_index}
 use Rattle.roa.proofs.Contents.{was_read}
 use Rattle.roa.proofs.Decoding.{is_memory, is_encoded, is_decoded}

@@ -1,6 +1,4 @@
-use Rattle.std.proofs.Common.{◌≡◌, ◌-◌, ◌*◌, ◌<◌, ◌%◌, ◌^◌, length, ◌∙◌, arith}
-use Rattle.std.specs.Option.{SomeIff}
-use Rattle.addr.specs.Family.{width}
+use Rattle.roa.proofs.Vocabulary.{◌≡◌, ◌-◌, ◌*◌, ◌<◌, ◌%◌, ◌^◌, length, ◌∙◌, arith, SomeIff, width}
 use Rattle.roa.proofs.Octets.{AreOctets-from_index}
 use Rattle.roa.proofs.Primitives.{first_of, shifted_is}
 use Rattle.roa.proofs.reading.first_address.Goals as goal

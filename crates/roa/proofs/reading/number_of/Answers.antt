@@ -1,5 +1,4 @@
-use Rattle.std.proofs.Common.{◌<◌, ◌^◌, take, arith, refl}
-use Rattle.roa.specs.RoaContent.{be_value}
+use Rattle.roa.proofs.Vocabulary.{◌<◌, ◌^◌, take, arith, refl, be_value}
 use Rattle.roa.proofs.Octets.{AreOctets-from_index, be_value_more, be_value_short}
 use Rattle.roa.proofs.reading.number_of.Goals as goal
 

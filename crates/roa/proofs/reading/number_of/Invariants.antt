@@ -1,5 +1,4 @@
-use Rattle.std.proofs.Common.{◌≡◌, take}
-use Rattle.roa.specs.RoaContent.{be_value}
+use Rattle.roa.proofs.Vocabulary.{◌≡◌, take, be_value}
 use Rattle.roa.proofs.reading.number_of.Given as goal
 
 abbrev pub invariant-loop-octet : goal.invariant-loop-octet

@@ -1,7 +1,4 @@
-use Rattle.std.proofs.Common.{◌-◌, length, sym, ◌∙◌, arith}
-use Rattle.std.proofs.lemmas.Bool.{eqb-true, eqb-false}
-use Rattle.std.proofs.lemmas.Result.{err_from_is_err_and}
-use Rattle.roa.specs.steps.Reading.{numbers, entry_at, entries_in_octets}
+use Rattle.roa.proofs.Vocabulary.{◌-◌, length, sym, ◌∙◌, arith, eqb-true, eqb-false, err_from_is_err_and, numbers, entry_at, entries_in_octets}
 use Rattle.roa.proofs.Loop.{goes_on, ends, is_full, is_done, read_failed, read_given}
 use Rattle.roa.proofs.reading.read_entries.Goals as goal
 

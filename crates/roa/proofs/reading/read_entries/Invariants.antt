@@ -1,5 +1,4 @@
-use Rattle.std.proofs.Common.{◌≡◌, ◌-◌, ◌≤◌, length}
-use Rattle.roa.specs.steps.Reading.{entries_in_octets}
+use Rattle.roa.proofs.Vocabulary.{◌≡◌, ◌-◌, ◌≤◌, length, entries_in_octets}
 use Rattle.roa.proofs.Loop.{with_front}
 use Rattle.roa.proofs.reading.read_entries.Given as goal
 

@@ -1,6 +1,4 @@
-use Rattle.std.proofs.Common.{ℕ, List, ◌≡◌, ◌∷◌, ◌-◌, ◌*◌, ◌≤◌, ◌/◌, length, subst, ap, arith}
-use Rattle.addr.specs.Family.{width}
-use Rattle.roa.specs.RoaContent.{AreOctets}
+use Rattle.roa.proofs.Vocabulary.{ℕ, List, ◌≡◌, ◌∷◌, ◌-◌, ◌*◌, ◌≤◌, ◌/◌, length, subst, ap, arith, width, AreOctets}
 use Rattle.roa.proofs.Octets.{AreOctets-from_index}
 use Rattle.roa.proofs.Primitives.{prefix_made}
 use Rattle.roa.proofs.reading.read_prefix.Goals as goal

@@ -1,8 +1,5 @@
-use Rattle.std.proofs.Common.{◌≡◌, List, ap, ◌∙◌}
-use Rattle.std.proofs.lemmas.Result.{IfOk-weaker}
-use Rattle.addr.specs.declared.asn.Asn.{Asn}
+use Rattle.roa.proofs.Vocabulary.{◌≡◌, List, ap, ◌∙◌, IfOk-weaker, Asn, content_octets}
 use Rattle.addr.specs.declared.roa_prefix.RoaPrefix.{RoaPrefix as Entry}
-use Rattle.roa.specs.ContentOctets.{content_octets}
 use Rattle.roa.proofs.Contents.{content_made}
 use Rattle.roa.proofs.Grammar.{encodes_from}
 use Rattle.roa.proofs.writing.encode.Goals as goal

@@ -1,5 +1,4 @@
-use Rattle.std.proofs.Common.{◌≡◌, ◌++◌, ℕ, List, arith, sym, ap, ◌∙◌}
-use Rattle.roa.specs.ContentOctets.{bit_string, max_length, element, entry_octets}
+use Rattle.roa.proofs.Vocabulary.{◌≡◌, ◌++◌, ℕ, List, arith, sym, ap, ◌∙◌, bit_string, max_length, element, entry_octets}
 use Rattle.roa.proofs.Sizes.{length-entry_contents}
 use Rattle.roa.proofs.Written.{written_more, written_same}
 use Rattle.roa.proofs.writing.push_entries.Goals as goal

@@ -1,7 +1,4 @@
-use Rattle.std.proofs.Common.{◌≡◌, ◌++◌, take}
-use Rattle.std.specs.List.{flat_map}
-use Rattle.roa.specs.RoaContent.{of_family}
-use Rattle.roa.specs.ContentOctets.{entry_octets}
+use Rattle.roa.proofs.Vocabulary.{◌≡◌, ◌++◌, take, flat_map, of_family, entry_octets}
 use Rattle.roa.proofs.writing.push_entries.Given as goal
 
 abbrev pub invariant-loop-entry : goal.invariant-loop-entry

@@ -1,7 +1,4 @@
-use Rattle.std.proofs.Common.{◌≡◌, ◌≤◌, ◌++◌, ◌∙◌, ap, length, arith}
-use Rattle.std.specs.List.{flat_map}
-use Rattle.roa.specs.RoaContent.{of_family}
-use Rattle.roa.specs.ContentOctets.{element, entry_octets}
+use Rattle.roa.proofs.Vocabulary.{◌≡◌, ◌≤◌, ◌++◌, ◌∙◌, ap, length, arith, flat_map, of_family, element, entry_octets}
 use Rattle.roa.proofs.Sizes.{addresses_short, block_short, length-family_octets}
 use Rattle.roa.proofs.writing.push_family.Goals as goal
 

@@ -1,4 +1,4 @@
-use Rattle.std.proofs.Common.{◌≤◌, arith}
+use Rattle.roa.proofs.Vocabulary.{◌≤◌, arith}
 use Rattle.roa.proofs.Octets.{unit_is, octet_below, octet_written, rest_below}
 use Rattle.roa.proofs.writing.push_number.Goals as goal
 

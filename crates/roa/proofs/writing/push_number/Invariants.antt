@@ -1,5 +1,4 @@
-use Rattle.std.proofs.Common.{◌≡◌, ◌<◌, ◌*◌, ◌^◌, ◌++◌}
-use Rattle.roa.specs.ContentOctets.{be_octets}
+use Rattle.roa.proofs.Vocabulary.{◌≡◌, ◌<◌, ◌*◌, ◌^◌, ◌++◌, be_octets}
 use Rattle.roa.proofs.writing.push_number.Given as goal
 
 abbrev pub invariant-loop-place : goal.invariant-loop-place

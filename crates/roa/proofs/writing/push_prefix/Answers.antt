@@ -1,9 +1,4 @@
-use Rattle.std.proofs.Common.{ℕ, List, ◌≡◌, ◌-◌, ◌*◌, ◌^◌, ◌/◌, ◌<◌, ◌∙◌, arith}
-use Rattle.std.specs.Option.{SomeIff}
-use Rattle.std.proofs.lemmas.Result.{on_ok_weaker}
-use Rattle.addr.specs.Family.{width}
-use Rattle.addr.proofs.AddressLemmas.{first_below}
-use Rattle.roa.specs.ContentOctets.{bit_octets}
+use Rattle.roa.proofs.Vocabulary.{ℕ, List, ◌≡◌, ◌-◌, ◌*◌, ◌^◌, ◌/◌, ◌<◌, ◌∙◌, arith, SomeIff, on_ok_weaker, width, first_below, bit_octets}
 use Rattle.roa.proofs.Primitives.{shifted_down, first_octets_fit, bit_string_pushed}
 use Rattle.roa.proofs.writing.push_prefix.Goals as goal
 

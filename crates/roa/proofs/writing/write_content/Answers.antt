@@ -1,7 +1,4 @@
-use Rattle.std.proofs.Common.{◌≡◌, ◌≤◌, ◌++◌, length, arith}
-use Rattle.addr.specs.declared.family.Family.TheVariants.{V4, V6}
-use Rattle.roa.specs.RoaContent.{of_family}
-use Rattle.roa.specs.ContentOctets.{element, integer, roa_ip_address_family}
+use Rattle.roa.proofs.Vocabulary.{◌≡◌, ◌≤◌, ◌++◌, length, arith, V4, V6, of_family, element, integer, roa_ip_address_family}
 use Rattle.roa.proofs.Sizes.{blocks_short, fields_short}
 use Rattle.roa.proofs.writing.write_content.Goals as goal
 

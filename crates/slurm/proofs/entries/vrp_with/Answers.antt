@@ -1,7 +1,4 @@
-use Rattle.std.proofs.Common.{Option, ap, ◌∙◌}
-use Rattle.std.specs.Option.{ok_or}
-use Rattle.addr.specs.declared.vrp.Vrp.{Vrp}
-use Rattle.slurm.specs.declared.fault.SlurmFault.TheVariants.{MaxPrefixLength}
+use Rattle.slurm.proofs.Vocabulary.{Option, ap, ◌∙◌, ok_or, Vrp, MaxPrefixLength}
 use Rattle.slurm.proofs.VrpLemmas.{vrp_with-parts}
 use Rattle.slurm.proofs.entries.vrp_with.Goals as goal
 

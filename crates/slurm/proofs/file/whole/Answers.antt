@@ -1,7 +1,5 @@
-use Rattle.std.proofs.Common.{refl}
+use Rattle.slurm.proofs.Vocabulary.{refl, mapped-unless, slurm_fault_number}
 use Rattle.slurm.proofs.FileLemmas.{items-both}
-use Rattle.json_values.proofs.PartsLemmas.{mapped-unless}
-use Rattle.slurm.specs.Fault.{slurm_fault_number}
 use Rattle.slurm.proofs.file.whole.Goals as goal
 
 pub returns : goal.returns

@@ -1,4 +1,4 @@
-use Rattle.std.proofs.Common.{sym, ◌∙◌}
+use Rattle.slurm.proofs.Vocabulary.{sym, ◌∙◌}
 use Rattle.slurm.proofs.FileLemmas.{bgpsec_from-full}
 use Rattle.slurm.proofs.lists.bgpsec_in.Goals as goal
 

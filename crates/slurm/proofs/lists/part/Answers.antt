@@ -1,6 +1,4 @@
-use Rattle.std.proofs.Common.{refl}
-use Rattle.json_values.proofs.PartsLemmas.{mapped-unless}
-use Rattle.slurm.specs.Fault.{slurm_fault_number}
+use Rattle.slurm.proofs.Vocabulary.{refl, mapped-unless, slurm_fault_number}
 use Rattle.slurm.proofs.lists.part.Goals as goal
 
 pub returns : goal.returns

@@ -1,8 +1,4 @@
-use Rattle.std.proofs.Common.{rules, ap, sym, subst, ◌∙◌}
-use Rattle.std.proofs.lemmas.Fn.{dedup_same}
-use Rattle.std.proofs.lemmas.List.Sorted.{list_any-IsPermutation}
-use Rattle.std.specs.List.Sorted.{IsSorted}
-use Rattle.slurm.specs.steps.Reach.{encloses, some_encloses, AreWidest}
+use Rattle.slurm.proofs.Vocabulary.{rules, ap, sym, subst, ◌∙◌, dedup_same, list_any-IsPermutation, IsSorted, encloses, some_encloses, AreWidest}
 use Rattle.slurm.proofs.ReachLemmas.{derived_reach_order, goes, same-dedup, widest-dedup}
 use Rattle.slurm.proofs.reach.keep_widest.Goals as goal
 

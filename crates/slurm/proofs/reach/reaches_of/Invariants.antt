@@ -1,8 +1,4 @@
-use Rattle.std.proofs.Common.{◌≡◌, take}
-use Rattle.std.specs.List.{list_any}
-use Rattle.addr.specs.declared.vrp.Vrp.{Vrp}
-use Rattle.slurm.specs.Filter.{filter_matches}
-use Rattle.slurm.specs.steps.Reach.{some_reaches}
+use Rattle.slurm.proofs.Vocabulary.{◌≡◌, take, list_any, Vrp, filter_matches, some_reaches}
 use Rattle.slurm.proofs.reach.reaches_of.Given as goal
 
 abbrev pub invariant-loop-filter : goal.invariant-loop-filter

@@ -1,7 +1,4 @@
-use Rattle.std.proofs.Common.{rules, ◌∙◌}
-use Rattle.std.proofs.lemmas.List.Sorted.{IsPartitionPoint-from_clause}
-use Rattle.std.specs.Ordering.{is_le}
-use Rattle.slurm.specs.steps.Reach.{reach_cmp}
+use Rattle.slurm.proofs.Vocabulary.{rules, ◌∙◌, IsPartitionPoint-from_clause, is_le, reach_cmp}
 use Rattle.slurm.proofs.ReachLemmas.{last-of_front, none-of_front, widest-partitioned}
 use Rattle.slurm.proofs.reach.some_encloses.Goals as goal
 

@@ -1,5 +1,4 @@
-use Rattle.std.proofs.Common.{rules}
-use Rattle.std.proofs.lemmas.List.Sorted.{answers_always}
+use Rattle.slurm.proofs.Vocabulary.{rules, answers_always}
 use Rattle.slurm.proofs.RisingNames.{is_before, rise_from_answer}
 use Rattle.slurm.proofs.set.rise.Goals as goal
 

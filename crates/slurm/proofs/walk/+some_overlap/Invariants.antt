@@ -1,4 +1,4 @@
-use Rattle.std.proofs.Common.{length}
+use Rattle.slurm.proofs.Vocabulary.{length}
 use Rattle.slurm.proofs.walk.+some_overlap.Given as goal
 
 abbrev pub decreases-some_overlap : goal.decreases-some_overlap

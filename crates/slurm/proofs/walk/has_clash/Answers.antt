@@ -1,6 +1,4 @@
-use Rattle.std.proofs.Common.{◌≡◌, ap, rules, ◌∙◌}
-use Rattle.std.proofs.lemmas.Fn.{always_returns_same}
-use Rattle.slurm.specs.steps.Walk.{some_clash}
+use Rattle.slurm.proofs.Vocabulary.{◌≡◌, ap, rules, ◌∙◌, always_returns_same, some_clash}
 use Rattle.slurm.proofs.RisingNames.{rising_once}
 use Rattle.slurm.proofs.SetOverlapLemmas.{set_overlap}
 use Rattle.slurm.proofs.walk.has_clash.Goals as goal

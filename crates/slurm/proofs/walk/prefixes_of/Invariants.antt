@@ -1,6 +1,4 @@
-use Rattle.std.proofs.Common.{◌≡◌, take}
-use Rattle.std.specs.List.{flat_map}
-use Rattle.slurm.specs.steps.Walk.{prefixes_of}
+use Rattle.slurm.proofs.Vocabulary.{◌≡◌, take, flat_map, prefixes_of}
 use Rattle.slurm.proofs.walk.prefixes_of.Given as goal
 
 abbrev pub invariant-loop-named : goal.invariant-loop-named

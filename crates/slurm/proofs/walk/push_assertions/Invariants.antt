@@ -1,5 +1,4 @@
-use Rattle.std.proofs.Common.{◌≡◌, ◌++◌, map, take}
-use Rattle.slurm.specs.steps.Walk.{of_file}
+use Rattle.slurm.proofs.Vocabulary.{◌≡◌, ◌++◌, map, take, of_file}
 use Rattle.slurm.proofs.walk.push_assertions.Given as goal
 
 abbrev pub invariant-loop-vrp : goal.invariant-loop-vrp

@@ -1,10 +1,5 @@
-use Rattle.std.proofs.Common.{List, map, ap, ◌∙◌}
-use Rattle.std.specs.List.{filter_map}
-use Rattle.std.proofs.lemmas.List.{map-append}
+use Rattle.slurm.proofs.Vocabulary.{List, map, ap, ◌∙◌, filter_map, map-append, filter_prefix, Filter, of_file}
 use Rattle.std.proofs.lemmas.List.Elements.{filter_map-append}
-use Rattle.slurm.specs.Overlap.{filter_prefix}
-use Rattle.slurm.specs.declared.filter.Filter.{Filter}
-use Rattle.slurm.specs.steps.Walk.{of_file}
 use Rattle.slurm.proofs.Pushed.{pushed_more}
 use Rattle.slurm.proofs.walk.push_filters.Goals as goal
 

@@ -1,7 +1,4 @@
-use Rattle.std.proofs.Common.{◌≡◌, ◌++◌, map, take}
-use Rattle.std.specs.List.{filter_map}
-use Rattle.slurm.specs.Overlap.{filter_prefix}
-use Rattle.slurm.specs.steps.Walk.{of_file}
+use Rattle.slurm.proofs.Vocabulary.{◌≡◌, ◌++◌, map, take, filter_map, filter_prefix, of_file}
 use Rattle.slurm.proofs.walk.push_filters.Given as goal
 
 abbrev pub invariant-loop-filter : goal.invariant-loop-filter

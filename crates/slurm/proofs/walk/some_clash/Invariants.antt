@@ -1,5 +1,4 @@
-use Rattle.std.proofs.Common.{◌≡◌, drop}
-use Rattle.slurm.specs.steps.Walk.{some_clash, walk}
+use Rattle.slurm.proofs.Vocabulary.{◌≡◌, drop, some_clash, walk}
 use Rattle.slurm.proofs.walk.some_clash.Given as goal
 
 abbrev pub invariant-loop-next : goal.invariant-loop-next

@@ -1,4 +1,4 @@
-use Rattle.std.proofs.Common.{◌≡◌, ℕ, List, ◌++◌, length}
+use Rattle.streams.proofs.Vocabulary.{◌≡◌, ℕ, List, ◌++◌, length}
 use Rattle.streams.proofs.stream.write_all.Given as goal
 
 abbrev pub invariant-loop-rest : goal.invariant-loop-rest

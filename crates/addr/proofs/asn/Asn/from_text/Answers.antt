@@ -1,6 +1,4 @@
-use Rattle.std.proofs.Common.{◌≡◌, sym, ◌∙◌, arith}
-use Rattle.std.specs.Fmt.{decimal}
-use Rattle.std.proofs.lemmas.Fmt.{decimal_injective}
+use Rattle.addr.proofs.Vocabulary.{◌≡◌, sym, ◌∙◌, arith, decimal, decimal_injective}
 use Rattle.addr.proofs.DigitsLemmas.{behind_letters}
 use Rattle.addr.proofs.asn.Asn.from_text.Goals as goal
 

@@ -1,8 +1,5 @@
-use Rattle.std.proofs.Common.{◌≡◌, ◌≤◌, false, true, pos, ◌+ℤ◌, ◌∙◌, ap, FitsSigned, w64, arith}
-use Rattle.std.proofs.lemmas.Int.{to_z-of_z}
-use Rattle.jiff.proofs.SpanFacts.{signed_arith, date_add-days, can_add-days}
-use Rattle.jiff.specs.Words.{epoch_day, IsEpochDay}
-use Rattle.addr.specs.declared.day.TheConstants.{LAST_DAY}
+use Rattle.addr.proofs.Vocabulary.{◌≡◌, ◌≤◌, false, true, pos, ◌+ℤ◌, ◌∙◌, ap, FitsSigned, w64, arith, to_z-of_z, signed_arith, epoch_day, IsEpochDay, LAST_DAY}
+use Rattle.jiff.proofs.SpanFacts.{date_add-days, can_add-days}
 use Rattle.addr.proofs.day.Day.date.Goals as goal
 
 pub unreachable-requires : goal.unreachable-requires

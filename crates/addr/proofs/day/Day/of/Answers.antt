@@ -1,9 +1,4 @@
-use Rattle.std.proofs.Common.{◌≡◌, ◌≤◌, ◌/◌, Some, FitsSigned, w64, ◌∙◌, arith}
-use Rattle.std.proofs.lemmas.Int.{to_z-of_z}
-use Rattle.jiff.specs.Words.{epoch_day}
-use Rattle.jiff_core.proofs.SignedLemmas.{signed_arith}
-use Rattle.addr.specs.Day.{from_1970}
-use Rattle.addr.specs.declared.day.TheConstants.{LAST_DAY}
+use Rattle.addr.proofs.Vocabulary.{◌≡◌, ◌≤◌, ◌/◌, Some, FitsSigned, w64, ◌∙◌, arith, to_z-of_z, epoch_day, signed_arith, from_1970, LAST_DAY}
 use Rattle.addr.proofs.DayLemmas.{hours_between, number_by_hours, number_within}
 use Rattle.addr.proofs.day.Day.of.Goals as goal
 

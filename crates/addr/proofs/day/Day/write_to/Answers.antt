@@ -1,9 +1,4 @@
-use Rattle.std.proofs.Common.{◌≡◌, ◌∙◌, ap, Some, FitsSigned, to_z, of_z, w8, w16, arith}
-use Rattle.std.specs.Prelude.{unsigned_abs}
-use Rattle.std.proofs.lemmas.Int.{to_z-of_z}
-use Rattle.jiff_core.proofs.SignedLemmas.{signed_arith}
-use Rattle.jiff_core.proofs.CalendarLemmas.{days_in_month_bounds}
-use Rattle.addr.specs.Day.{day_in, day_text}
+use Rattle.addr.proofs.Vocabulary.{◌≡◌, ◌∙◌, ap, Some, FitsSigned, to_z, of_z, w8, w16, arith, unsigned_abs, to_z-of_z, signed_arith, days_in_month_bounds, day_in, day_text}
 use Rattle.addr.proofs.DayLemmas.{date_writes, from_1970_on, year_cast}
 use Rattle.addr.proofs.day.Day.write_to.Goals as goal
 

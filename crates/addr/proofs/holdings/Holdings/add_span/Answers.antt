@@ -1,5 +1,4 @@
-use Rattle.std.proofs.Common.{◌≡◌, true, sym, subst, ◌∙◌}
-use Rattle.addr.specs.Spans.{AreMaximal}
+use Rattle.addr.proofs.Vocabulary.{◌≡◌, true, sym, subst, ◌∙◌, AreMaximal}
 use Rattle.addr.proofs.SpanLemmas.{all_below}
 use Rattle.addr.proofs.SpanSteps.{maximal_more}
 use Rattle.addr.proofs.holdings.Holdings.add_span.Goals as goal

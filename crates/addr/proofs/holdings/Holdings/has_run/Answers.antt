@@ -1,5 +1,4 @@
-use Rattle.std.proofs.Common.{sym, ap, subst, ◌∙◌}
-use Rattle.addr.specs.Spans.{is_one_of, AreMaximal}
+use Rattle.addr.proofs.Vocabulary.{sym, ap, subst, ◌∙◌, is_one_of, AreMaximal}
 use Rattle.addr.proofs.RunSearch.{search-tells}
 use Rattle.addr.proofs.holdings.Holdings.has_run.Goals as goal
 

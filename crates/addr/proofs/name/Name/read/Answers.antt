@@ -1,6 +1,4 @@
-use Rattle.std.proofs.Common.{rules, IsTrue, length}
-use Rattle.std.proofs.lemmas.List.{drop-replicate}
-use Rattle.addr.specs.Name.{is_name}
+use Rattle.addr.proofs.Vocabulary.{rules, IsTrue, length, drop-replicate, is_name}
 use Rattle.addr.proofs.NameLemmas.{padded}
 use Rattle.addr.proofs.name.Name.read.Goals as goal
 

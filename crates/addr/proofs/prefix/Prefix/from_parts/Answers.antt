@@ -1,6 +1,4 @@
-use Rattle.std.proofs.Common.{arith, sub-le, ◌^◌, ◌<◌, ◌≤◌, ◌≡◌, ◌%◌, ◌-◌}
-use Rattle.addr.specs.Family.{width}
-use Rattle.std.proofs.lemmas.Nat.{pow_pos}
+use Rattle.addr.proofs.Vocabulary.{arith, sub-le, ◌^◌, ◌<◌, ◌≤◌, ◌≡◌, ◌%◌, ◌-◌, width, pow_pos}
 use Rattle.addr.proofs.AddressLemmas.{multiple-fits}
 use Rattle.addr.proofs.prefix.Prefix.from_parts.Goals as goal
 

@@ -1,4 +1,4 @@
-use Rattle.std.proofs.Common.{◌+◌, ◌-◌, length, drop, take_all, length-drop, arith}
+use Rattle.addr.proofs.Vocabulary.{◌+◌, ◌-◌, length, drop, take_all, length-drop, arith}
 use Rattle.addr.proofs.PrefixTextLemmas.{cut_at-position}
 use Rattle.addr.proofs.text.read.cut_text.Goals as goal
 

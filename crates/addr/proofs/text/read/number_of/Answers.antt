@@ -1,5 +1,4 @@
-use Rattle.std.proofs.Common.{◌<◌, arith}
-use Rattle.std.proofs.lemmas.Int.Digits.{number_more}
+use Rattle.addr.proofs.Vocabulary.{◌<◌, arith, number_more}
 use Rattle.addr.proofs.PrefixTextLemmas.{group_fits, more_groups_fit}
 use Rattle.addr.proofs.text.read.number_of.Goals as goal
 

@@ -1,5 +1,4 @@
-use Rattle.std.proofs.Common.{◌≡◌, ◌^◌, ◌<◌, take}
-use Rattle.std.specs.Int.Digits.{number_from_digits}
+use Rattle.addr.proofs.Vocabulary.{◌≡◌, ◌^◌, ◌<◌, take, number_from_digits}
 use Rattle.addr.proofs.text.read.number_of.Given as goal
 
 abbrev pub invariant-loop-group : goal.invariant-loop-group

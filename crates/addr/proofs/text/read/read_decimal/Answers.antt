@@ -1,8 +1,4 @@
-use Rattle.std.proofs.Common.{◌≡◌, ◌≢◌, ◌<◌, length, take_all, get_or, sym, ◌∙◌, inl, inr, arith}
-use Rattle.std.proofs.lemmas.Bool.Decides.{nat_tests}
-use Rattle.std.proofs.lemmas.Bool.{eqb-true, eq-eqb, false≢true}
-use Rattle.std.proofs.lemmas.Int.Digits.{digits_more, digits_value_more}
-use Rattle.std.specs.Char.{digit_value}
+use Rattle.addr.proofs.Vocabulary.{◌≡◌, ◌≢◌, ◌<◌, length, take_all, get_or, sym, ◌∙◌, inl, inr, arith, nat_tests, eqb-true, eq-eqb, false≢true, digits_more, digits_value_more, digit_value}
 use Rattle.addr.proofs.PrefixTextLemmas.{short_number_none, short_number_from, digit_of_all}
 use Rattle.addr.proofs.text.read.read_decimal.Goals as goal
 

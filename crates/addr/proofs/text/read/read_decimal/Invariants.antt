@@ -1,5 +1,4 @@
-use Rattle.std.proofs.Common.{◌≡◌, take}
-use Rattle.std.specs.Str.Parse.{AllDigits, digits_value}
+use Rattle.addr.proofs.Vocabulary.{◌≡◌, take, AllDigits, digits_value}
 use Rattle.addr.proofs.text.read.read_decimal.Given as goal
 
 abbrev pub invariant-loop-digit : goal.invariant-loop-digit

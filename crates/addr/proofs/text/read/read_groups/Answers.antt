@@ -1,5 +1,4 @@
-use Rattle.std.proofs.Common.{sym, ◌∙◌}
-use Rattle.std.proofs.lemmas.Bool.{false≢true}
+use Rattle.addr.proofs.Vocabulary.{sym, ◌∙◌, false≢true}
 use Rattle.addr.proofs.PrefixGroupsLemmas.{loose_groups_none, read_none, read_some}
 use Rattle.addr.proofs.text.read.read_groups.Goals as goal
 

@@ -1,4 +1,4 @@
-use Rattle.std.proofs.Common.{sym}
+use Rattle.addr.proofs.Vocabulary.{sym}
 use Rattle.addr.proofs.PrefixTextLemmas.{short_number_below}
 use Rattle.addr.proofs.text.read.read_loosely.Goals as goal
 

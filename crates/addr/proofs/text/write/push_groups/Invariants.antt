@@ -1,5 +1,4 @@
-use Rattle.std.proofs.Common.{◌≡◌, ◌+◌, ◌*◌, ◌<◌, ◌++◌, ◌∷◌, length, get_or, take}
-use Rattle.std.specs.Net.Text.{groups_text}
+use Rattle.addr.proofs.Vocabulary.{◌≡◌, ◌+◌, ◌*◌, ◌<◌, ◌++◌, ◌∷◌, length, get_or, take, groups_text}
 use Rattle.addr.proofs.text.write.push_groups.Given as goal
 
 abbrev pub invariant-loop-group : goal.invariant-loop-group

@@ -1,4 +1,4 @@
-use Rattle.std.proofs.Common.{◌≡◌, ◌-◌, ◌%◌, length-set, arith, sym}
+use Rattle.addr.proofs.Vocabulary.{◌≡◌, ◌-◌, ◌%◌, length-set, arith, sym}
 use Rattle.addr.proofs.PrefixTextLemmas.{digits_in-zero, digits_in_turn}
 use Rattle.addr.proofs.text.write.write_digits.Goals as goal
 

@@ -1,5 +1,4 @@
-use Rattle.std.proofs.Common.{◌≡◌, ◌++◌, length, drop}
-use Rattle.addr.specs.PrefixText.{digits_in}
+use Rattle.addr.proofs.Vocabulary.{◌≡◌, ◌++◌, length, drop, digits_in}
 use Rattle.addr.proofs.text.write.write_digits.Given as goal
 
 abbrev pub invariant-loop-i : goal.invariant-loop-i

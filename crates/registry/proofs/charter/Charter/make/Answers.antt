@@ -1,10 +1,7 @@
-use Rattle.std.proofs.Common.{◌≡◌, ◌≤◌, ℕ, length, nat_eq, sym, ◌∙◌, ap, subst, is_lt, get_or, ◌+◌}
-use Rattle.std.specs.Cmp.Lexicographic.{pointwise}
-use Rattle.std.proofs.lemmas.List.Sorted.{length_permutation}
+use Rattle.registry.proofs.Vocabulary.{◌≡◌, ◌≤◌, ℕ, length, nat_eq, sym, ◌∙◌, ap, subst, get_or, ◌+◌, pointwise, length_permutation, prefix_eq, has_repeat}
+use Rattle.std.proofs.Common.{is_lt}
 use Rattle.std.proofs.lemmas.Cmp.{nat_list_eq_equiv}
-use Rattle.addr.specs.Address.{prefix_eq}
 use Rattle.registry.specs.declared.charter.TheConstants.{MOST_OPERATORS, MOST_POOL_PREFIXES}
-use Rattle.registry.specs.Repeats.{has_repeat}
 use Rattle.registry.proofs.Repeats.{has_repeat-moved, prefix_eq-flips}
 use Rattle.registry.proofs.charter.Charter.make.Goals as goal
 

@@ -1,7 +1,5 @@
-use Rattle.std.proofs.Common.{◌≡◌, true, false, refl, rules}
-use Rattle.std.proofs.lemmas.Bool.{both_ways}
+use Rattle.registry.proofs.Vocabulary.{◌≡◌, true, false, refl, rules, both_ways, repeats_prefix}
 use Rattle.std.proofs.lemmas.Fn.{always_returns_same}
-use Rattle.registry.specs.RoaPrefixes.{repeats_prefix}
 use Rattle.registry.proofs.Rising.{given_once, given_repeats}
 use Rattle.registry.proofs.roa_prefixes.RoaPrefixes.make.Goals as goal
 

@@ -1,6 +1,4 @@
-use Rattle.std.proofs.Common.{arith, ◌≡◌, ◌++◌, [], length, take, drop, sym, ap, subst, ◌∙◌, append-nil}
-use Rattle.std.proofs.lemmas.List.{take_all, drop_all}
-use Rattle.registry.specs.RoaPrefixes.{AreEntries, with_maxes}
+use Rattle.registry.proofs.Vocabulary.{arith, ◌≡◌, ◌++◌, [], length, take, drop, sym, ap, subst, ◌∙◌, append-nil, take_all, drop_all, AreEntries, with_maxes}
 use Rattle.registry.proofs.Entries.{with_maxes-length, with_maxes-are}
 use Rattle.registry.proofs.roa_prefixes.RoaPrefixes.set_maxes.Goals as goal
 

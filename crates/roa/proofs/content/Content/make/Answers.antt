@@ -1,8 +1,4 @@
-use Rattle.std.proofs.Common.{◌≡◌, true, arith, rules}
-use Rattle.std.specs.Prelude.{IsSorted}
-use Rattle.std.proofs.lemmas.Bool.{both_ways}
-use Rattle.std.specs.List.{list_all}
-use Rattle.roa.specs.RoaContent.{is_in_range, entry_order}
+use Rattle.roa.proofs.Vocabulary.{◌≡◌, true, arith, rules, IsSorted, both_ways, list_all, is_in_range, entry_order}
 use Rattle.roa.proofs.Order.{is_repeated, in_range_moved}
 use Rattle.roa.proofs.content.Content.make.Goals as goal
 

@@ -1,4 +1,4 @@
-use Rattle.std.proofs.Common.{refl}
+use Rattle.slurm.proofs.Vocabulary.{refl}
 use Rattle.slurm.proofs.entries.VrpFromJsonSlurmFault.from_json.Goals as goal
 
 pub returns : goal.returns

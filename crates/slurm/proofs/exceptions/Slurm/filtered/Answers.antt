@@ -1,5 +1,4 @@
-use Rattle.std.proofs.Common.{ap}
-use Rattle.slurm.specs.Exceptions.{Exceptions}
+use Rattle.slurm.proofs.Vocabulary.{ap, Exceptions}
 use Rattle.slurm.proofs.FilterLemmas.{some_filter}
 use Rattle.slurm.proofs.exceptions.Slurm.filtered.Goals as goal
 

@@ -1,4 +1,4 @@
-use Rattle.serde_json.specs.View.{view}
+use Rattle.slurm.proofs.Vocabulary.{view}
 use Rattle.slurm.proofs.SlurmEntryLemmas.{answer-said}
 use Rattle.slurm.proofs.SlurmFaultLemmas.{slurm_fault-none, slurm_fault-reported, tree_is_json}
 use Rattle.slurm.proofs.exceptions.Slurm.of.Goals as goal

@@ -1,5 +1,4 @@
-use Rattle.std.proofs.Common.{◌↔◌, IsTrue, subst, sym}
-use Rattle.slurm.specs.Overlap.{shares, Overlap}
+use Rattle.slurm.proofs.Vocabulary.{◌↔◌, IsTrue, subst, sym, shares, Overlap}
 use Rattle.slurm.proofs.OverlapLemmas.{named-by_assertions, named-by_filters, overlap_decides}
 use Rattle.slurm.proofs.exceptions.Slurm.overlaps.Goals as goal
 

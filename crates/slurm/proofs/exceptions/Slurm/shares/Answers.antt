@@ -1,4 +1,4 @@
-use Rattle.addr.specs.Address.{overlaps}
+use Rattle.slurm.proofs.Vocabulary.{overlaps}
 use Rattle.slurm.proofs.OverlapLemmas.{named-by_assertions, named-by_filters}
 use Rattle.slurm.proofs.exceptions.Slurm.shares.Goals as goal
 

@@ -1,8 +1,4 @@
-use Rattle.std.proofs.Common.{List, IsTrue, ◌↔◌, ap, sym, subst, ◌∙◌}
-use Rattle.std.specs.List.{Any, list_any}
-use Rattle.slurm.specs.Filter.{FilterMatches, filter_matches}
-use Rattle.slurm.specs.steps.Reach.{some_reaches}
-use Rattle.slurm.specs.declared.filter.Filter.{Filter}
+use Rattle.slurm.proofs.Vocabulary.{List, IsTrue, ◌↔◌, ap, sym, subst, ◌∙◌, Any, list_any, FilterMatches, filter_matches, some_reaches, Filter}
 use Rattle.slurm.proofs.FilterLemmas.{some_filter}
 use Rattle.slurm.proofs.index.FilterIndex.matches.Goals as goal
 

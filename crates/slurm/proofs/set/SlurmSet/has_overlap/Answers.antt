@@ -1,5 +1,4 @@
-use Rattle.std.proofs.Common.{◌↔◌, IsTrue, ap, subst, sym, ◌∙◌}
-use Rattle.slurm.specs.SlurmSets.{some_overlap, SomeOverlap}
+use Rattle.slurm.proofs.Vocabulary.{◌↔◌, IsTrue, ap, subst, sym, ◌∙◌, some_overlap, SomeOverlap}
 use Rattle.slurm.proofs.SetOverlapLemmas.{some_overlap_decides}
 use Rattle.slurm.proofs.set.SlurmSet.has_overlap.Goals as goal
 

@@ -1,7 +1,4 @@
-use Rattle.std.proofs.Common.{◌≡◌, refl, rules}
-use Rattle.std.proofs.lemmas.Bool.{both_ways}
-use Rattle.std.proofs.lemmas.Fn.{always_returns_same}
-use Rattle.slurm.specs.SlurmSets.{AreNamedOnce}
+use Rattle.slurm.proofs.Vocabulary.{◌≡◌, refl, rules, both_ways, always_returns_same, AreNamedOnce}
 use Rattle.slurm.proofs.RisingNames.{given_once, given_repeats}
 use Rattle.slurm.proofs.set.SlurmSet.make.Goals as goal
 

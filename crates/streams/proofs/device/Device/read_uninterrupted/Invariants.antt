@@ -1,6 +1,4 @@
-use Rattle.std.specs.Io.KnownBytes.{Keeps}
-use Rattle.streams.specs.Device.{device_inner, device_calls_left}
-use Rattle.streams.specs.steps.Devices.{IsCalled}
+use Rattle.streams.proofs.Vocabulary.{Keeps, device_inner, device_calls_left, IsCalled}
 use Rattle.streams.proofs.device.Device.read_uninterrupted.Given as goal
 
 abbrev pub invariant-loop-self : goal.invariant-loop-self

@@ -1,4 +1,4 @@
-use Rattle.std.proofs.Common.{◌∙◌}
+use Rattle.streams.proofs.Vocabulary.{◌∙◌}
 use Rattle.streams.proofs.StreamLemmas.{AppendsBeginning-take, on-err}
 use Rattle.streams.proofs.device.DeviceDrain.write.Goals as goal
 

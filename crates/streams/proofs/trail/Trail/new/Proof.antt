@@ -1,16 +1,5 @@
 -- A new trail has no bytes.
-use Rattle.std.proofs.Common.{[], ◌∷◌, refl}
-use Rattle.std.proofs.raw_atomic.Walks.{proved}
-use types.Kit.{‵, raw, ◌⊛◌, ◌$◌, ◌∵◌, !, qed, keep, move, split, suffices, use0, done}
-use types.Part.{agg}
-use types.Run.{enter, returns, no_more}
-use types.ByLocal.{alloc_all, pass_all, free_all, look_at, sets}
-use denote.RattleType.{owns}
-use denote.Signature.{types_at}
-use denote.Steps.{nothing}
-use denote.Triple.Entry.{alive}
-use denote.Triple.Walked.{walk_of, says, ends_at}
-use Rattle.streams.specs.contracts.trail.Trail.{the_row}
+use Rattle.streams.proofs.Vocabulary.{[], ◌∷◌, refl, proved, ‵, raw, ◌⊛◌, ◌$◌, ◌∵◌, !, qed, keep, move, split, suffices, use0, done, agg, enter, returns, no_more, alloc_all, pass_all, free_all, look_at, sets, owns, types_at, nothing, alive, walk_of, says, ends_at, the_row}
 use Rattle.streams.specs.contracts.trail.Trail.new as f
 use Rattle.streams.proofs.TrailMade.{held, trail_made}
 use Rattle.streams.proofs.trail.Trail.new.Statement.{statement}

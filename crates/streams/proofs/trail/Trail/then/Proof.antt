@@ -1,19 +1,9 @@
 -- The trail that follows a piece has the piece's bytes at its end.
-use Rattle.std.proofs.Common.{[], ◌∷◌, ◌++◌, refl}
-use Rattle.std.proofs.raw_atomic.Walks.{proved}
+use Rattle.streams.proofs.Vocabulary.{[], ◌∷◌, ◌++◌, refl, proved, ‵, raw, ◌⊛◌, ◌$◌, ◌∵◌, !, qed, keep, move, split, fjoin, suffices, use0, done, agg, enter, returns, no_more, alloc_all, pass_all, free_all, look_at, sets, owns, plain, types_at, named_lft, nothing, alive, Stays, stay_dropped, Goes-dropped, walk_of, says, ends_at}
 use mir.Syntax.{named}
-use types.Kit.{‵, raw, ◌⊛◌, ◌$◌, ◌∵◌, !, qed, keep, move, split, fjoin, suffices, use0, done}
-use types.Part.{agg}
-use types.Run.{enter, returns, no_more}
-use types.ByLocal.{alloc_all, pass_all, free_all, look_at, sets}
 use denote.Builtin.{RefOf}
 use denote.Exit.{yes}
-use denote.RattleType.{owns}
 use denote.Ref.{shr_vals, shr_Tells}
-use denote.Signature.{plain, types_at, named_lft}
-use denote.Steps.{nothing}
-use denote.Triple.Entry.{alive}
-use denote.Triple.Walked.{Stays, stay_dropped, Goes-dropped, walk_of, says, ends_at}
 use Rattle.streams.specs.contracts.trail.Trail as Trail
 use Rattle.streams.specs.contracts.trail.Piece as Piece
 use Rattle.streams.specs.contracts.trail.Trail.then as f
