@@ -1,9 +1,10 @@
 -- Lemmas on what has passed a stream.
-use Rattle.streams.proofs.Vocabulary.{◌≡◌, ℕ, List, ◌++◌, length, take, drop, sym, ◌∙◌, ap, append_assoc, Result, Ok, Err}
+use Rattle.streams.proofs.Vocabulary.{◌≡◌, ℕ, List, ◌++◌, length, take, drop, sym, ◌∙◌, ap, subst, append_assoc, Option, Result, Ok, Err, Appends}
 use Rattle.std.specs.Result.{OnErr}
 use Rattle.std.proofs.lemmas.List.{append-nil, take-append-drop}
 use Rattle.std.proofs.Math.Seq.{drop-append_seam}
 use Rattle.std.specs.Io.{appended_bytes}
+use Rattle.std.proofs.KnownBytes.{Appends-trans}
 use Rattle.streams.specs.Streams.{AppendsBeginning}
 
 -- what holds in any case holds where there is an error
@@ -28,3 +29,9 @@ passes-nothing old xs middle buffer n new first is_none second =
 -- what has passed since the old bytes
 pub appended_bytes-append : (old more new : List ℕ) → new ≡ old ++ more → appended_bytes old new ≡ more
 appended_bytes-append old more new is = ap (drop (length old)) is ∙ drop-append_seam old more
+
+-- known bytes grow by one more call
+pub appends_more : (a b c : Option (List ℕ)) (done old new more : List ℕ) → Appends a b done → Appends b c (appended_bytes old new) → new ≡ old ++ more
+    → Appends a c (done ++ more)
+appends_more a b c done old new more first second is =
+    Appends-trans a b c done more first (subst (Appends b c) (appended_bytes-append old more new is) second)

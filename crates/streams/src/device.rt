@@ -42,6 +42,15 @@ impl<T> Device<T> {
             trail: Trail::new(),
         }
     }
+
+    /// Forgets that a call failed, so that the next one is made.
+    pub(crate) fn forget_failure(&mut self)
+        ensures failed { device_has_failed self.new ≡ false }
+        ensures inner { device_inner self.new ≡ device_inner self.old }
+        ensures bytes { device_bytes self.new ≡ device_bytes self.old }
+    {
+        self.has_failed = false;
+    }
 }
 
 impl<T: Read> Source for Device<T> {
