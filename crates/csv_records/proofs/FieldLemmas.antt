@@ -1,14 +1,9 @@
 -- The fields of records.
-use Rattle.std.proofs.Common.{◌≡◌, ◌<◌, ◌+◌, inl, inr, ℕ, zero, suc, List, [], ◌∷◌, ◌++◌, append_assoc, length, drop, get_or, Bool, Some, None, true, false, refl, sym, ap, ◌∙◌, arith}
-use Rattle.std.specs.Prelude.{◌&&◌}
-use Rattle.std.proofs.lemmas.Bool.{cases_Bool}
-use Rattle.std.proofs.lemmas.Option.{same_Some}
-use Rattle.std.proofs.lemmas.List.{get_or-map, length-map}
+use Rattle.csv_records.proofs.Vocabulary.{◌≡◌, ◌<◌, ◌+◌, inl, inr, ℕ, zero, suc, List, [], ◌∷◌, ◌++◌, append_assoc, length, drop, get_or, Bool, Some, None, true, false, refl, sym, ap, ◌∙◌, arith, ◌&&◌, cases_Bool, same_Some, get_or-map, length-map, RecordFields, field_in, two_of, three_of, fields_eq, rows_after, texts_of}
 use Rattle.std.specs.Borrow.{Bor}
 use Rattle.std.proofs.lemmas.Slice.Eq.{bytes_eq-Decides}
 use Rattle.std.specs.Str.{bytes_eq}
 use Rattle.csv.specs.Records.{field_at}
-use Rattle.csv_records.specs.Fields.{RecordFields, field_in, two_of, three_of, fields_eq, rows_after, texts_of}
 
 pub three_of-no_first : (xs : RecordFields) → None ≡ field_at xs 0 → None ≡ three_of xs
 unfolding field_at

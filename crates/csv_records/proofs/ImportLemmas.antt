@@ -1,12 +1,7 @@
 -- What the code reads of an import: the rows that the text says, and its lowest fault.
-use Rattle.std.proofs.Common.{◌≡◌, ℕ, suc, inl, inr, List, [], ◌∷◌, ◌++◌, length, Bool, true, false, if◌then◌else◌, Option, Some, None, is_some, Result, Ok, Err, refl, sym, subst, ap, ◌∙◌}
-use Rattle.std.proofs.lemmas.Bool.{cases_Bool}
-use Rattle.std.proofs.lemmas.Option.{none-some, same_Some}
+use Rattle.csv_records.proofs.Vocabulary.{◌≡◌, ℕ, suc, inl, inr, List, [], ◌∷◌, ◌++◌, length, Bool, true, false, if◌then◌else◌, Option, Some, None, is_some, Result, Ok, Err, refl, sym, subst, ap, ◌∙◌, cases_Bool, none-some, same_Some, AllZip, flat_map, IfOk, day_in, and_then, each, mapped, csv_records, RecordFields, field_in, fields_eq, rows_after, import_fault, import_fault_number, import_faults, import_header, is_row_count, IsImportText, max_in, named_asn, row_faults, SaysRow, counted, import_in, row_of_parts, row_in_fields, row_or_fault, rows_in_records}
 use Rattle.std.specs.Global.{Vec}
-use Rattle.std.specs.List.{AllZip, flat_map}
-use Rattle.std.specs.Prelude.{IfOk}
 use Rattle.std.specs.Result.{result_err}
-use Rattle.addr.specs.Day.{day_in}
 use Rattle.addr.specs.PrefixText.{spelled_prefix}
 use Rattle.addr.specs.declared.asn.Asn.{Asn as AsnNumber}
 use Rattle.addr.specs.declared.prefix.Prefix.{Prefix as PrefixValue}
@@ -14,13 +9,9 @@ use Rattle.registry.specs.declared.authorization.ImportRow.{ImportRow}
 use Rattle.json_values.proofs.FaultLemmas.{lowest-append, reported-if}
 use Rattle.json_values.proofs.ReadingLemmas.{Reads, reads-both, reads-each, reads-mapped, reads-ok_or}
 use Rattle.json_values.specs.Faults.{fault_unless, lower_of, lowest}
-use Rattle.json_values.specs.Parts.{and_then, each, lower, mapped}
-use Rattle.csv_records.specs.CsvRecords.{csv_records}
-use Rattle.csv_records.specs.Fields.{RecordFields, field_in, fields_eq, rows_after}
-use Rattle.csv_records.specs.Imports.{import_fault, import_fault_number, import_faults, import_header, is_row_count, IsImportText, max_in, named_asn, row_faults, SaysRow}
+use Rattle.json_values.specs.Parts.{lower}
 use Rattle.csv_records.specs.declared.imports.ImportFault.{ImportFault}
 use Rattle.csv_records.specs.declared.imports.ImportFault.TheVariants.{Form, Prefix, Asn, Max, Day, Count}
-use Rattle.csv_records.specs.steps.Importing.{counted, import_in, row_of_parts, row_in_fields, row_or_fault, rows_in_records}
 use Rattle.csv_records.proofs.FieldLemmas.{same_fields}
 
 -- ---- rows

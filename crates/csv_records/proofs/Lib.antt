@@ -3,3 +3,4 @@ pub mod ImportLemmas
 pub mod LineLemmas
 pub mod RecordSteps
 pub mod RecordsLeft
+pub mod Vocabulary

@@ -1,10 +1,7 @@
 -- Lemmas on the rows of VRPs.
-use Rattle.std.specs.Prelude.{◌≡◌, ◌+◌, ℕ, List, ◌++◌, length}
-use Rattle.std.proofs.Common.{take, drop, sym, ap, ◌∙◌}
+use Rattle.csv_records.proofs.Vocabulary.{◌≡◌, ◌+◌, ℕ, List, ◌++◌, length, take, drop, sym, ap, ◌∙◌, length-append, take-append-drop, csv_line, payload_row, payload_rows}
 use Rattle.std.proofs.lemmas.Grind.{flat_map-append}
-use Rattle.std.proofs.lemmas.List.{length-append, take-append-drop}
 use Rattle.addr.specs.declared.vrp.Vrp.{Vrp}
-use Rattle.csv_records.specs.Lines.{csv_line, payload_row, payload_rows}
 
 rows-append : (vs ws : List Vrp) → payload_rows (vs ++ ws) ≡ payload_rows vs ++ payload_rows ws
 rows-append vs ws = flat_map-append (λ v. csv_line (payload_row v)) vs ws

@@ -1,12 +1,9 @@
 -- What a read of the next record does to the records that are left.
-use Rattle.std.proofs.Common.{◌≡◌, ℕ, List, [], ◌∷◌, Option, Some, true, false, Bor, refl, ◌∙◌}
-use Rattle.csv.specs.Machine.{Read, next_record}
+use Rattle.csv_records.proofs.Vocabulary.{◌≡◌, ℕ, List, [], ◌∷◌, Option, Some, true, false, refl, ◌∙◌, Read, next_record, State, RecordFields, records_of_rest, unread, records_left, current, IsReading}
+use Rattle.std.proofs.Common.{Bor}
 use Rattle.csv.specs.Reading.{default_config, reader_config, reader_state, Reached, ReadRecord, ReadsOn}
-use Rattle.csv.specs.declared.parser.State.{State}
 use Rattle.csv.specs.declared.reader.Reader.{Reader}
 use Rattle.csv.proofs.ReadFacts.{rows-more, rows-end}
-use Rattle.csv_records.specs.Fields.{RecordFields}
-use Rattle.csv_records.specs.CsvRecords.{records_of_rest, unread, records_left, current, IsReading}
 use Rattle.csv_records.specs.declared.records.CsvRecords.{CsvRecords}
 use Rattle.csv_records.proofs.RecordsLeft.{records-next, records-end}
 

@@ -1,11 +1,8 @@
 -- The records of a text are its next record and those of the rest.
-use Rattle.std.proofs.Common.{◌≡◌, ◌≤◌, ◌<◌, ◌+◌, inl, inr, ℕ, zero, suc, List, [], ◌∷◌, length, Some, None, refl, sym, ap, arith}
-use Rattle.std.proofs.lemmas.Bool.{cases_Bool}
-use Rattle.std.proofs.lemmas.Option.{same_Some}
-use Rattle.csv.specs.Machine.{Read, next_record, step, is_end, fields_after, field_after, ends_at_end}
+use Rattle.csv_records.proofs.Vocabulary.{◌≡◌, ◌≤◌, ◌<◌, ◌+◌, inl, inr, ℕ, zero, suc, List, [], ◌∷◌, length, Some, None, refl, sym, ap, arith, cases_Bool, same_Some, Read, step, is_end, fields_after, field_after, ends_at_end, State}
+use Rattle.csv.specs.Machine.{next_record}
 use Rattle.csv.specs.Reading.{records_from}
 use Rattle.csv.specs.declared.parser.Config.{Config}
-use Rattle.csv.specs.declared.parser.State.{State}
 use Rattle.csv.specs.declared.parser.State.TheVariants as st
 use Rattle.addr.proofs.PrefixTextLemmas.{option_cases}
 

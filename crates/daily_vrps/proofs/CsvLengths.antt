@@ -1,9 +1,6 @@
 -- Lemmas on the length of VRPs as CSV.
-use Rattle.std.proofs.Common.{arith, ◌≡◌, ◌⊎◌, ◌≤◌, ◌<◌, ◌+◌, ◌^◌, ℕ, Bool, true, false, List, length, take, drop, Some, inl, inr, sym, ap, ◌∙◌}
-use Rattle.std.proofs.lemmas.Bool.{false≢true}
-use Rattle.std.proofs.lemmas.List.{length-append}
+use Rattle.daily_vrps.proofs.Vocabulary.{arith, ◌≡◌, ◌⊎◌, ◌≤◌, ◌<◌, ◌+◌, ◌^◌, ℕ, Bool, true, false, List, length, take, drop, Some, inl, inr, sym, ap, ◌∙◌, false≢true, length-append, Vrp}
 use Rattle.std.specs.Option.{SomeIff}
-use Rattle.addr.specs.declared.vrp.Vrp.{Vrp}
 use Rattle.csv_records.proofs.LineLemmas.{rows-split}
 use Rattle.csv_records.specs.Lines.{csv_line, csv_text, payload_header, payload_row, payload_rows}
 use Rattle.daily_vrps.specs.steps.Counting.{HasCounted}

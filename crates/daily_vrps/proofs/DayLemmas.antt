@@ -1,17 +1,5 @@
 -- What is kept of a day is of the rows that give its VRPs, and of a history of them.
-use Rattle.std.proofs.Common.{◌≡◌, ℕ, ◌↔◌, List, ap, ◌∙◌, subst, sym, Contains}
-use Rattle.addr.specs.declared.vrp.Vrp.{Vrp}
-use Rattle.registry.specs.declared.charter.Charter.{Charter}
-use Rattle.registry.specs.DailyVrps.{IsAfterExceptions, IsVrpInForce}
-use Rattle.registry.specs.History.{History}
-use Rattle.registry.specs.RowsOfAll.{AllRows, HasRows, IsGivenOn}
-use Rattle.registry.specs.Verdict.{IsLegal}
-use Rattle.slurm.specs.Exceptions.{Exceptions}
-use Rattle.slurm.specs.SlurmSets.{union}
-use Rattle.slurm.specs.declared.filter.Filter.{Filter}
-use Rattle.daily_vrps.specs.Changes.{IsWithSame}
-use Rattle.daily_vrps.specs.Days.{IsDayOf, IsDayOfRows}
-use Rattle.daily_vrps.specs.KeptDay.{kept_exceptions, HasExceptions, FollowsExceptions, KeptDay}
+use Rattle.daily_vrps.proofs.Vocabulary.{◌≡◌, ℕ, ◌↔◌, List, ap, ◌∙◌, subst, sym, Contains, Vrp, Charter, IsAfterExceptions, IsVrpInForce, History, AllRows, HasRows, IsGivenOn, IsLegal, Exceptions, union, Filter, IsWithSame, IsDayOf, IsDayOfRows, kept_exceptions, HasExceptions, FollowsExceptions, KeptDay}
 use Rattle.daily_vrps.proofs.VrpsOfDay.{given_on}
 use Rattle.daily_vrps.proofs.ExceptionLemmas.{after_alike}
 use Rattle.daily_vrps.proofs.Keeps.{after_same}

@@ -1,19 +1,8 @@
 -- Which authorizations are in the rows of holders after an edit of one holder's.
-use Rattle.std.proofs.Common.{◌≡◌, ◌⊎◌, Bool, true, false, not, ◌==◌, ℕ, List, [], ◌∷◌, map, Option, Some, None, Contains, inl, inr, refl, sym, ap, subst, ◌∙◌}
-use Rattle.std.specs.List.{list_any}
-use Rattle.std.specs.Prelude.{if◌then◌else◌}
-use Rattle.std.proofs.lemmas.Bool.{not-true, true≢false}
-use Rattle.std.proofs.lemmas.List.Elements.{Contains-append_left, Contains-append_right, Contains-append_cases}
-use Rattle.registry.specs.declared.authorization.Auth.{Auth}
+use Rattle.daily_vrps.proofs.Vocabulary.{◌≡◌, ◌⊎◌, Bool, true, false, not, ◌==◌, ℕ, List, [], ◌∷◌, map, Option, Some, None, Contains, inl, inr, refl, sym, ap, subst, ◌∙◌, list_any, if◌then◌else◌, not-true, true≢false, Contains-append_left, Contains-append_right, Contains-append_cases, Auth, Edit, begun, ends, same_name, Rows, edited, edited_if_any, new_rows, replaced_by, AllRows, changed_rows, same_name-true}
 use Rattle.registry.specs.declared.change.Change.TheVariants.{Holders}
-use Rattle.registry.specs.declared.change.Edit.{Edit}
 use Rattle.registry.specs.declared.change.Edit.TheVariants.{Register, Hold, Grant, Revoke, Create, Import, Amend, Withdraw}
 use Rattle.registry.specs.declared.change.HolderChange.{HolderChange}
-use Rattle.registry.specs.Edits.{begun, ends}
-use Rattle.registry.specs.History.{same_name}
-use Rattle.registry.specs.Rows.{Rows, edited, edited_if_any, new_rows, replaced_by}
-use Rattle.registry.specs.RowsOfAll.{AllRows, changed_rows}
-use Rattle.registry.proofs.Names.{same_name-true}
 use Rattle.daily_vrps.proofs.Members.{among_any, any_among, at_head, head_or_tail, in_filter, in_map, mapped_in, none_in_nil}
 
 -- ---- the authorizations of a holder

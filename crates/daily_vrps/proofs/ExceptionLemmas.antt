@@ -1,14 +1,6 @@
 -- What local exceptions leave of VRPs.
-use Rattle.std.proofs.Common.{◌≡◌, Bool, true, false, not, ◌↔◌, inl, inr, List, ◌++◌, refl, sym, ◌∙◌, Contains, filter}
-use Rattle.std.specs.Prelude.{Any}
-use Rattle.std.specs.List.{list_any}
-use Rattle.std.proofs.lemmas.Bool.{true≢false, not-true}
-use Rattle.addr.specs.declared.vrp.Vrp.{Vrp}
+use Rattle.daily_vrps.proofs.Vocabulary.{◌≡◌, Bool, true, false, not, ◌↔◌, inl, inr, List, ◌++◌, refl, sym, ◌∙◌, Contains, filter, Any, list_any, true≢false, not-true, Vrp, Exceptions, FilterMatches, filter_matches, Filter, IsAfterExceptions}
 use Rattle.slurm.proofs.FilterLemmas.{some_filter}
-use Rattle.slurm.specs.Exceptions.{Exceptions}
-use Rattle.slurm.specs.Filter.{FilterMatches, filter_matches}
-use Rattle.slurm.specs.declared.filter.Filter.{Filter}
-use Rattle.registry.specs.DailyVrps.{IsAfterExceptions}
 use Rattle.daily_vrps.proofs.Members.{in_both, in_filter}
 
 -- none of the filters matches the VRP

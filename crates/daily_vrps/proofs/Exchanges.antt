@@ -1,25 +1,7 @@
 -- What an exchange leaves of a day that is kept, and the states of routes over it.
-use Rattle.std.proofs.Common.{◌≡◌, ℕ, Bool, true, not, ◌||◌, ◌↔◌, ◌⊎◌, inl, inr, List, Contains, filter, sym, ap, subst, ◌∙◌}
-use Rattle.std.specs.Prelude.{Any}
-use Rattle.std.proofs.lemmas.Bool.{cases_Bool, false≢true, or_right}
-use Rattle.addr.specs.OriginValidation.{validation_state, HasState, ValidationState}
-use Rattle.addr.specs.declared.route.Route.{Route}
-use Rattle.addr.specs.declared.vrp.Vrp.{Vrp}
+use Rattle.daily_vrps.proofs.Vocabulary.{◌≡◌, ℕ, Bool, true, not, ◌||◌, ◌↔◌, ◌⊎◌, inl, inr, List, Contains, filter, sym, ap, subst, ◌∙◌, Any, cases_Bool, false≢true, or_right, validation_state, HasState, ValidationState, Route, Vrp, Charter, IsAfterExceptions, IsVrpInForce, IsVrpOn, History, AllRows, HasRows, IsGivenOn, IsLegal, Auth, FilterMatches, union, AreExchanged, AreGivingOn, ExchangesVrps, IsDayOfRows, kept_exceptions, HasExceptions, KeptDay, is_left, over_both, IsAfter}
 use Rattle.payload.specs.VrpSet as set
-use Rattle.registry.specs.declared.charter.Charter.{Charter}
-use Rattle.registry.specs.DailyVrps.{IsAfterExceptions, IsVrpInForce, IsVrpOn}
 use Rattle.registry.specs.ExceptionsInForce.{exceptions_in_force}
-use Rattle.registry.specs.History.{History}
-use Rattle.registry.specs.RowsOfAll.{AllRows, HasRows, IsGivenOn}
-use Rattle.registry.specs.Verdict.{IsLegal}
-use Rattle.registry.specs.declared.authorization.Auth.{Auth}
-use Rattle.slurm.specs.Filter.{FilterMatches}
-use Rattle.slurm.specs.SlurmSets.{union}
-use Rattle.daily_vrps.specs.Changes.{AreExchanged}
-use Rattle.daily_vrps.specs.Giving.{AreGivingOn}
-use Rattle.daily_vrps.specs.Days.{ExchangesVrps, IsDayOfRows}
-use Rattle.daily_vrps.specs.KeptDay.{kept_exceptions, HasExceptions, KeptDay}
-use Rattle.daily_vrps.specs.steps.Exchanging.{is_left, over_both, IsAfter}
 use Rattle.daily_vrps.proofs.VrpsOfDay.{given_on}
 use Rattle.daily_vrps.proofs.ExceptionLemmas.{after_alike}
 use Rattle.daily_vrps.proofs.Follows.{exchange_keeps}

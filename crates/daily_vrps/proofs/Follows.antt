@@ -1,24 +1,6 @@
 -- A day that is kept follows an edit of a holder's rows.
-use Rattle.std.proofs.Common.{◌≡◌, ℕ, ◌≤◌, Bool, true, false, ◌↔◌, ◌⊎◌, inl, inr, List, [], ◌∷◌, ◌++◌, ap, ◌∙◌, subst, Contains, cond}
-use Rattle.std.specs.Prelude.{Any}
-use Rattle.std.proofs.lemmas.List.{append-nil}
-use Rattle.std.proofs.lemmas.List.Elements.{filter-append}
-use Rattle.addr.specs.declared.asn.Asn.{Asn}
-use Rattle.addr.specs.declared.vrp.Vrp.{Vrp}
+use Rattle.daily_vrps.proofs.Vocabulary.{◌≡◌, ℕ, ◌≤◌, Bool, true, false, ◌↔◌, ◌⊎◌, inl, inr, List, [], ◌∷◌, ◌++◌, ap, ◌∙◌, subst, Contains, cond, Any, append-nil, filter-append, Asn, Vrp, IsAfterExceptions, ended, ends, vrp_of_terms, IsVrpOfEntry, Auth, RoaPrefix, Edit, FilterMatches, Filter, AreExchanged, AreJoined, IsAdded, IsJoined, IsSpared, IsWithSame, AreGivingOn, GivesOn, kept_exceptions, FollowsExceptions, KeptDay, IsJoinedBy, IsLeftWithout, IsVrpOfSome}
 use Rattle.payload.specs.VrpSet as set
-use Rattle.registry.specs.DailyVrps.{IsAfterExceptions}
-use Rattle.registry.specs.Edits.{ended, ends}
-use Rattle.registry.proofs.EntryVrps.{vrp_of_terms}
-use Rattle.addr.specs.VrpParts.{IsVrpOfEntry}
-use Rattle.registry.specs.declared.authorization.Auth.{Auth}
-use Rattle.addr.specs.declared.roa_prefix.RoaPrefix.{RoaPrefix}
-use Rattle.registry.specs.declared.change.Edit.{Edit}
-use Rattle.slurm.specs.Filter.{FilterMatches}
-use Rattle.slurm.specs.declared.filter.Filter.{Filter}
-use Rattle.daily_vrps.specs.Changes.{AreExchanged, AreJoined, IsAdded, IsJoined, IsSpared, IsWithSame}
-use Rattle.daily_vrps.specs.Giving.{AreGivingOn, GivesOn}
-use Rattle.daily_vrps.specs.KeptDay.{kept_exceptions, FollowsExceptions, KeptDay}
-use Rattle.daily_vrps.specs.steps.Entries.{IsJoinedBy, IsLeftWithout, IsVrpOfSome}
 use Rattle.daily_vrps.proofs.Members.{none_such, such_among_more}
 use Rattle.daily_vrps.proofs.Steps.{joined_more, joined_same, left_more, left_same}
 

@@ -1,12 +1,5 @@
 -- The VRPs that authorizations give on a day, put into a list one after the other.
-use Rattle.std.proofs.Common.{◌≡◌, ℕ, ◌≤◌, ◌↔◌, ◌⊎◌, inl, inr, List, [], ◌∷◌, ◌++◌, Contains}
-use Rattle.addr.specs.declared.asn.Asn.{Asn}
-use Rattle.addr.specs.declared.vrp.Vrp.{Vrp}
-use Rattle.addr.specs.VrpParts.{IsVrpOfEntry}
-use Rattle.registry.specs.declared.authorization.Auth.{Auth}
-use Rattle.addr.specs.declared.roa_prefix.RoaPrefix.{RoaPrefix}
-use Rattle.daily_vrps.specs.Giving.{AreGivingOn, GivesOn}
-use Rattle.daily_vrps.specs.steps.Entries.{IsVrpOfSome}
+use Rattle.daily_vrps.proofs.Vocabulary.{◌≡◌, ℕ, ◌≤◌, ◌↔◌, ◌⊎◌, inl, inr, List, [], ◌∷◌, ◌++◌, Contains, Asn, Vrp, IsVrpOfEntry, Auth, RoaPrefix, AreGivingOn, GivesOn, IsVrpOfSome}
 use Rattle.daily_vrps.proofs.Follows.{entry_more, giving_more, in_force_gives, none_given}
 use Rattle.daily_vrps.proofs.Members.{none_in_nil, none_such}
 use Rattle.daily_vrps.proofs.Steps.{added_more}

@@ -1,20 +1,6 @@
 -- A day that is kept stays so where an authorization ends or begins.
-use Rattle.std.proofs.Common.{◌↔◌, ◌⊎◌, inl, inr, List, [], sym, subst, Contains}
-use Rattle.std.specs.Prelude.{Any}
-use Rattle.addr.specs.declared.asn.Asn.{Asn}
-use Rattle.addr.specs.declared.vrp.Vrp.{Vrp}
+use Rattle.daily_vrps.proofs.Vocabulary.{◌↔◌, ◌⊎◌, inl, inr, List, [], sym, subst, Contains, Any, Asn, Vrp, IsAfterExceptions, Auth, RoaPrefix, IsVrpOfEntry, one_of_entry, Exceptions, FilterMatches, IsLeft, AreGivingOn, GivesOn, kept_exceptions, HasExceptions, FollowsExceptions, KeptDay, IsJoinedBy, IsLeftWithout}
 use Rattle.payload.specs.VrpSet as set
-use Rattle.registry.specs.DailyVrps.{IsAfterExceptions}
-use Rattle.registry.specs.declared.authorization.Auth.{Auth}
-use Rattle.addr.specs.declared.roa_prefix.RoaPrefix.{RoaPrefix}
-use Rattle.addr.specs.VrpParts.{IsVrpOfEntry}
-use Rattle.registry.proofs.EntryVrps.{one_of_entry}
-use Rattle.slurm.specs.Exceptions.{Exceptions}
-use Rattle.slurm.specs.Filter.{FilterMatches}
-use Rattle.daily_vrps.specs.Changes.{IsLeft}
-use Rattle.daily_vrps.specs.Giving.{AreGivingOn, GivesOn}
-use Rattle.daily_vrps.specs.KeptDay.{kept_exceptions, HasExceptions, FollowsExceptions, KeptDay}
-use Rattle.daily_vrps.specs.steps.Entries.{IsJoinedBy, IsLeftWithout}
 use Rattle.daily_vrps.proofs.Members.{none_such}
 use Rattle.daily_vrps.proofs.VrpSets.{items_inserted, items_removed, one_or_two}
 

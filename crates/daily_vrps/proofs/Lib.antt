@@ -13,3 +13,4 @@ pub mod Turns
 pub mod States
 mod GivenVrps
 pub mod Exchanges
+pub mod Vocabulary

@@ -1,10 +1,5 @@
 -- The state of a route over a set of VRPs.
-use Rattle.std.proofs.Common.{◌≡◌, Bool, true, false, ◌↔◌, inl, inr, List, refl, sym, ◌∙◌, Contains, if◌then◌else◌}
-use Rattle.std.specs.List.{list_any}
-use Rattle.std.proofs.lemmas.Bool.{cases_Bool, true≢false}
-use Rattle.addr.specs.OriginValidation.{covers, matches, Valid, Invalid, NotFound, HasState, validation_state}
-use Rattle.addr.specs.declared.route.Route.{Route}
-use Rattle.addr.specs.declared.vrp.Vrp.{Vrp}
+use Rattle.daily_vrps.proofs.Vocabulary.{◌≡◌, Bool, true, false, ◌↔◌, inl, inr, List, refl, sym, ◌∙◌, Contains, if◌then◌else◌, list_any, cases_Bool, true≢false, covers, matches, Valid, Invalid, NotFound, HasState, validation_state, Route, Vrp}
 use Rattle.daily_vrps.proofs.Members.{any_among, among_any}
 
 -- the state over a list is the state over any set with the same VRPs

@@ -1,15 +1,7 @@
 -- States of routes, in pairs and after an exchange.
-use Rattle.std.proofs.Common.{◌≡◌, false, ◌↔◌, ◌⊎◌, inl, inr, List, [], ◌∷◌, ◌++◌, map, length, refl, sym, ap, ◌∙◌, suc}
-use Rattle.std.specs.List.{zip}
-use Rattle.std.proofs.lemmas.List.{length-map}
+use Rattle.daily_vrps.proofs.Vocabulary.{◌≡◌, false, ◌↔◌, ◌⊎◌, inl, inr, List, [], ◌∷◌, ◌++◌, map, length, refl, sym, ap, ◌∙◌, suc, zip, length-map, covers, matches, HasState, ValidationState, Valid, Invalid, NotFound, Route, Vrp, state_of, states_after, states_now, HaveStates, over_both}
 use Rattle.std.proofs.lemmas.Slice.Zip.{firsts-zip, seconds-zip}
-use Rattle.addr.specs.OriginValidation.{covers, matches, HasState, ValidationState, Valid, Invalid, NotFound}
-use Rattle.addr.specs.declared.route.Route.{Route}
-use Rattle.addr.specs.declared.vrp.Vrp.{Vrp}
-use Rattle.payload.specs.ValidityState.{state_of}
 use Rattle.payload.specs.declared.validity.Validity.{Validity}
-use Rattle.daily_vrps.specs.States.{states_after, states_now, HaveStates}
-use Rattle.daily_vrps.specs.steps.Exchanging.{over_both}
 
 -- ---- the state of one route
 

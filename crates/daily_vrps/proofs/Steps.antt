@@ -1,5 +1,5 @@
 -- What is put in, or taken out, in two steps.
-use Rattle.std.proofs.Common.{◌↔◌, ◌⊎◌, inl, inr}
+use Rattle.daily_vrps.proofs.Vocabulary.{◌↔◌, ◌⊎◌, inl, inr}
 
 -- in with P and then with Q, in with R
 pub joined_more : {Was Mid Now P Q R Open : Type 0} → (R ↔ (P ⊎ Q)) → (Mid ↔ (Was ⊎ (P × Open))) → (Now ↔ (Mid ⊎ (Q × Open)))

@@ -1,23 +1,8 @@
 -- Authorizations of a legal history that end and begin, and the VRPs in force then.
-use Rattle.std.proofs.Common.{◌≡◌, ℕ, Bool, true, false, not, ◌==◌, ◌↔◌, ◌⊎◌, inl, inr, List, [], ◌∷◌, Option, Some, None, sym, ap, ◌∙◌, subst, Contains}
-use Rattle.std.specs.List.{list_all, list_any}
-use Rattle.std.proofs.lemmas.Bool.{and_from, and_parts, cases_Bool, eq-eqb, eqb-true, not-true, or_parts, true≢false}
-use Rattle.addr.specs.declared.vrp.Vrp.{Vrp}
+use Rattle.daily_vrps.proofs.Vocabulary.{◌≡◌, ℕ, Bool, true, false, not, ◌==◌, ◌↔◌, ◌⊎◌, inl, inr, List, [], ◌∷◌, Option, Some, None, sym, ap, ◌∙◌, subst, Contains, list_all, list_any, and_from, and_parts, cases_Bool, eq-eqb, eqb-true, not-true, or_parts, true≢false, Vrp, Charter, same_name-true, has_nothing, IsVrpInForce, History, same_name, Rows, RowsIfAny, AllRows, HasRows, is_entry, authorization_terms, share_vrp, AreActive, HeldSinceMade, IsActive, IsVrpOf, Keeps, IsLegal, Auth, auths_of_rows, AreGivingOn}
 use Rattle.registry.specs.Repeats.{has_repeat}
-use Rattle.registry.specs.declared.charter.Charter.{Charter}
 use Rattle.registry_laws.specs.SharedVrps.{share_none, NoSharedVrp}
 use Rattle.registry.proofs.Entries.{both_share}
-use Rattle.registry.proofs.Names.{same_name-true}
-use Rattle.registry.proofs.Unregistered.{has_nothing}
-use Rattle.registry.specs.DailyVrps.{IsVrpInForce}
-use Rattle.registry.specs.History.{History, same_name}
-use Rattle.registry.specs.Rows.{Rows, RowsIfAny}
-use Rattle.registry.specs.RowsOfAll.{AllRows, HasRows}
-use Rattle.addr.specs.VrpParts.{is_entry}
-use Rattle.registry.specs.Terms.{authorization_terms, share_vrp, AreActive, HeldSinceMade, IsActive, IsVrpOf, Keeps}
-use Rattle.registry.specs.Verdict.{IsLegal}
-use Rattle.registry.specs.declared.authorization.Auth.{Auth}
-use Rattle.daily_vrps.specs.Giving.{auths_of_rows, AreGivingOn}
 use Rattle.daily_vrps.proofs.VrpsOfDay.{kept_is, kept_was}
 use Rattle.daily_vrps.proofs.Members.{any_among, head_or_tail, none_in_nil}
 

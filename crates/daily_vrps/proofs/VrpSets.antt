@@ -1,10 +1,7 @@
 -- The VRPs of a set that others are put into or taken out of.
-use Rattle.std.proofs.Common.{◌≡◌, true, false, not, ◌↔◌, ◌⊎◌, inl, inr, IsTrue, List, sym, ap, ◌∙◌, subst, Contains}
-use Rattle.std.specs.List.{list_any}
+use Rattle.daily_vrps.proofs.Vocabulary.{◌≡◌, true, false, not, ◌↔◌, ◌⊎◌, inl, inr, IsTrue, List, sym, ap, ◌∙◌, subst, Contains, list_any, and_from, and_parts, cases_Bool, not-true, or_cases, or_left, or_right, true≢false, Vrp}
 use Rattle.std.specs.Ordering.{is_eq}
-use Rattle.std.proofs.lemmas.Bool.{and_from, and_parts, cases_Bool, not-true, or_cases, or_left, or_right, true≢false}
 use Rattle.std.proofs.lemmas.Cmp.{tied_itself}
-use Rattle.addr.specs.declared.vrp.Vrp.{Vrp}
 use Rattle.addr.proofs.OrderLemmas.{vrp_order}
 use Rattle.payload.specs.VrpSet as set
 use Rattle.payload.proofs.Sets.{contains-from_list, contains-insert, contains-items, contains-remove, is_vrp, same_vrp-equal}

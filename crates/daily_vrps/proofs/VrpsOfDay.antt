@@ -1,15 +1,5 @@
 -- The VRPs of a day: those that the rows of a legal history give are those of the history.
-use Rattle.std.proofs.Common.{◌≡◌, ℕ, true, false, ◌↔◌, inl, inr, List, [], ◌∷◌, Option, Some, None, refl, sym, ◌∙◌, subst, Contains}
-use Rattle.addr.specs.declared.vrp.Vrp.{Vrp}
-use Rattle.registry.specs.DailyVrps.{IsVrpInForce}
-use Rattle.registry.specs.History.{History, is_registered}
-use Rattle.registry.specs.Rows.{Rows, RowsIfAny, RowsOf}
-use Rattle.registry.specs.Terms.{HeldSinceMade, authorization_terms, Keeps}
-use Rattle.registry.specs.Verdict.{IsLegal}
-use Rattle.registry.specs.declared.authorization.Auth.{Auth}
-use Rattle.registry.specs.declared.charter.Charter.{Charter}
-use Rattle.registry.proofs.Unregistered.{has_nothing}
-use Rattle.registry.specs.RowsOfAll.{AllRows, HasRows, IsGivenOn}
+use Rattle.daily_vrps.proofs.Vocabulary.{◌≡◌, ℕ, true, false, ◌↔◌, inl, inr, List, [], ◌∷◌, Option, Some, None, refl, sym, ◌∙◌, subst, Contains, Vrp, IsVrpInForce, History, is_registered, Rows, RowsIfAny, RowsOf, HeldSinceMade, authorization_terms, Keeps, IsLegal, Auth, Charter, has_nothing, AllRows, HasRows, IsGivenOn}
 use Rattle.daily_vrps.proofs.Members.{at_head, head_or_tail, in_tail, none_in_nil}
 
 -- what is kept was there and meets the fact, and what meets it is kept

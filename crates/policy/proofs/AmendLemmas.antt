@@ -1,17 +1,6 @@
 -- The rule that amended terms share no AS, prefix and maxLength with another active authorization.
-use Rattle.std.proofs.Common.{◌≡◌, ℕ, Bool, false, List, Option, Some, None, refl, sym, ◌∙◌, subst, IfSome, IsSomeAnd}
-use Rattle.registry.specs.declared.authorization.Auth.{Auth}
-use Rattle.registry.specs.declared.grant.Granted.{Granted}
-use Rattle.registry.specs.Answer.{AnswersNumber, AnswersAmend, SharesWithNone}
-use Rattle.registry.specs.History.{History}
-use Rattle.registry.specs.RoaPrefixes.{with_maxes}
-use Rattle.registry.specs.Terms.{with_terms, authorization_terms, HeldSinceMade, OfActive}
-use Rattle.registry.specs.Verdict.{IsLegal, auth_of_number}
-use Rattle.registry.specs.declared.rows.HolderRows.{HolderRows}
-use Rattle.registry.specs.declared.charter.Charter.{Charter}
-use Rattle.registry.specs.Rows.{Rows, RowsOf, RowsIfAny, rows_of, rows_if_any, grants_if_any, auths_if_any}
+use Rattle.policy.proofs.Vocabulary.{◌≡◌, ℕ, Bool, false, List, Option, Some, None, refl, sym, ◌∙◌, subst, IfSome, IsSomeAnd, Auth, Granted, AnswersNumber, AnswersAmend, SharesWithNone, History, with_maxes, with_terms, authorization_terms, HeldSinceMade, OfActive, IsLegal, auth_of_number, HolderRows, Charter, Rows, RowsOf, RowsIfAny, rows_of, rows_if_any, grants_if_any, auths_if_any, Keeps-unique}
 use Rattle.registry.proofs.Amended.{shares_with_other}
-use Rattle.registry.proofs.Kept.{Keeps-unique}
 use Rattle.policy.proofs.CarryTerms.{found_number}
 use Rattle.policy.proofs.RowsLemmas.{active-from, answers-rows, answers-unregistered}
 

@@ -1,22 +1,10 @@
 -- The rows of an import that some authorization has the terms of.
-use Rattle.std.proofs.Common.{◌≡◌, ◌<◌, ◌+◌, ℕ, Bool, true, false, cond, ◌&&◌, ◌||◌, ◌==◌, List, [], ◌∷◌, ◌++◌, get_or, length, take, Option, Some, None, refl, ap, sym, ◌∙◌}
-use Rattle.std.proofs.Math.Bool.{or-false}
+use Rattle.policy.proofs.Vocabulary.{◌≡◌, ◌<◌, ◌+◌, ℕ, Bool, true, false, cond, ◌&&◌, ◌||◌, ◌==◌, List, [], ◌∷◌, ◌++◌, get_or, length, take, Option, Some, None, refl, ap, sym, ◌∙◌, or-false, list_any, BTreeSet, contains, prefix_eq, Auth, ImportRow, RoaPrefix, IsOfTerms, are_same, has_terms, is_entry, row_terms, AreAuthorized, row_of_auth, row_of_entries}
 use Rattle.std.proofs.lemmas.List.Folds.{list_any-append, list_any_more}
-use Rattle.std.specs.List.{list_any}
 use Rattle.std.specs.Ordering.{is_eq}
 use Rattle.std.specs.BTreeMap.{is_at}
-use Rattle.std.specs.BTreeSet.{BTreeSet, contains}
-use Rattle.addr.specs.Address.{prefix_eq}
 use Rattle.registry.specs.contracts.authorization.ImportRowOrd.TheImpl as ImportRowOrd
-use Rattle.registry.specs.declared.authorization.Auth.{Auth}
-use Rattle.registry.specs.declared.authorization.ImportRow.{ImportRow}
-use Rattle.addr.specs.declared.roa_prefix.RoaPrefix.{RoaPrefix}
-use Rattle.registry.specs.Edits.{IsOfTerms}
-use Rattle.registry.specs.Import.{are_same, has_terms}
-use Rattle.addr.specs.VrpParts.{is_entry}
-use Rattle.registry.specs.Terms.{row_terms}
 use Rattle.registry.proofs.RowOrder.{row_ties}
-use Rattle.policy.specs.steps.Authorized.{AreAuthorized, row_of_auth, row_of_entries}
 
 bracketed : (a b c d e : Bool) → ((a && ((b && c) && true)) && (d && e)) ≡ (a && (b && (c && (d && e))))
 bracketed false b c d e = refl

@@ -1,16 +1,7 @@
 -- The changes of a grant and a revocation carry every holder's rows.
-use Rattle.std.proofs.Common.{◌≡◌, ℕ, ◌+◌, true, not, eqb, List, [], ◌∷◌, ◌++◌, None, refl, sym, ap, ◌∙◌, filter}
-use Rattle.std.proofs.lemmas.Bool.{cond-true}
+use Rattle.policy.proofs.Vocabulary.{◌≡◌, ℕ, ◌+◌, true, not, eqb, List, [], ◌∷◌, ◌++◌, None, refl, sym, ap, ◌∙◌, filter, cond-true, Granted, Holders, Grant, Revoke, Entry, History, is_registered, numbered_grant, grant_terms, grants_made, Carries, same_name-same, active-left, carries-edit}
 use Rattle.registry.specs.declared.grant.GrantTerms.{GrantTerms}
-use Rattle.registry.specs.declared.grant.Granted.{Granted}
-use Rattle.registry.specs.declared.change.Change.TheVariants.{Holders}
 use Rattle.registry.specs.declared.change.Edit.TheVariants.{Grant as GrantEdit, Revoke as RevokeEdit}
-use Rattle.registry.specs.declared.command.Command.TheVariants.{Grant, Revoke}
-use Rattle.registry.specs.History.{Entry, History, is_registered}
-use Rattle.registry.specs.Terms.{numbered_grant, grant_terms, grants_made}
-use Rattle.registry.specs.Rows.{Carries}
-use Rattle.registry.proofs.Names.{same_name-same}
-use Rattle.registry.proofs.Carry.{active-left, carries-edit}
 
 pub carries-grant : (before : History) (day : ℕ) (caller holder : List ℕ) (terms : GrantTerms) (g : Granted)
     → is_registered before holder ≡ true

@@ -1,35 +1,9 @@
 -- The changes of a registration, a delegation, a transfer and a reclaim carry every holder's rows.
-use Rattle.std.proofs.Common.{◌≡◌, ℕ, Bool, true, false, not, ◌||◌, ◌&&◌, cond, List, [], ◌∷◌, ◌++◌, inl, inr, Some, None, refl, sym, ap, ◌∙◌, subst, map, filter}
-use Rattle.std.proofs.lemmas.Bool.{cases_Bool, cond-true, cond-false, false≢true}
-use Rattle.std.proofs.Math.Bool.{or-true, or-false, and-true, and-false}
-use Rattle.std.specs.Global.{Vec}
-use Rattle.std.specs.List.{list_all}
-use Rattle.addr.specs.Address.{Address, has_address}
-use Rattle.addr.specs.declared.prefix.Prefix.{Prefix}
-use Rattle.addr.specs.declared.span.Span.{Span}
-use Rattle.addr.specs.Spans.{spans_have, is_one_of, without_runs, AddsAddresses, TakesAddresses, AreApart}
+use Rattle.policy.proofs.Vocabulary.{◌≡◌, ℕ, Bool, true, false, not, ◌||◌, ◌&&◌, cond, List, [], ◌∷◌, ◌++◌, inl, inr, Some, None, refl, sym, ap, ◌∙◌, subst, map, filter, cases_Bool, cond-true, cond-false, false≢true, or-true, or-false, and-true, and-false, Vec, list_all, Address, has_address, Prefix, Span, spans_have, is_one_of, without_runs, AddsAddresses, TakesAddresses, AreApart, Auth, Charter, Holders, HolderRows, Register, Delegate, Transfer, Reclaim, PutsNoneBack, Entry, History, same_name, is_registered, resource_holder, is_held_by, HoldsPrefix, IsFree, terms_overlap, grant_terms, grants_made, authorizations_made, authorization_terms, HeldSinceMade, Keeps, AreActive, IsLegal, Rows, RowsOf, RowsIfAny, edited, edited_if_any, Carries, AnswersLoss, HasRuns, same_name-same, held_by_itself, Keeps-unique, active-kept, active-numbered, LosesNothing, LosesPrefix, active-ended, numbers_where, among, filter-numbers, carries-one, carries-edit, carries-two, has_nothing}
 use Rattle.addr.proofs.RunLemmas.{runs_exchanged, none_back}
-use Rattle.registry.specs.declared.authorization.Auth.{Auth}
-use Rattle.registry.specs.declared.charter.Charter.{Charter}
-use Rattle.registry.specs.declared.change.Change.TheVariants.{Holders}
 use Rattle.registry.specs.declared.change.Edit.{Edit}
-use Rattle.registry.specs.declared.rows.HolderRows.{HolderRows}
 use Rattle.registry.specs.declared.change.Edit.TheVariants.{Register as RegisterEdit}
-use Rattle.registry.specs.declared.command.Command.TheVariants.{Register, Delegate, Transfer, Reclaim}
-use Rattle.registry.specs.Answer.{PutsNoneBack}
-use Rattle.registry.specs.History.{Entry, History, same_name, is_registered}
-use Rattle.registry.specs.Resources.{resource_holder, is_held_by, HoldsPrefix, IsFree}
-use Rattle.registry.specs.Terms.{terms_overlap, grant_terms, grants_made, authorizations_made, authorization_terms, HeldSinceMade, Keeps, AreActive}
-use Rattle.registry.specs.Verdict.{IsLegal}
-use Rattle.registry.specs.Rows.{Rows, RowsOf, RowsIfAny, edited, edited_if_any, Carries}
-use Rattle.registry.specs.Answer.{AnswersLoss, HasRuns}
 use Rattle.policy.specs.steps.Exchange.{Exchanges}
-use Rattle.registry.proofs.Names.{same_name-same, held_by_itself}
-use Rattle.registry.proofs.Kept.{Keeps-unique}
-use Rattle.registry.proofs.Held.{active-kept, active-numbered, LosesNothing}
-use Rattle.registry.proofs.Ended.{LosesPrefix, active-ended, numbers_where, among, filter-numbers}
-use Rattle.registry.proofs.Carry.{carries-one, carries-edit, carries-two}
-use Rattle.registry.proofs.Unregistered.{has_nothing}
 
 -- a registration: a holder that was not registered has nothing yet
 pub carries-register : (charter : Charter) (before : History) (day : ℕ) (caller holder : List ℕ) → IsLegal charter before

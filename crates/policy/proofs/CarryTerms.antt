@@ -1,23 +1,9 @@
 -- The changes of a create, an amend and a withdrawal carry every holder's rows.
-use Rattle.std.proofs.Common.{◌≡◌, ℕ, ◌+◌, ◌<◌, ◌≤◌, true, false, not, eqb, List, [], ◌∷◌, ◌++◌, inl, inr, Some, None, refl, sym, ap, ◌∙◌, subst, arith, map, filter}
-use Rattle.std.specs.Global.{Vec}
-use Rattle.std.proofs.lemmas.Bool.{cases_Bool, cond-true, cond-false}
+use Rattle.policy.proofs.Vocabulary.{◌≡◌, ℕ, ◌+◌, ◌<◌, ◌≤◌, true, false, not, eqb, List, [], ◌∷◌, ◌++◌, inl, inr, Some, None, refl, sym, ap, ◌∙◌, subst, arith, map, filter, Vec, cases_Bool, cond-true, cond-false, nat_tests, Auth, AuthTerms, Holders, Amend, Withdraw, Entry, History, is_registered, entries_have, HoldsEntries, numbered_terms, authorizations_made, authorization_terms, with_terms, amended, HeldSinceMade, Keeps, AreActive, auth_of_number, replaced_by, Carries, same_name-same, Keeps-unique, Keeps-append, Keeps-filtered, Keeps-map, active-kept, active-numbered, not_yet_made, since_same, amended-number, amended-addresses, carries-edit}
 use Rattle.std.proofs.lemmas.Option.{same_Some, none-some}
-use Rattle.std.proofs.lemmas.Bool.Decides.{nat_tests}
-use Rattle.registry.specs.declared.authorization.Auth.{Auth}
-use Rattle.registry.specs.declared.authorization.AuthTerms.{AuthTerms}
-use Rattle.registry.specs.declared.change.Change.TheVariants.{Holders}
 use Rattle.registry.specs.declared.change.Edit.TheVariants.{Create as CreateEdit, Amend as AmendEdit, Withdraw as WithdrawEdit}
-use Rattle.registry.specs.declared.command.Command.TheVariants.{Create, Amend, Withdraw}
-use Rattle.registry.specs.History.{Entry, History, is_registered}
-use Rattle.registry.specs.Terms.{entries_have, HoldsEntries, numbered_terms, authorizations_made, authorization_terms, with_terms, amended, HeldSinceMade, Keeps, AreActive}
-use Rattle.registry.specs.Verdict.{auth_of_number}
-use Rattle.registry.specs.Rows.{replaced_by, Carries}
-use Rattle.registry.proofs.Names.{same_name-same}
+use Rattle.registry.specs.declared.command.Command.TheVariants.{Create}
 use Rattle.registry.proofs.Numbers.{Numbered}
-use Rattle.registry.proofs.Kept.{Keeps-unique, Keeps-append, Keeps-filtered, Keeps-map}
-use Rattle.registry.proofs.Held.{active-kept, active-numbered, not_yet_made, since_same, amended-number, amended-addresses}
-use Rattle.registry.proofs.Carry.{carries-edit}
 
 pub carries-create : (before : History) (day : ℕ) (caller holder : List ℕ) (t : AuthTerms) (x : Auth)
     → is_registered before holder ≡ true → HoldsEntries before holder t.entries

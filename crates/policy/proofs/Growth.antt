@@ -1,10 +1,6 @@
 -- Requests of several parts: one more part after those that were judged.
-use Rattle.std.proofs.Common.{◌≡◌, ℕ, ◌+◌, ◌<◌, zero, suc, List, [], ◌∷◌, ◌++◌, length, take, get_or, inl, inr, Option, Result, Ok, Err, refl, sym, ap, ◌∙◌, subst, arith}
-use Rattle.std.proofs.lemmas.List.{take_more}
-use Rattle.registry.specs.declared.command.Command.{Command}
-use Rattle.registry.specs.declared.rule.Rule.{Rule}
+use Rattle.policy.proofs.Vocabulary.{◌≡◌, ℕ, ◌+◌, ◌<◌, zero, suc, List, [], ◌∷◌, ◌++◌, length, take, get_or, inl, inr, Option, Result, Ok, Err, refl, sym, ap, ◌∙◌, subst, arith, take_more, Command, Rule, History}
 use Rattle.registry.specs.GrowingHistory.{grown_by, Grows, IsDeniedAt}
-use Rattle.registry.specs.History.{History}
 
 abbrev Judges : Type 0 → Type 1
 Judges X = History → X → Result (Option Command) Rule → Type 0

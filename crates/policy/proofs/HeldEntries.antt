@@ -1,13 +1,6 @@
 -- Runs of addresses that cover each prefix of a list of entries have the addresses of the entries, and the other way round.
-use Rattle.std.proofs.Common.{◌≡◌, true, List, [], ◌∷◌, inl, inr, refl}
-use Rattle.std.specs.List.{list_all, list_any}
-use Rattle.std.proofs.lemmas.Bool.{and_from, and_parts, false≢true, or_cases, or_left, or_right}
-use Rattle.addr.specs.Address.{Address, has_address}
-use Rattle.addr.specs.Spans.{AreMaximal, span_covers, spans_have}
-use Rattle.addr.specs.declared.span.Span.{Span}
+use Rattle.policy.proofs.Vocabulary.{◌≡◌, true, List, [], ◌∷◌, inl, inr, refl, list_all, list_any, and_from, and_parts, false≢true, or_cases, or_left, or_right, Address, has_address, AreMaximal, span_covers, spans_have, Span, RoaPrefix, entries_have}
 use Rattle.addr.proofs.SpanLemmas.{covered_has, had_covered}
-use Rattle.addr.specs.declared.roa_prefix.RoaPrefix.{RoaPrefix}
-use Rattle.registry.specs.Terms.{entries_have}
 
 pub covered_have : (spans : List Span) (es : List RoaPrefix) (a : Address) → list_all (λ e. list_any (λ s. span_covers s e.prefix) spans) es ≡ true
     → entries_have es a ≡ true → spans_have spans a ≡ true

@@ -1,27 +1,9 @@
 -- The changes of a what-if, one by one, on a part of the rows.
-use Rattle.std.proofs.Common.{◌≡◌, ℕ, zero, suc, ◌+◌, ◌<◌, Bool, false, List, [], ◌∷◌, length, take, get_or, Contains, inl, Some, Err, refl, sym, ap, ◌∙◌, subst, arith}
-use Rattle.std.proofs.lemmas.Bool.{false≢true}
-use Rattle.std.proofs.lemmas.List.Elements.{Contains-get_or}
-use Rattle.registry.specs.declared.charter.Charter.{Charter}
-use Rattle.registry.specs.declared.authorization.Auth.{Auth}
-use Rattle.registry.specs.declared.command.Proposed.{Proposed}
-use Rattle.registry.specs.declared.command.Proposed.TheVariants.{Create, Withdraw}
-use Rattle.registry.specs.declared.grant.Access.TheVariants.{Alter}
-use Rattle.registry.specs.declared.rule.Refusal.{Refusal}
-use Rattle.registry.specs.declared.rule.Refusal.TheVariants.{Denied, Memory}
+use Rattle.policy.proofs.Vocabulary.{◌≡◌, ℕ, zero, suc, ◌+◌, ◌<◌, Bool, false, List, [], ◌∷◌, length, take, get_or, Contains, inl, Some, Err, refl, sym, ap, ◌∙◌, subst, arith, false≢true, Contains-get_or, Charter, Auth, Proposed, Create, Alter, Refusal, Denied, Memory, Entry, History, is_registered, has_access, Rows, RowsIfAny, grant_terms, IsLegal, Verdict, IsHypotheticalAnswer, IsPartFor, not_kept, IsRefusedBy, refusal_at, IsHypotheticalChange, has_nothing}
+use Rattle.registry.specs.declared.command.Proposed.TheVariants.{Withdraw}
 use Rattle.registry.specs.declared.rule.Rule.TheVariants.{Grant as GrantRule}
-use Rattle.registry.specs.History.{Entry, History, is_registered}
 use Rattle.registry.specs.HypotheticalHistory.{hypothetical_command, JudgesChange, HypotheticalHistory, IsChangeDenied}
-use Rattle.registry.specs.Permission.{has_access}
-use Rattle.registry.specs.Rows.{Rows, RowsIfAny}
-use Rattle.registry.specs.Terms.{grant_terms}
-use Rattle.registry.specs.Verdict.{IsLegal, Verdict}
-use Rattle.registry.specs.Answer.{IsHypotheticalAnswer}
-use Rattle.registry.specs.PartOfRows.{IsPartFor, not_kept}
-use Rattle.policy.specs.steps.Part.{IsRefusedBy, refusal_at}
-use Rattle.policy.specs.steps.HypotheticalChange.{IsHypotheticalChange}
 use Rattle.policy.proofs.Growth.{Grows-more, Grows-denied}
-use Rattle.registry.proofs.Unregistered.{has_nothing}
 
 -- The changes up to a place are done on a part of the rows of a history, which leaves a part of those of the history with
 -- them; what the part does not keep stayed, and where the part is the whole, it stayed so.

@@ -1,34 +1,9 @@
 -- The edit of an import, row by row.
-use Rattle.std.proofs.Common.{◌≡◌, ℕ, ◌+◌, ◌<◌, Bool, true, false, cond, List, [], ◌∷◌, ◌++◌, length, take, get_or, inl, inr, Option, Some, None, Err, IsSomeAnd, refl, sym, ap, ◌∙◌, subst, append_assoc, append-nil, arith, length-append, Contains}
-use Rattle.std.specs.Global.{Vec}
-use Rattle.std.proofs.lemmas.List.{length-take-le}
-use Rattle.std.proofs.lemmas.Bool.{cases_Bool, false≢true, cond-true}
-use Rattle.registry.specs.declared.authorization.Auth.{Auth}
-use Rattle.registry.specs.declared.authorization.ImportRow.{ImportRow}
-use Rattle.addr.specs.declared.roa_prefix.RoaPrefix.{RoaPrefix}
-use Rattle.registry.specs.declared.change.Change.TheVariants.{Holders}
+use Rattle.policy.proofs.Vocabulary.{◌≡◌, ℕ, ◌+◌, ◌<◌, Bool, true, false, cond, List, [], ◌∷◌, ◌++◌, length, take, get_or, inl, inr, Option, Some, None, Err, IsSomeAnd, refl, sym, ap, ◌∙◌, subst, append_assoc, append-nil, arith, length-append, Contains, Vec, length-take-le, cases_Bool, false≢true, cond-true, Auth, ImportRow, RoaPrefix, Holders, Charter, Alter, Refusal, Denied, Memory, Import, IsAnswer, AreOfRows, Entry, History, same_name, is_registered, row_command, JudgesRow, IsImportDenied, has_access, are_permitted, Rows, RowsIfAny, edited, edited_if_any, changed, Carries, grant_terms, authorizations_made, row_terms, IsLegal, IsRefusedBy, refusal_at, carried, row-are, same_name-same, same_name-true, has_nothing}
 use Rattle.registry.specs.declared.change.Edit.TheVariants.{Create as CreateEdit, Import as ImportEdit}
-use Rattle.registry.specs.declared.charter.Charter.{Charter}
-use Rattle.registry.specs.declared.grant.Access.TheVariants.{Alter}
-use Rattle.registry.specs.declared.rule.Refusal.{Refusal}
-use Rattle.registry.specs.declared.rule.Refusal.TheVariants.{Denied, Memory}
 use Rattle.registry.specs.declared.rule.Rule.TheVariants.{Grant as GrantRule}
-use Rattle.registry.specs.declared.command.Command.TheVariants.{Import}
-use Rattle.registry.specs.Answer.{IsAnswer}
-use Rattle.registry.specs.Edits.{AreOfRows}
-use Rattle.registry.specs.History.{Entry, History, same_name, is_registered}
-use Rattle.registry.specs.Import.{row_command, JudgesRow, IsImportDenied}
-use Rattle.registry.specs.Permission.{has_access, are_permitted}
-use Rattle.registry.specs.Rows.{Rows, RowsIfAny, edited, edited_if_any, changed, Carries}
-use Rattle.registry.specs.Terms.{grant_terms, authorizations_made, row_terms}
-use Rattle.registry.specs.Verdict.{IsLegal}
 use Rattle.policy.specs.steps.Import.{IsImport, AnswersImport, FindsRow, MakesRow, IsRowDone, MakesOfRow}
-use Rattle.policy.specs.steps.Part.{IsRefusedBy, refusal_at}
-use Rattle.registry.proofs.Carry.{carried}
 use Rattle.policy.proofs.Growth.{Grows-more, Grows-denied}
-use Rattle.registry.proofs.Entries.{row-are}
-use Rattle.registry.proofs.Names.{same_name-same, same_name-true}
-use Rattle.registry.proofs.Unregistered.{has_nothing}
 
 -- an edit that puts nothing and leaves the counter as it was
 adds_nothing : (made : Vec Auth) (created : ℕ) (rows : Rows) → made.items ≡ [] → rows.created ≡ created → rows ≡ edited (ImportEdit made created) rows

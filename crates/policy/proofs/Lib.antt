@@ -9,3 +9,4 @@ pub mod Growth
 pub mod Imports
 pub mod Hypothetical
 pub mod Parts
+pub mod Vocabulary

@@ -1,28 +1,10 @@
 -- A part of the rows of a holder that is enough for changes: what it says, and that a create and a withdrawal keep it.
-use Rattle.std.proofs.Common.{◌≡◌, ℕ, ◌+◌, ◌<◌, Bool, true, false, not, ◌==◌, ◌||◌, cond, List, [], ◌∷◌, ◌++◌, length, get_or, ◌↔◌, inl, inr, Option, Some, None, refl, sym, ap, ◌∙◌, subst, arith, filter, find, Contains, append-nil, length-append}
-use Rattle.std.specs.List.{list_any}
-use Rattle.std.specs.Prelude.{nat_le}
-use Rattle.std.proofs.lemmas.Bool.{cases_Bool, and_from, eq-eqb}
-use Rattle.std.proofs.lemmas.Bool.Decides.{nat_tests}
-use Rattle.std.proofs.lemmas.List.Elements.{filter-append}
+use Rattle.policy.proofs.Vocabulary.{◌≡◌, ℕ, ◌+◌, ◌<◌, Bool, true, false, not, ◌==◌, ◌||◌, cond, List, [], ◌∷◌, ◌++◌, length, get_or, ◌↔◌, inl, inr, Option, Some, None, refl, sym, ap, ◌∙◌, subst, arith, filter, find, Contains, append-nil, length-append, list_any, nat_le, cases_Bool, and_from, eq-eqb, nat_tests, filter-append, Auth, AuthTerms, RoaPrefix, Proposed, Create, MOST_AUTHORIZATIONS, IsOfTerms, Rows, edited, AreInNumber, is_entry, gives_some, auth_of_number, both_share, IsPartFor, IsPartIfAny, looks_for, not_kept}
 use Rattle.std.proofs.lemmas.List.Filters.{length-filter_both}
 use Rattle.std.proofs.lemmas.Map.Views.{any-filter_same}
 use Rattle.addr.proofs.Equality.{prefix_itself}
-use Rattle.registry.specs.declared.authorization.Auth.{Auth}
-use Rattle.registry.specs.declared.authorization.AuthTerms.{AuthTerms}
-use Rattle.addr.specs.declared.roa_prefix.RoaPrefix.{RoaPrefix}
 use Rattle.registry.specs.declared.change.Edit.TheVariants.{Create as CreateEdit, Withdraw as WithdrawEdit}
-use Rattle.registry.specs.declared.command.Proposed.{Proposed}
-use Rattle.registry.specs.declared.command.Proposed.TheVariants.{Create, Withdraw}
-use Rattle.registry.specs.declared.limits.TheConstants.{MOST_AUTHORIZATIONS}
-use Rattle.registry.specs.Edits.{IsOfTerms}
-use Rattle.registry.specs.Rows.{Rows, edited}
-use Rattle.registry.specs.RoaPrefixes.{AreInNumber}
-use Rattle.addr.specs.VrpParts.{is_entry}
-use Rattle.registry.specs.Terms.{gives_some}
-use Rattle.registry.specs.Verdict.{auth_of_number}
-use Rattle.registry.proofs.Entries.{both_share}
-use Rattle.registry.specs.PartOfRows.{IsPartFor, IsPartIfAny, looks_for, not_kept}
+use Rattle.registry.specs.declared.command.Proposed.TheVariants.{Withdraw}
 
 -- ---- filters
 

@@ -1,31 +1,8 @@
 -- What the given rows say of the holder.
-use Rattle.std.proofs.Common.{◌≡◌, ℕ, ◌||◌, Bool, true, false, List, [], ◌∷◌, Option, Some, None, refl, sym, ap, ◌∙◌, subst, Bor, option_copied, is_some, IsSomeAnd, inl, inr, arith}
-use Rattle.std.specs.Global.{Vec}
-use Rattle.std.specs.List.{list_any}
-use Rattle.std.specs.Prelude.{option_map, MatchBool}
-use Rattle.std.proofs.lemmas.Bool.{cases_Bool, false≢true, true≢false}
-use Rattle.addr.specs.Address.{Address, last_of}
-use Rattle.addr.specs.declared.prefix.Prefix.{Prefix}
+use Rattle.policy.proofs.Vocabulary.{◌≡◌, ℕ, ◌||◌, Bool, true, false, List, [], ◌∷◌, Option, Some, None, refl, sym, ap, ◌∙◌, subst, Bor, option_copied, is_some, IsSomeAnd, inl, inr, arith, Vec, list_any, option_map, MatchBool, cases_Bool, false≢true, true≢false, Address, last_of, Prefix, Charter, Auth, AuthTerms, RoaPrefix, Command, Register, Delegate, Transfer, Reclaim, Grant, Revoke, Amend, Withdraw, Import, Slurm, Granted, HolderRows, holder_of, is_transfer, AnswersCreate, AnswersDelegate, AnswersLoss, ListBasis, AnswersNumber, AreFacts, HasRuns, IfRegistered, IsMadeIfAny, ReportsTaken, RowsOfNamed, History, is_registered, is_held_by, IsFree, AreInNumber, Rows, RowsOf, RowsIfAny, rows_of, rows_if_any, grants_if_any, auths_if_any, entries_have, grant_terms, authorization_terms, HeldSinceMade, HoldsEntries, Keeps, OfActive, IsLegal, auth_of_number, OfNumber, Keeps-unique, held_by_itself, has_nothing}
 use Rattle.addr.proofs.AddressLemmas.{between_at, first-last}
-use Rattle.registry.specs.declared.charter.Charter.{Charter}
-use Rattle.registry.specs.declared.authorization.Auth.{Auth}
-use Rattle.registry.specs.declared.authorization.AuthTerms.{AuthTerms}
-use Rattle.addr.specs.declared.roa_prefix.RoaPrefix.{RoaPrefix}
-use Rattle.registry.specs.declared.command.Command.{Command}
-use Rattle.registry.specs.declared.command.Command.TheVariants.{Register, Delegate, Transfer, Reclaim, Grant, Revoke, Create, Amend, Withdraw, Import, Slurm}
-use Rattle.registry.specs.declared.grant.Granted.{Granted}
+use Rattle.registry.specs.declared.command.Command.TheVariants.{Create}
 use Rattle.registry.specs.declared.rows.Answers.{Answers}
-use Rattle.registry.specs.declared.rows.HolderRows.{HolderRows}
-use Rattle.registry.specs.Answer.{holder_of, is_transfer, AnswersCreate, AnswersDelegate, AnswersLoss, ListBasis, AnswersNumber, AreFacts, HasRuns, IfRegistered, IsMadeIfAny, ReportsTaken, RowsOfNamed}
-use Rattle.registry.specs.History.{History, is_registered}
-use Rattle.registry.specs.Resources.{is_held_by, IsFree}
-use Rattle.registry.specs.RoaPrefixes.{AreInNumber}
-use Rattle.registry.specs.Rows.{Rows, RowsOf, RowsIfAny, rows_of, rows_if_any, grants_if_any, auths_if_any}
-use Rattle.registry.specs.Terms.{entries_have, grant_terms, authorization_terms, HeldSinceMade, HoldsEntries, Keeps, OfActive}
-use Rattle.registry.specs.Verdict.{IsLegal, auth_of_number, OfNumber}
-use Rattle.registry.proofs.Kept.{Keeps-unique}
-use Rattle.registry.proofs.Names.{held_by_itself}
-use Rattle.registry.proofs.Unregistered.{has_nothing}
 
 -- the grants of the rows are those of the history: without rows none were made
 pub grants-are : (charter : Charter) (history : History) (h : List ℕ) (rows : Option HolderRows) → IsLegal charter history

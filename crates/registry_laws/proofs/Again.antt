@@ -1,32 +1,7 @@
 -- A command that is accepted again leaves the rows and the files: only an amendment and a SLURM file
 -- are, since what another command gave, took or made the first time is still so.
-use Rattle.std.proofs.Common.{◌≡◌, ℕ, Bool, true, false, not, ◌||◌, cond, eqb, List, [], ◌∷◌, ◌++◌, inl, inr, Option, Some, None, IsSomeAnd, refl, sym, ap, ◌∙◌, subst, arith, map, filter}
+use Rattle.registry_laws.proofs.Vocabulary.{◌≡◌, ℕ, Bool, true, false, not, ◌||◌, cond, eqb, List, [], ◌∷◌, ◌++◌, inl, inr, Option, Some, None, IsSomeAnd, refl, sym, ap, ◌∙◌, subst, arith, map, filter, list_any, IfSome_then, cases_Bool, cond-true, cond-false, false≢true, or_parts, Address, has_address, Prefix, between_at, first-last, last_of, Auth, Charter, Command, Register, Delegate, Transfer, Reclaim, Grant, Revoke, Create, Amend, Withdraw, Import, Slurm, Alter, Granted, holder_of, Leaves, brings_exceptions, files_after, files_in_force, Entry, History, same_name, is_registered, names_holder, is_permitted_terms, resource_holder, is_held_by, with_terms, grant_terms, authorization_terms, amended, HeldSinceMade, Keeps, CommandFits, Verdict, HasAccessTo, IsLegal, auth_of_number, with_maxes-again, same_name-same, same_name-true, same_name-false, is_grant, has_slurm_file, NoneNames, HaveSameRows, RepeatsLeaveRows}
 use Rattle.std.specs.Global.{Vec}
-use Rattle.std.specs.List.{list_any}
-use Rattle.std.proofs.lemmas.Option.{IfSome_then}
-use Rattle.std.proofs.lemmas.Bool.{cases_Bool, cond-true, cond-false, false≢true, or_parts}
-use Rattle.addr.specs.Address.{Address, has_address}
-use Rattle.addr.specs.declared.prefix.Prefix.{Prefix}
-use Rattle.addr.proofs.AddressLemmas.{between_at, first-last}
-use Rattle.addr.specs.Address.{last_of}
-use Rattle.registry.specs.declared.authorization.Auth.{Auth}
-use Rattle.registry.specs.declared.charter.Charter.{Charter}
-use Rattle.registry.specs.declared.command.Command.{Command}
-use Rattle.registry.specs.declared.command.Command.TheVariants.{Register, Delegate, Transfer, Reclaim, Grant, Revoke, Create, Amend, Withdraw, Import, Slurm}
-use Rattle.registry.specs.declared.grant.Access.TheVariants.{Alter}
-use Rattle.registry.specs.declared.grant.Granted.{Granted}
-use Rattle.registry.specs.Answer.{holder_of, Leaves}
-use Rattle.registry.specs.ExceptionsInForce.{brings_exceptions, files_after, files_in_force}
-use Rattle.registry.specs.History.{Entry, History, same_name, is_registered}
-use Rattle.registry.specs.HolderEntries.{names_holder}
-use Rattle.registry.specs.Permission.{is_permitted_terms}
-use Rattle.registry.specs.Resources.{resource_holder, is_held_by}
-use Rattle.registry.specs.Terms.{with_terms, grant_terms, authorization_terms, amended, HeldSinceMade, Keeps}
-use Rattle.registry.specs.Values.{CommandFits}
-use Rattle.registry.specs.Verdict.{Verdict, HasAccessTo, IsLegal, auth_of_number}
-use Rattle.registry.proofs.Entries.{with_maxes-again}
-use Rattle.registry.proofs.Names.{same_name-same, same_name-true, same_name-false}
-use Rattle.registry_laws.specs.RepeatedRequests.{is_grant, has_slurm_file, NoneNames, HaveSameRows, RepeatsLeaveRows}
 use Rattle.registry_laws.proofs.Agree.{Agree, AgreeIfNamed, agree-sym, agree-active, agree-rows}
 use Rattle.registry_laws.proofs.Grown.{files_stay}
 use Rattle.registry_laws.proofs.Judged.{active_alike}

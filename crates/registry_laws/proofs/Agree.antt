@@ -1,20 +1,6 @@
 -- Histories that agree on all that a holder has.
-use Rattle.std.proofs.Common.{◌≡◌, ℕ, ◌<◌, ◌≤◌, true, false, ◌||◌, cond, List, ◌∷◌, ◌↔◌, Option, Some, None, refl, sym, ap, ◌∙◌, subst}
+use Rattle.registry_laws.proofs.Vocabulary.{◌≡◌, ℕ, ◌<◌, ◌≤◌, true, false, ◌||◌, cond, List, ◌∷◌, ◌↔◌, Option, Some, None, refl, sym, ap, ◌∙◌, subst, IfSome_then, Address, has_address, Prefix, RoaPrefix, Auth, Command, Delegate, Transfer, Reclaim, Entry, History, registers, is_registered, holder_after, resource_holder, is_held_by, HoldsPrefix, HoldsEntries, granted_after, grants_after, grants_made, grant_terms, created_after, terms_after, authorizations_made, authorization_terms, HeldSinceMade, Keeps, AreActive, Rows, RowsIfAny, held_by_same, Keeps-same, authorization_terms-numbered}
 use Rattle.std.specs.Option.{IfSome}
-use Rattle.std.proofs.lemmas.Option.{IfSome_then}
-use Rattle.addr.specs.Address.{Address, has_address}
-use Rattle.addr.specs.declared.prefix.Prefix.{Prefix}
-use Rattle.addr.specs.declared.roa_prefix.RoaPrefix.{RoaPrefix}
-use Rattle.registry.specs.declared.authorization.Auth.{Auth}
-use Rattle.registry.specs.declared.command.Command.{Command}
-use Rattle.registry.specs.declared.command.Command.TheVariants.{Delegate, Transfer, Reclaim}
-use Rattle.registry.specs.History.{Entry, History, registers, is_registered}
-use Rattle.registry.specs.Resources.{holder_after, resource_holder, is_held_by, HoldsPrefix}
-use Rattle.registry.specs.Terms.{HoldsEntries, granted_after, grants_after, grants_made, grant_terms, created_after, terms_after, authorizations_made, authorization_terms, HeldSinceMade, Keeps, AreActive}
-use Rattle.registry.specs.Rows.{Rows, RowsIfAny}
-use Rattle.registry.proofs.Names.{held_by_same}
-use Rattle.registry.proofs.Kept.{Keeps-same}
-use Rattle.registry.proofs.Held.{authorization_terms-numbered}
 
 -- numbers are from 1, so the last fact leaves out the number 0
 pub record Agree (one other : History) (h : List ℕ) : Type 0 where

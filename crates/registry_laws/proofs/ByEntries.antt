@@ -1,16 +1,8 @@
 -- Each law, from what histories agree on.
-use Rattle.std.proofs.Common.{ℕ, List, inl, inr, subst}
-use Rattle.std.specs.List.{Contains}
+use Rattle.registry_laws.proofs.Vocabulary.{ℕ, List, inl, inr, subst, Contains, Auth, exceptions_in_force, History, entries_for, IsActive, within, CommandsByEntries, QueriesByEntries, RowsOfEntries, IsVrpInForceByEntries, VrpsOfEntries}
 use Rattle.addr.specs.declared.vrp.Vrp.{Vrp}
 use Rattle.slurm.specs.Exceptions.{Exceptions}
-use Rattle.registry.specs.declared.authorization.Auth.{Auth}
 use Rattle.registry.specs.DailyVrps.{IsVrpInForce, IsAfterExceptions}
-use Rattle.registry.specs.ExceptionsInForce.{exceptions_in_force}
-use Rattle.registry.specs.History.{History}
-use Rattle.registry.specs.HolderEntries.{entries_for}
-use Rattle.registry.specs.Terms.{IsActive}
-use Rattle.registry.proofs.Held.{within}
-use Rattle.registry_laws.specs.Isolation.{CommandsByEntries, QueriesByEntries, RowsOfEntries, IsVrpInForceByEntries, VrpsOfEntries}
 use Rattle.registry_laws.proofs.Agree.{Agree, agree-sym, agree-rows}
 use Rattle.registry_laws.proofs.Parts.{agree-entries, agree-for}
 use Rattle.registry_laws.proofs.Judged.{judged_alike, seen_alike}

@@ -1,26 +1,8 @@
 -- The rows of a legal history whose values are those of their types are in their ranges.
-use Rattle.std.proofs.Common.{◌≡◌, ℕ, ◌+◌, ◌<◌, ◌≤◌, true, false, not, cond, eqb, List, [], ◌∷◌, inl, inr, Option, Some, None, IsSomeAnd, refl, sym, subst, arith, filter}
-use Rattle.std.specs.List.{All}
-use Rattle.std.proofs.lemmas.Bool.{cases_Bool}
-use Rattle.std.proofs.lemmas.List.Elements.{All-nil, All-cons, All-head, All-tail, All-push, All-filter, All-map, All-weaker}
+use Rattle.registry_laws.proofs.Vocabulary.{◌≡◌, ℕ, ◌+◌, ◌<◌, ◌≤◌, true, false, not, cond, eqb, List, [], ◌∷◌, inl, inr, Option, Some, None, IsSomeAnd, refl, sym, subst, arith, filter, All, cases_Bool, All-nil, All-cons, All-head, All-tail, All-push, All-filter, All-map, All-weaker, Auth, Charter, Command, Grant, Revoke, Create, Amend, Withdraw, Import, Slurm, Granted, NamedSlurm, files_after, files_in_force, Entry, History, same_name, numbered_grant, numbered_terms, granted_after, grants_after, grants_made, grant_terms, created_after, terms_after, authorizations_made, authorization_terms, amended, HeldSinceMade, CommandFits, FileFits, FilesFit, HistoryFits, AuthFits, GrantFits, Verdict, IsLegal, auth_of_number, maxes_fit, OfNumber, with_maxes-are, with_maxes-fit, same_name-true, Keeps-all, authorization_terms-numbered, since_same, amended-number, amended-addresses}
 use Rattle.addr.specs.Day.{IsDay}
 use Rattle.registry.specs.declared.limits.TheConstants.{LAST_NUMBER}
-use Rattle.registry.specs.declared.authorization.Auth.{Auth}
-use Rattle.registry.specs.declared.charter.Charter.{Charter}
-use Rattle.registry.specs.declared.command.Command.{Command}
-use Rattle.registry.specs.declared.command.Command.TheVariants.{Grant, Revoke, Create, Amend, Withdraw, Import, Slurm}
-use Rattle.registry.specs.declared.grant.Granted.{Granted}
 use Rattle.slurm.specs.SlurmSets.{has_entries}
-use Rattle.slurm.specs.declared.set.NamedSlurm.{NamedSlurm}
-use Rattle.registry.specs.ExceptionsInForce.{files_after, files_in_force}
-use Rattle.registry.specs.History.{Entry, History, same_name}
-use Rattle.registry.specs.Terms.{numbered_grant, numbered_terms, granted_after, grants_after, grants_made, grant_terms, created_after, terms_after, authorizations_made, authorization_terms, amended, HeldSinceMade}
-use Rattle.registry.specs.Values.{CommandFits, FileFits, FilesFit, HistoryFits, AuthFits, GrantFits}
-use Rattle.registry.specs.Verdict.{Verdict, IsLegal, auth_of_number, maxes_fit, OfNumber}
-use Rattle.registry.proofs.Entries.{with_maxes-are, with_maxes-fit}
-use Rattle.registry.proofs.Names.{same_name-true}
-use Rattle.registry.proofs.Kept.{Keeps-all}
-use Rattle.registry.proofs.Held.{authorization_terms-numbered, since_same, amended-number, amended-addresses}
 use Rattle.registry_laws.specs.Ranges.{FilesInForceFit, LegalRowsFit}
 use Rattle.registry_laws.proofs.SharedVrps.{Each, found_one, amended-other, amended-it}
 

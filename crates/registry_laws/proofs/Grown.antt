@@ -1,21 +1,6 @@
 -- What accepted commands and the parts of requests leave of the holders that they do not name.
-use Rattle.std.proofs.Common.{◌≡◌, ℕ, false, ◌||◌, List, ◌∷◌, Option, Some, Ok, ◌↔◌, refl, sym, ap, ◌∙◌, subst}
-use Rattle.std.proofs.lemmas.Bool.{or_parts}
-use Rattle.slurm.specs.declared.set.NamedSlurm.{NamedSlurm}
-use Rattle.registry.specs.declared.charter.Charter.{Charter}
-use Rattle.registry.specs.declared.command.Command.{Command}
-use Rattle.registry.specs.declared.command.Command.TheVariants.{Import, Slurm}
-use Rattle.registry.specs.Answer.{taker_of}
-use Rattle.registry.specs.ExceptionsInForce.{brings_exceptions, files_after, files_in_force}
-use Rattle.registry.specs.GrowingHistory.{Grows}
-use Rattle.registry.specs.History.{Entry, History, same_name}
-use Rattle.registry.specs.HolderEntries.{is_this, names_holder}
-use Rattle.registry.specs.HypotheticalHistory.{JudgesChange}
-use Rattle.registry.specs.Import.{JudgesRow}
-use Rattle.registry.specs.Rows.{Rows, RowsIfAny}
-use Rattle.registry.specs.Verdict.{IsLegal}
+use Rattle.registry_laws.proofs.Vocabulary.{◌≡◌, ℕ, false, ◌||◌, List, ◌∷◌, Option, Some, Ok, ◌↔◌, refl, sym, ap, ◌∙◌, subst, or_parts, NamedSlurm, Charter, Command, Import, Slurm, taker_of, brings_exceptions, files_after, files_in_force, Grows, Entry, History, same_name, is_this, names_holder, JudgesChange, JudgesRow, Rows, RowsIfAny, IsLegal, OthersKeepRows, HypotheticalKeepsOthers}
 use Rattle.registry_laws.proofs.Growth.{Judging, IsMadeAt, MakeAt, All-every, grown-keeps, rows-make, changes-make}
-use Rattle.registry_laws.specs.Isolation.{OthersKeepRows, HypotheticalKeepsOthers}
 use Rattle.registry_laws.proofs.Agree.{Agree, agree-same, agree-sym, agree-trans, agree-rows}
 use Rattle.registry_laws.proofs.Parts.{agree-unnamed}
 

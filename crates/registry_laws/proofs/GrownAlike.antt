@@ -1,24 +1,7 @@
 -- Parts that are judged at a holder come out alike where histories agree on what it has.
-use Rattle.std.proofs.Common.{◌≡◌, ℕ, ◌+◌, ◌||◌, List, [], ◌∷◌, Option, Some, None, Result, Ok, Err, inl, inr, refl, sym, ap, ◌∙◌, subst}
-use Rattle.std.proofs.lemmas.Bool.{cond-true}
-use Rattle.registry.specs.declared.authorization.ImportRow.{ImportRow}
-use Rattle.registry.specs.declared.charter.Charter.{Charter}
-use Rattle.registry.specs.declared.command.Command.{Command}
-use Rattle.registry.specs.declared.command.Proposed.{Proposed}
+use Rattle.registry_laws.proofs.Vocabulary.{◌≡◌, ℕ, ◌+◌, ◌||◌, List, [], ◌∷◌, Option, Some, None, Result, Ok, Err, inl, inr, refl, sym, ap, ◌∙◌, subst, cond-true, ImportRow, Charter, Command, Proposed, Alter, Rule, Grows, IsDeniedAt, grown_by, Entry, History, entries_naming, JudgesChange, hypothetical_command, IsPresent, JudgesRow, row_command, are_permitted, row_terms, Verdict, IsLegal, same_name-same, AreJudgedAlike, GrowAlike, ImportsByEntries, HypotheticalByEntries}
 use Rattle.registry.specs.declared.command.Proposed.TheVariants.{Create as ProposedCreate, Withdraw as ProposedWithdraw}
-use Rattle.registry.specs.declared.grant.Access.TheVariants.{Alter}
-use Rattle.registry.specs.declared.rule.Rule.{Rule}
-use Rattle.registry.specs.GrowingHistory.{Grows, IsDeniedAt, grown_by}
-use Rattle.registry.specs.History.{Entry, History}
-use Rattle.registry.specs.HolderEntries.{entries_naming}
-use Rattle.registry.specs.HypotheticalHistory.{JudgesChange, hypothetical_command}
-use Rattle.registry.specs.Import.{IsPresent, JudgesRow, row_command}
-use Rattle.registry.specs.Permission.{are_permitted}
-use Rattle.registry.specs.Terms.{row_terms}
-use Rattle.registry.specs.Verdict.{Verdict, IsLegal}
-use Rattle.registry.proofs.Names.{same_name-same}
 use Rattle.registry_laws.proofs.Growth.{Judging, MakeAt, grown-legal, rows-make, changes-make}
-use Rattle.registry_laws.specs.Isolation.{AreJudgedAlike, GrowAlike, ImportsByEntries, HypotheticalByEntries}
 use Rattle.registry_laws.proofs.Agree.{Agree, agree-sym, agree-after}
 use Rattle.registry_laws.proofs.Parts.{agree-entries}
 use Rattle.registry_laws.proofs.Grown.{names_made}

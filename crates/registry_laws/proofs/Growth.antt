@@ -1,21 +1,6 @@
 -- What requests of several parts keep, from what the entry of each part keeps.
-use Rattle.std.proofs.Common.{◌≡◌, ℕ, false, List, [], ◌∷◌, Option, Some, None, Result, Ok, refl, sym, subst}
-use Rattle.std.specs.List.{All}
-use Rattle.std.proofs.lemmas.List.Elements.{All-nil, All-cons, All-head, All-tail}
-use Rattle.registry.specs.declared.charter.Charter.{Charter}
-use Rattle.registry.specs.declared.command.Command.{Command}
-use Rattle.registry.specs.declared.command.Command.TheVariants.{Import}
-use Rattle.registry.specs.declared.command.Proposed.{Proposed}
+use Rattle.registry_laws.proofs.Vocabulary.{◌≡◌, ℕ, false, List, [], ◌∷◌, Option, Some, None, Result, Ok, refl, sym, subst, All, All-nil, All-cons, All-head, All-tail, Charter, Command, Import, Proposed, Rule, holder_of, taker_of, brings_exceptions, Grows, grown_by, History, JudgesChange, hypothetical_command, JudgesRow, row_command, ImportRowFits, CommandFits, HistoryFits, Verdict, IsLegal}
 use Rattle.registry.specs.declared.command.Proposed.TheVariants.{Create as ProposedCreate, Withdraw as ProposedWithdraw}
-use Rattle.registry.specs.declared.rule.Rule.{Rule}
-use Rattle.registry.specs.Answer.{holder_of, taker_of}
-use Rattle.registry.specs.ExceptionsInForce.{brings_exceptions}
-use Rattle.registry.specs.GrowingHistory.{Grows, grown_by}
-use Rattle.registry.specs.History.{History}
-use Rattle.registry.specs.HypotheticalHistory.{JudgesChange, hypothetical_command}
-use Rattle.registry.specs.Import.{JudgesRow, row_command}
-use Rattle.registry.specs.Values.{ImportRowFits, CommandFits, HistoryFits}
-use Rattle.registry.specs.Verdict.{Verdict, IsLegal}
 use Rattle.registry_laws.specs.Growth.{GrowthIsLegal, GrowthFits, HypotheticalIsLegal}
 
 -- how the parts of a request are judged

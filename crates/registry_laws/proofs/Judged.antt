@@ -1,24 +1,7 @@
 -- Where histories agree on what the holders of a request have, it is judged and answered the same.
-use Rattle.std.proofs.Common.{◌≡◌, ℕ, ◌+◌, ◌<◌, Bool, true, false, ◌||◌, eqb, List, length, ◌↔◌, inl, inr, Option, Some, None, refl, sym, ap, subst, filter, IsSomeAnd}
-use Rattle.std.specs.List.{list_any}
-use Rattle.registry.specs.declared.authorization.Auth.{Auth}
-use Rattle.addr.specs.declared.roa_prefix.RoaPrefix.{RoaPrefix}
-use Rattle.registry.specs.declared.charter.Charter.{Charter}
-use Rattle.registry.specs.declared.command.Command.{Command}
-use Rattle.registry.specs.declared.command.Command.TheVariants.{Register, Delegate, Transfer, Reclaim, Grant, Revoke, Create, Amend, Withdraw, Import, Slurm}
+use Rattle.registry_laws.proofs.Vocabulary.{◌≡◌, ℕ, ◌+◌, ◌<◌, Bool, true, false, ◌||◌, eqb, List, length, ◌↔◌, inl, inr, Option, Some, None, refl, sym, ap, subst, filter, IsSomeAnd, list_any, Auth, RoaPrefix, Charter, Command, Register, Delegate, Transfer, Reclaim, Grant, Revoke, Create, Amend, Withdraw, Import, Slurm, Manage, Alter, Look, Granted, Rule, holder_of, taker_of, number_given, History, is_registered, has_access, are_permitted, is_permitted_terms, HoldsPrefix, HoldsEntries, grant_terms, OfActive, check, accept, auth_of_number, HasAccessTo, Verdict, ShowVerdict, ListVerdict, Prefix, concerns_all_holders, AreJudgedAlike, AreSeenAlike}
 use Rattle.registry.specs.declared.grant.Access.{Access}
-use Rattle.registry.specs.declared.grant.Access.TheVariants.{Manage, Alter, Look}
-use Rattle.registry.specs.declared.grant.Granted.{Granted}
-use Rattle.registry.specs.declared.rule.Rule.{Rule}
-use Rattle.registry.specs.Answer.{holder_of, taker_of, number_given}
 use Rattle.registry.specs.Charter.{is_operator}
-use Rattle.registry.specs.History.{History, is_registered}
-use Rattle.registry.specs.Permission.{has_access, are_permitted, is_permitted_terms}
-use Rattle.registry.specs.Resources.{HoldsPrefix}
-use Rattle.registry.specs.Terms.{HoldsEntries, grant_terms, OfActive}
-use Rattle.registry.specs.Verdict.{check, accept, auth_of_number, HasAccessTo, Verdict, ShowVerdict, ListVerdict}
-use Rattle.addr.specs.declared.prefix.Prefix.{Prefix}
-use Rattle.registry_laws.specs.Isolation.{concerns_all_holders, AreJudgedAlike, AreSeenAlike}
 use Rattle.registry_laws.proofs.Agree.{Agree, AgreeIfNamed, agree-sym, agree-sym-named, agree-holds, agree-holds_entries, agree-active}
 
 -- equal values have equal facts

@@ -11,3 +11,4 @@ pub mod GrownAlike
 pub mod Present
 pub mod Again
 pub mod ByEntries
+pub mod Vocabulary

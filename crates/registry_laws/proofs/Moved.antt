@@ -1,21 +1,7 @@
 -- A transfer or a reclaim ends just the authorizations of the former holder that share an address with
 -- the prefix.
-use Rattle.std.proofs.Common.{◌≡◌, ℕ, true, false, cond, List, ◌∷◌, Option, inl, inr, Some, None, refl, sym, ap, ◌∙◌, subst}
-use Rattle.std.specs.List.{Contains}
-use Rattle.std.proofs.lemmas.Bool.{cases_Bool, cond-true, cond-false, false≢true}
-use Rattle.addr.specs.Address.{Address, has_address}
-use Rattle.addr.specs.declared.prefix.Prefix.{Prefix}
-use Rattle.registry.specs.declared.authorization.Auth.{Auth}
-use Rattle.registry.specs.declared.charter.Charter.{Charter}
-use Rattle.registry.specs.declared.command.Command.{Command}
-use Rattle.registry.specs.declared.command.Command.TheVariants.{Transfer, Reclaim}
+use Rattle.registry_laws.proofs.Vocabulary.{◌≡◌, ℕ, true, false, cond, List, ◌∷◌, Option, inl, inr, Some, None, refl, sym, ap, ◌∙◌, subst, Contains, cases_Bool, cond-true, cond-false, false≢true, Address, has_address, Prefix, Auth, Charter, Command, Transfer, Reclaim, Entry, History, same_name, resource_holder, is_held_by, HoldsPrefix, authorizations_made, authorization_terms, Verdict, same_name-same, same_name-true, same_name-false, held_by_itself, LosesNothing, since_more, within}
 use Rattle.registry_laws.specs.Ended.{TakesFrom, EndsJustOverlapping}
-use Rattle.registry.specs.History.{Entry, History, same_name}
-use Rattle.registry.specs.Resources.{resource_holder, is_held_by, HoldsPrefix}
-use Rattle.registry.specs.Terms.{authorizations_made, authorization_terms}
-use Rattle.registry.specs.Verdict.{Verdict}
-use Rattle.registry.proofs.Names.{same_name-same, same_name-true, same_name-false, held_by_itself}
-use Rattle.registry.proofs.Held.{LosesNothing, since_more, within}
 use Rattle.registry.proofs.Ended.{LosesPrefix, since_ended}
 
 -- a command that leaves the terms of every holder, and what it changes of who holds what

@@ -1,17 +1,5 @@
 -- A command is judged in one way alone, and so is each part of a request of several.
-use Rattle.std.proofs.Common.{◌≡◌, ℕ, ◌+◌, List, [], ◌∷◌, Option, Some, None, IsSomeAnd, Result, Ok, Err, inl, inr, refl, sym, ap, ◌∙◌, subst}
-use Rattle.std.proofs.lemmas.Option.{same_Some, none-some}
-use Rattle.registry.specs.declared.authorization.ImportRow.{ImportRow}
-use Rattle.registry.specs.declared.charter.Charter.{Charter}
-use Rattle.registry.specs.declared.command.Command.{Command}
-use Rattle.registry.specs.declared.command.Command.TheVariants.{Register, Delegate, Transfer, Reclaim, Grant, Revoke, Create, Amend, Withdraw, Import, Slurm}
-use Rattle.registry.specs.declared.command.Proposed.{Proposed}
-use Rattle.registry.specs.declared.rule.Rule.{Rule}
-use Rattle.registry.specs.GrowingHistory.{Grows, IsDeniedAt, grown_by}
-use Rattle.registry.specs.History.{History}
-use Rattle.registry.specs.HypotheticalHistory.{JudgesChange, hypothetical_command}
-use Rattle.registry.specs.Import.{JudgesRow, row_command}
-use Rattle.registry.specs.Verdict.{check, accept, Verdict}
+use Rattle.registry_laws.proofs.Vocabulary.{◌≡◌, ℕ, ◌+◌, List, [], ◌∷◌, Option, Some, None, IsSomeAnd, Result, Ok, Err, inl, inr, refl, sym, ap, ◌∙◌, subst, same_Some, none-some, ImportRow, Charter, Command, Register, Delegate, Transfer, Reclaim, Grant, Revoke, Create, Amend, Withdraw, Import, Slurm, Proposed, Rule, Grows, IsDeniedAt, grown_by, History, JudgesChange, hypothetical_command, JudgesRow, row_command, check, accept, Verdict}
 use Rattle.registry_laws.specs.OneOutcome.{HasOneOutcome, OneOutcome, OneHypotheticalOutcome}
 use Rattle.registry_laws.proofs.Growth.{Judging}
 

@@ -1,23 +1,6 @@
 -- A part of a legal history that has all entries naming a holder agrees with it on what the holder has.
-use Rattle.std.proofs.Common.{◌<◌, ◌≡◌, ℕ, ◌≤◌, Bool, true, false, ◌||◌, cond, List, [], ◌∷◌, inl, inr, Option, Some, None, refl, sym, ap, ◌∙◌, subst, filter, ◌↔◌, ◌++◌}
-use Rattle.std.proofs.lemmas.Bool.{cases_Bool, cond-true, cond-false, false≢true, or_parts}
-use Rattle.std.proofs.Math.Bool.{or-true}
-use Rattle.addr.specs.Address.{Address, has_address}
-use Rattle.addr.specs.declared.prefix.Prefix.{Prefix}
-use Rattle.registry.specs.declared.authorization.Auth.{Auth}
-use Rattle.registry.specs.declared.charter.Charter.{Charter}
-use Rattle.registry.specs.declared.command.Command.{Command}
-use Rattle.registry.specs.declared.command.Command.TheVariants.{Delegate, Transfer, Reclaim, Import}
-use Rattle.registry.specs.Answer.{holder_of, taker_of}
-use Rattle.registry.specs.History.{Entry, History, is_registered}
-use Rattle.registry.specs.HolderEntries.{is_this, names_holder, entries_naming, entries_naming_either, entries_of, entries_for}
-use Rattle.registry.specs.Resources.{resource_holder, is_held_by}
-use Rattle.registry.specs.Terms.{authorizations_made, authorization_terms, grants_made, grant_terms, HeldSinceMade}
-use Rattle.registry.specs.Verdict.{Verdict, IsLegal}
-use Rattle.registry.proofs.Names.{held_by_same}
-use Rattle.registry.proofs.Held.{held_now}
+use Rattle.registry_laws.proofs.Vocabulary.{◌<◌, ◌≡◌, ℕ, ◌≤◌, Bool, true, false, ◌||◌, cond, List, [], ◌∷◌, inl, inr, Option, Some, None, refl, sym, ap, ◌∙◌, subst, filter, ◌↔◌, ◌++◌, cases_Bool, cond-true, cond-false, false≢true, or_parts, or-true, Address, has_address, Prefix, Auth, Charter, Command, Delegate, Transfer, Reclaim, Import, holder_of, taker_of, Entry, History, is_registered, is_this, names_holder, entries_naming, entries_naming_either, entries_of, entries_for, resource_holder, is_held_by, authorizations_made, authorization_terms, grants_made, grant_terms, HeldSinceMade, Verdict, IsLegal, held_by_same, held_now, is_named}
 use Rattle.registry.proofs.Carry.{keeps_unnamed, LeavesHeld}
-use Rattle.registry_laws.specs.RepeatedRequests.{is_named}
 use Rattle.registry_laws.proofs.Agree.{Agree, AgreeIfNamed, agree-same, agree-trans, agree-after}
 
 -- the addresses of a prefix, which the holder did not hold, go to another or to nobody

@@ -1,33 +1,11 @@
 -- What an import or a create made is present from then on, so that neither is made again.
-use Rattle.std.proofs.Common.{◌≡◌, ℕ, ◌+◌, ◌<◌, true, ◌||◌, ◌&&◌, eqb, List, [], ◌∷◌, ◌++◌, length, Option, Some, None, Ok, inl, inr, refl, sym, ap, ◌∙◌, subst, arith}
-use Rattle.std.specs.List.{list_any, All}
-use Rattle.std.proofs.lemmas.Bool.{cases_Bool, cond-true, false≢true, and_from, and_parts, or_left}
-use Rattle.std.proofs.lemmas.Bool.Decides.{nat_tests}
-use Rattle.std.proofs.lemmas.List.Elements.{All-nil, All-cons, All-head, All-tail, All-weaker}
+use Rattle.registry_laws.proofs.Vocabulary.{◌≡◌, ℕ, ◌+◌, ◌<◌, true, ◌||◌, ◌&&◌, eqb, List, [], ◌∷◌, ◌++◌, length, Option, Some, None, Ok, inl, inr, refl, sym, ap, ◌∙◌, subst, arith, list_any, All, cases_Bool, cond-true, false≢true, and_from, and_parts, or_left, nat_tests, All-nil, All-cons, All-head, All-tail, All-weaker, or-true, Auth, ImportRow, RoaPrefix, Charter, Command, Create, grown_by, Entry, History, IsPresent, JudgesRow, ImportGrows, has_terms, are_same, is_entry, HoldsEntries, numbered_terms, row_terms, gives_some, authorizations_made, authorization_terms, HeldSinceMade, Keeps, AreActive, OfActive, are_shared, Verdict, row-are, same_name-same, active-kept, not_yet_made, Keeps-append, Keeps-unique, ImportsRepeat}
 use Rattle.std.proofs.lemmas.List.Folds.{list_any-append}
-use Rattle.std.proofs.Math.Bool.{or-true}
 use Rattle.addr.proofs.Equality.{prefix_itself}
-use Rattle.registry.specs.declared.authorization.Auth.{Auth}
 use Rattle.registry.specs.declared.authorization.AuthTerms.{AuthTerms}
-use Rattle.registry.specs.declared.authorization.ImportRow.{ImportRow}
-use Rattle.addr.specs.declared.roa_prefix.RoaPrefix.{RoaPrefix}
-use Rattle.registry.specs.declared.charter.Charter.{Charter}
-use Rattle.registry.specs.declared.command.Command.{Command}
-use Rattle.registry.specs.declared.command.Command.TheVariants.{Create}
-use Rattle.registry.specs.GrowingHistory.{grown_by}
-use Rattle.registry.specs.History.{Entry, History}
-use Rattle.registry.specs.Import.{IsPresent, JudgesRow, ImportGrows, has_terms, are_same}
-use Rattle.addr.specs.VrpParts.{is_entry}
-use Rattle.registry.specs.Terms.{HoldsEntries, numbered_terms, row_terms, gives_some, authorizations_made, authorization_terms, HeldSinceMade, Keeps, AreActive, OfActive, are_shared}
 use Rattle.registry.specs.RoaPrefixes.{AreEntries}
-use Rattle.registry.specs.Verdict.{Verdict}
-use Rattle.registry.proofs.Entries.{row-are}
-use Rattle.registry.proofs.Names.{same_name-same}
-use Rattle.registry.proofs.Held.{active-kept, not_yet_made}
-use Rattle.registry.proofs.Kept.{Keeps-append, Keeps-unique}
 use Rattle.registry_laws.proofs.Growth.{All-every, EntriesKeep, grown-keeps}
 use Rattle.registry_laws.proofs.OneOutcome.{import_once, growth_or_denial}
-use Rattle.registry_laws.specs.RepeatedRequests.{ImportsRepeat}
 use Rattle.registry_laws.proofs.Agree.{agree-sym}
 use Rattle.registry_laws.proofs.Parts.{agree-later}
 use Rattle.registry_laws.proofs.GrownAlike.{present_alike}

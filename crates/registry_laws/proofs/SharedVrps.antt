@@ -1,31 +1,12 @@
 -- No two active authorizations share a VRP.
-use Rattle.std.proofs.Common.{◌≡◌, ℕ, ◌+◌, ◌<◌, ◌≤◌, Bool, true, false, not, ◌&&◌, ◌||◌, cond, eqb, nat_le, List, [], ◌∷◌, ◌++◌, inl, inr, Option, Some, None, IsSomeAnd, refl, sym, ap, ◌∙◌, subst, arith, map, filter}
-use Rattle.std.specs.List.{list_any}
-use Rattle.std.proofs.lemmas.Bool.{cases_Bool, cond-true, cond-false, false≢true, and_parts, or_parts, or_cases, or_left, or_right}
-use Rattle.std.proofs.lemmas.Option.{same_Some}
-use Rattle.std.proofs.lemmas.Bool.Decides.{nat_tests}
+use Rattle.registry_laws.proofs.Vocabulary.{◌≡◌, ℕ, ◌+◌, ◌<◌, ◌≤◌, Bool, true, false, not, ◌&&◌, ◌||◌, cond, eqb, nat_le, List, [], ◌∷◌, ◌++◌, inl, inr, Option, Some, None, IsSomeAnd, refl, sym, ap, ◌∙◌, subst, arith, map, filter, list_any, cases_Bool, cond-true, cond-false, false≢true, and_parts, or_parts, or_cases, or_left, or_right, same_Some, nat_tests, Address, has_address, last_of, Overlaps, prefix_eq, Prefix, overlaps_some, first-last, Auth, RoaPrefix, Charter, Command, Create, Amend, Withdraw, Import, Entry, History, same_name, is_entry, entries_have, are_shared, numbered_terms, gives_some, share_vrp, with_terms, authorizations_made, authorization_terms, amended, HeldSinceMade, HoldsTerms, Keeps, AreActive, Verdict, IsLegal, auth_of_number, same_name-same, same_name-true, authorization_terms-numbered, held_now, since_same, amended-number, amended-addresses, are_shared-flips}
 use Rattle.addr.specs.Family.{family_eq}
-use Rattle.addr.specs.Address.{Address, has_address, last_of, Overlaps, prefix_eq}
 use Rattle.addr.specs.declared.family.Family.{Family}
 use Rattle.addr.specs.declared.family.Family.TheVariants.{V4, V6}
-use Rattle.addr.specs.declared.prefix.Prefix.{Prefix}
-use Rattle.addr.proofs.AddressLemmas.{overlaps_some, first-last}
-use Rattle.registry.specs.declared.authorization.Auth.{Auth}
-use Rattle.addr.specs.declared.roa_prefix.RoaPrefix.{RoaPrefix}
-use Rattle.registry.specs.declared.charter.Charter.{Charter}
-use Rattle.registry.specs.declared.command.Command.{Command}
-use Rattle.registry.specs.declared.command.Command.TheVariants.{Create, Amend, Withdraw, Import}
-use Rattle.registry.specs.History.{Entry, History, same_name}
 use Rattle.registry.specs.Repeats.{has_repeat}
-use Rattle.addr.specs.VrpParts.{is_entry}
-use Rattle.registry.specs.Terms.{entries_have, are_shared, numbered_terms, gives_some, share_vrp, with_terms, authorizations_made, authorization_terms, amended, HeldSinceMade, HoldsTerms, Keeps, AreActive}
-use Rattle.registry.specs.Verdict.{Verdict, IsLegal, auth_of_number}
 use Rattle.registry_laws.specs.SharedVrps.{share_none, NoSharedVrp}
-use Rattle.registry.proofs.Names.{same_name-same, same_name-true}
 use Rattle.registry.proofs.Numbers.{Numbered, Numbered-high, later}
-use Rattle.registry.proofs.Held.{authorization_terms-numbered, held_now, since_same, amended-number, amended-addresses}
 use Rattle.registry.proofs.Repeats.{eqb-flips}
-use Rattle.registry.proofs.Entries.{are_shared-flips}
 use Rattle.registry.proofs.Amended.{shares_with_other}
 
 abbrev pub Each : (Auth → Type 0) → List Auth → Type 0

@@ -1,9 +1,4 @@
-use Rattle.std.proofs.Common.{false, true, sym, ◌∙◌, arith}
-use Rattle.std.proofs.lemmas.Bool.{not-true, not-false}
-use Rattle.std.proofs.lemmas.List.{length-map}
-use Rattle.csv.proofs.RecordFacts.{field-there}
-use Rattle.csv.specs.Records.{fields_of}
-use Rattle.csv_records.specs.Fields.{texts_of}
+use Rattle.csv_records.proofs.Vocabulary.{false, true, sym, ◌∙◌, arith, not-true, not-false, length-map, field-there, fields_of, texts_of}
 use Rattle.csv_records.proofs.FieldLemmas.{fields_eq-length, texts-next}
 use Rattle.csv_records.proofs.fields.are_fields.Goals as goal
 

@@ -1,6 +1,4 @@
-use Rattle.std.proofs.Common.{◌≡◌, ◌≤◌, ◌-◌, drop, length}
-use Rattle.csv.specs.Records.{fields_of}
-use Rattle.csv_records.specs.Fields.{fields_eq, texts_of}
+use Rattle.csv_records.proofs.Vocabulary.{◌≡◌, ◌≤◌, ◌-◌, drop, length, fields_of, fields_eq, texts_of}
 use Rattle.csv_records.proofs.fields.are_fields.Given as goal
 
 abbrev pub invariant-loop-place : goal.invariant-loop-place

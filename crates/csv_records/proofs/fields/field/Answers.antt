@@ -1,6 +1,4 @@
-use Rattle.std.proofs.Common.{sym}
-use Rattle.csv.specs.Records.{fields_of}
-use Rattle.csv.proofs.RecordFacts.{field-get}
+use Rattle.csv_records.proofs.Vocabulary.{sym, fields_of, field-get}
 use Rattle.csv_records.proofs.FieldLemmas.{field_in-none}
 use Rattle.csv_records.proofs.fields.field.Goals as goal
 

@@ -1,5 +1,4 @@
-use Rattle.std.proofs.Common.{◌∙◌, sym}
-use Rattle.csv.specs.Records.{fields_of}
+use Rattle.csv_records.proofs.Vocabulary.{◌∙◌, sym, fields_of}
 use Rattle.csv_records.proofs.FieldLemmas.{three_of-no_first, three_of-no_second, three_of-no_third, three_of-all}
 use Rattle.csv_records.proofs.fields.three_fields.Goals as goal
 

@@ -1,5 +1,4 @@
-use Rattle.std.proofs.Common.{◌∙◌, sym}
-use Rattle.csv.specs.Records.{fields_of}
+use Rattle.csv_records.proofs.Vocabulary.{◌∙◌, sym, fields_of}
 use Rattle.csv_records.proofs.FieldLemmas.{two_of-no_first, two_of-no_second, two_of-all}
 use Rattle.csv_records.proofs.fields.two_fields.Goals as goal
 

@@ -1,5 +1,4 @@
-use Rattle.std.proofs.Common.{refl, sym, ◌∙◌}
-use Rattle.csv.specs.Records.{fields_of}
+use Rattle.csv_records.proofs.Vocabulary.{refl, sym, ◌∙◌, fields_of}
 use Rattle.csv_records.proofs.ImportLemmas.{row_in_fields-five}
 use Rattle.csv_records.proofs.imports.read_row.Goals as goal
 

@@ -1,8 +1,5 @@
-use Rattle.std.proofs.Common.{◌++◌, ◌∷◌, [], ◌∙◌, ap, sym, append_assoc}
+use Rattle.csv_records.proofs.Vocabulary.{◌++◌, ◌∷◌, [], ◌∙◌, ap, sym, append_assoc, current, records_left, import_fault_number, row_in_fields}
 use Rattle.json_values.proofs.PartsLemmas.{each-append}
-use Rattle.csv_records.specs.CsvRecords.{current, records_left}
-use Rattle.csv_records.specs.Imports.{import_fault_number}
-use Rattle.csv_records.specs.steps.Importing.{row_in_fields}
 use Rattle.csv_records.proofs.imports.read_rows.Goals as goal
 
 pub loop-gathered-preserved : goal.loop-gathered-preserved

@@ -1,10 +1,5 @@
-use Rattle.std.proofs.Common.{◌≡◌, ◌++◌, List, length}
+use Rattle.csv_records.proofs.Vocabulary.{◌≡◌, ◌++◌, List, length, each, records_left, IsReading, RecordFields, import_fault_number, row_in_fields}
 use Rattle.json_values.specs.Gathering.{so_far}
-use Rattle.json_values.specs.Parts.{each}
-use Rattle.csv_records.specs.CsvRecords.{records_left, IsReading}
-use Rattle.csv_records.specs.Fields.{RecordFields}
-use Rattle.csv_records.specs.Imports.{import_fault_number}
-use Rattle.csv_records.specs.steps.Importing.{row_in_fields}
 use Rattle.csv_records.proofs.imports.read_rows.Given as goal
 
 abbrev pub invariant-loop-gathered : goal.invariant-loop-gathered

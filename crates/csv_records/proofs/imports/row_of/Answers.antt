@@ -1,4 +1,4 @@
-use Rattle.std.proofs.Common.{refl}
+use Rattle.csv_records.proofs.Vocabulary.{refl}
 use Rattle.csv_records.proofs.imports.row_of.Goals as goal
 
 pub returns : goal.returns

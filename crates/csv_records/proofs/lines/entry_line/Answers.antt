@@ -1,6 +1,4 @@
-use Rattle.std.specs.Prelude.{decimal}
-use Rattle.addr.specs.Day.{day_text}
-use Rattle.csv_records.specs.Lines.{prefix_text}
+use Rattle.csv_records.proofs.Vocabulary.{decimal, day_text, prefix_text}
 use Rattle.csv_records.proofs.FieldLemmas.{line-parts}
 use Rattle.csv_records.proofs.lines.entry_line.Goals as goal
 

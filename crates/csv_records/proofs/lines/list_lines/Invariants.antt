@@ -1,6 +1,4 @@
-use Rattle.std.proofs.Common.{◌≡◌, ◌++◌, drop}
-use Rattle.std.specs.List.{flat_map}
-use Rattle.csv_records.specs.Lines.{csv_line, csv_text, list_header, list_rows}
+use Rattle.csv_records.proofs.Vocabulary.{◌≡◌, ◌++◌, drop, flat_map, csv_line, csv_text, list_header, list_rows}
 use Rattle.csv_records.proofs.lines.list_lines.Given as goal
 
 abbrev pub invariant-loop-auth : goal.invariant-loop-auth

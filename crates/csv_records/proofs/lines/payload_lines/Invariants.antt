@@ -1,6 +1,4 @@
-use Rattle.std.proofs.Common.{◌≡◌, ◌++◌, drop}
-use Rattle.std.specs.List.{flat_map}
-use Rattle.csv_records.specs.Lines.{csv_line, csv_text, payload_header, payload_row}
+use Rattle.csv_records.proofs.Vocabulary.{◌≡◌, ◌++◌, drop, flat_map, csv_line, csv_text, payload_header, payload_row}
 use Rattle.csv_records.proofs.lines.payload_lines.Given as goal
 
 abbrev pub invariant-loop-vrp : goal.invariant-loop-vrp

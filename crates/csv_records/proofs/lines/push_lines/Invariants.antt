@@ -1,6 +1,4 @@
-use Rattle.std.proofs.Common.{◌≡◌, ◌++◌, drop, map}
-use Rattle.std.specs.List.{flat_map}
-use Rattle.csv_records.specs.Lines.{csv_line, entry_fields}
+use Rattle.csv_records.proofs.Vocabulary.{◌≡◌, ◌++◌, drop, map, flat_map, csv_line, entry_fields}
 use Rattle.csv_records.proofs.lines.push_lines.Given as goal
 
 abbrev pub invariant-loop-entry : goal.invariant-loop-entry

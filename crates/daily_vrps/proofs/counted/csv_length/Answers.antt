@@ -1,4 +1,4 @@
-use Rattle.std.proofs.Common.{false, refl}
+use Rattle.daily_vrps.proofs.Vocabulary.{false, refl}
 use Rattle.payload.specs.VrpSet as set
 use Rattle.daily_vrps.proofs.CsvLengths.{counted-all, counted-over}
 use Rattle.daily_vrps.proofs.counted.csv_length.Goals as goal

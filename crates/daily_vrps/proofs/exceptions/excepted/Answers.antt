@@ -1,11 +1,6 @@
-use Rattle.std.proofs.Common.{List, subst}
-use Rattle.std.specs.Prelude.{◌++◌, Contains}
+use Rattle.daily_vrps.proofs.Vocabulary.{List, subst, ◌++◌, Contains, IfOk-weaker, Vrp, IsAfterExceptions, Exceptions}
 use Rattle.std.specs.List.Sorted.{IsPermutation}
 use Rattle.std.proofs.lemmas.List.Sorted.{Contains-permutation, IsPermutation-sym}
-use Rattle.std.proofs.lemmas.Result.{IfOk-weaker}
-use Rattle.addr.specs.declared.vrp.Vrp.{Vrp}
-use Rattle.registry.specs.DailyVrps.{IsAfterExceptions}
-use Rattle.slurm.specs.Exceptions.{Exceptions}
 use Rattle.daily_vrps.proofs.ExceptionLemmas.{after_exceptions}
 use Rattle.daily_vrps.proofs.VrpSets.{items_such}
 use Rattle.daily_vrps.proofs.exceptions.excepted.Goals as goal

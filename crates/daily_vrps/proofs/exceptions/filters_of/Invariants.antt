@@ -1,6 +1,4 @@
-use Rattle.std.proofs.Common.{◌≡◌, ◌++◌, drop}
-use Rattle.std.specs.List.{flat_map}
-use Rattle.slurm.specs.Exceptions.{Exceptions}
+use Rattle.daily_vrps.proofs.Vocabulary.{◌≡◌, ◌++◌, drop, flat_map, Exceptions}
 use Rattle.daily_vrps.proofs.exceptions.filters_of.Given as goal
 
 abbrev pub invariant-loop-file : goal.invariant-loop-file

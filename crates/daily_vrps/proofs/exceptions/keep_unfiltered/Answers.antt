@@ -1,5 +1,4 @@
-use Rattle.std.proofs.Common.{rules}
-use Rattle.std.proofs.lemmas.Fn.{filter_same}
+use Rattle.daily_vrps.proofs.Vocabulary.{rules, filter_same}
 use Rattle.daily_vrps.proofs.ExceptionLemmas.{passes, unfiltered}
 use Rattle.daily_vrps.proofs.exceptions.keep_unfiltered.Goals as goal
 

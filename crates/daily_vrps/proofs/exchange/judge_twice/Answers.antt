@@ -1,10 +1,5 @@
-use Rattle.std.proofs.lemmas.Result.{IfOk-weaker}
-use Rattle.addr.specs.OriginValidation.{validation_state}
-use Rattle.addr.specs.declared.route.Route.{Route}
-use Rattle.payload.specs.ValidityState.{state_of}
+use Rattle.daily_vrps.proofs.Vocabulary.{IfOk-weaker, validation_state, Route, state_of, AreExchanged, IsAfter}
 use Rattle.payload.specs.VrpSet as set
-use Rattle.daily_vrps.specs.Changes.{AreExchanged}
-use Rattle.daily_vrps.specs.steps.Exchanging.{IsAfter}
 use Rattle.daily_vrps.proofs.Exchanges.{after_exchanged}
 use Rattle.daily_vrps.proofs.States.{paired, states_such}
 use Rattle.daily_vrps.proofs.exchange.judge_twice.Goals as goal

@@ -1,6 +1,4 @@
-use Rattle.std.proofs.Common.{rules, not}
-use Rattle.std.proofs.lemmas.Fn.{filter_same}
-use Rattle.addr.specs.declared.vrp.Vrp.{Vrp}
+use Rattle.daily_vrps.proofs.Vocabulary.{rules, not, filter_same, Vrp}
 use Rattle.payload.specs.VrpSet as set
 use Rattle.daily_vrps.proofs.Exchanges.{in_rest}
 use Rattle.daily_vrps.proofs.exchange.remove_all.Goals as goal

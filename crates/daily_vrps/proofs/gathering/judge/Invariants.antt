@@ -1,7 +1,4 @@
-use Rattle.std.proofs.Common.{◌≡◌, ◌++◌, map, drop}
-use Rattle.addr.specs.OriginValidation.{validation_state}
-use Rattle.addr.specs.declared.route.Route.{Route}
-use Rattle.payload.specs.ValidityState.{state_of}
+use Rattle.daily_vrps.proofs.Vocabulary.{◌≡◌, ◌++◌, map, drop, validation_state, Route, state_of}
 use Rattle.payload.specs.VrpSet as set
 use Rattle.daily_vrps.proofs.gathering.judge.Given as goal
 

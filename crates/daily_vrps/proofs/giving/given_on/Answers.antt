@@ -1,5 +1,4 @@
-use Rattle.std.proofs.Common.{◌≡◌, ◌+◌, ◌∷◌, ◌++◌, [], take, take_all, sym, ap, ◌∙◌, arith}
-use Rattle.std.proofs.lemmas.List.{take_more}
+use Rattle.daily_vrps.proofs.Vocabulary.{◌≡◌, ◌+◌, ◌∷◌, ◌++◌, [], take, take_all, sym, ap, ◌∙◌, arith, take_more}
 use Rattle.daily_vrps.proofs.GivenVrps.{more_are_given, none_are_given}
 use Rattle.daily_vrps.proofs.giving.given_on.Goals as goal
 

@@ -1,6 +1,4 @@
-use Rattle.std.proofs.Common.{◌↔◌, take, Contains}
-use Rattle.addr.specs.declared.vrp.Vrp.{Vrp}
-use Rattle.daily_vrps.specs.Giving.{AreGivingOn}
+use Rattle.daily_vrps.proofs.Vocabulary.{◌↔◌, take, Contains, Vrp, AreGivingOn}
 use Rattle.daily_vrps.proofs.giving.given_on.Given as goal
 
 -- the VRPs are those that the authorizations so far give

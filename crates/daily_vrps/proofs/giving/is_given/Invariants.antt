@@ -1,5 +1,4 @@
-use Rattle.std.proofs.Common.{take}
-use Rattle.daily_vrps.specs.Giving.{AreGivingOn}
+use Rattle.daily_vrps.proofs.Vocabulary.{take, AreGivingOn}
 use Rattle.daily_vrps.proofs.giving.is_given.Given as goal
 
 -- none of the authorizations so far gives the VRP

@@ -1,6 +1,4 @@
-use Rattle.std.proofs.Common.{◌↔◌, ◌⊎◌, take, Contains}
-use Rattle.addr.specs.declared.vrp.Vrp.{Vrp}
-use Rattle.daily_vrps.specs.steps.Entries.{IsVrpOfSome}
+use Rattle.daily_vrps.proofs.Vocabulary.{◌↔◌, ◌⊎◌, take, Contains, Vrp, IsVrpOfSome}
 use Rattle.daily_vrps.proofs.giving.push_entries.Given as goal
 
 -- the VRPs of the entries so far are added

@@ -1,9 +1,4 @@
-use Rattle.std.proofs.Common.{◌≡◌, ℕ, ◌<◌, List, [], ◌∷◌, length, sym, ◌∙◌, ap, arith}
-use Rattle.std.specs.List.{list_any}
-use Rattle.addr.specs.declared.roa_prefix.RoaPrefix.{RoaPrefix}
-use Rattle.registry.specs.RoaPrefixes.{with_maxes}
-use Rattle.addr.specs.VrpParts.{is_entry}
-use Rattle.registry.proofs.Entries.{with_maxes-none}
+use Rattle.policy.proofs.Vocabulary.{◌≡◌, ℕ, ◌<◌, List, [], ◌∷◌, length, sym, ◌∙◌, ap, arith, list_any, RoaPrefix, with_maxes, is_entry, with_maxes-none}
 use Rattle.policy.proofs.admission.+has_amended_entry.Goals as goal
 
 -- no maxLengths leave the entries as they are

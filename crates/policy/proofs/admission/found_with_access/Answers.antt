@@ -1,8 +1,4 @@
-use Rattle.std.proofs.Common.{◌≡◌, true, refl, sym, ◌∙◌, ap, subst, Option, IsSomeAnd, option_copied}
-use Rattle.std.proofs.lemmas.Bool.{false≢true}
-use Rattle.registry.specs.Permission.{is_permitted_terms}
-use Rattle.registry.specs.Terms.{grant_terms}
-use Rattle.registry.specs.declared.authorization.Auth.{Auth}
+use Rattle.policy.proofs.Vocabulary.{◌≡◌, true, refl, sym, ◌∙◌, ap, subst, Option, IsSomeAnd, option_copied, false≢true, is_permitted_terms, grant_terms, Auth}
 use Rattle.policy.proofs.RowsLemmas.{found-from, found-to}
 use Rattle.policy.proofs.admission.found_with_access.Goals as goal
 

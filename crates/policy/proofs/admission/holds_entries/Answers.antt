@@ -1,6 +1,4 @@
-use Rattle.std.proofs.Common.{sym, ◌∙◌, ap}
-use Rattle.registry.specs.Resources.{resource_holder, is_held_by}
-use Rattle.registry.proofs.Names.{held_by_itself, is_held_by-true}
+use Rattle.policy.proofs.Vocabulary.{sym, ◌∙◌, ap, resource_holder, is_held_by, held_by_itself, is_held_by-true}
 use Rattle.policy.proofs.HeldEntries.{covered_have, have_covered}
 use Rattle.policy.proofs.admission.holds_entries.Goals as goal
 

@@ -1,7 +1,4 @@
-use Rattle.std.proofs.Common.{◌||◌, sym, ◌∙◌, ap}
-use Rattle.registry.specs.declared.grant.Access.TheVariants.{Manage}
-use Rattle.registry.specs.Terms.{grant_terms}
-use Rattle.registry.specs.Permission.{has_access}
+use Rattle.policy.proofs.Vocabulary.{◌||◌, sym, ◌∙◌, ap, Manage, grant_terms, has_access}
 use Rattle.policy.proofs.admission.is_steward.Goals as goal
 
 pub returns-else-is_operator : goal.returns-else-is_operator

@@ -1,6 +1,4 @@
-use Rattle.std.proofs.Common.{sym, ◌∙◌, ap}
-use Rattle.std.proofs.lemmas.Result.{MatchResult-weaker}
-use Rattle.registry.specs.Permission.{has_access}
+use Rattle.policy.proofs.Vocabulary.{sym, ◌∙◌, ap, MatchResult-weaker, has_access}
 use Rattle.policy.proofs.admission.require_access.Goals as goal
 
 pub returns : goal.returns

@@ -1,12 +1,5 @@
-use Rattle.std.proofs.Common.{◌∷◌, sym, ap, ◌∙◌, None, subst, refl}
-use Rattle.std.proofs.lemmas.Result.{err_from_is_err_and}
-use Rattle.registry.specs.declared.authorization.Auth.{Auth}
-use Rattle.registry.specs.declared.change.Change.TheVariants.{Holders}
+use Rattle.policy.proofs.Vocabulary.{◌∷◌, sym, ap, ◌∙◌, None, subst, refl, err_from_is_err_and, Auth, Holders, Amend, IsAccepted, Carries, with_terms}
 use Rattle.registry.specs.declared.change.Edit.TheVariants.{Amend as AmendEdit}
-use Rattle.registry.specs.declared.command.Command.TheVariants.{Amend}
-use Rattle.registry.specs.Answer.{IsAccepted}
-use Rattle.registry.specs.Rows.{Carries}
-use Rattle.registry.specs.Terms.{with_terms}
 use Rattle.policy.proofs.CarryTerms.{found_number}
 use Rattle.policy.proofs.amendment.amend.Goals as goal
 

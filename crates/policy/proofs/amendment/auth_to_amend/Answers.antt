@@ -1,11 +1,4 @@
-use Rattle.std.proofs.Common.{◌≡◌, ◌≤◌, true, not, refl, sym, ◌∙◌, ap, inl, inr, subst, Option}
-use Rattle.std.proofs.lemmas.Bool.{false≢true, not-true}
-use Rattle.std.proofs.lemmas.Result.{err_from_is_err_and}
-use Rattle.registry.specs.declared.authorization.Auth.{Auth}
-use Rattle.registry.specs.declared.grant.Access.TheVariants.{Alter}
-use Rattle.registry.specs.Answer.{AnswersAmend}
-use Rattle.registry.specs.Permission.{gives_access}
-use Rattle.registry.specs.Verdict.{maxes_fit, OfNumber}
+use Rattle.policy.proofs.Vocabulary.{◌≡◌, ◌≤◌, true, not, refl, sym, ◌∙◌, ap, inl, inr, subst, Option, false≢true, not-true, err_from_is_err_and, Auth, Alter, AnswersAmend, gives_access, maxes_fit, OfNumber}
 use Rattle.policy.proofs.RowsLemmas.{found-to, found-from, registered-by_grant}
 use Rattle.policy.proofs.AmendLemmas.{SharesWithNoOther, only-to, only-from}
 use Rattle.policy.proofs.CarryTerms.{carries-amend}

@@ -1,7 +1,4 @@
-use Rattle.std.proofs.Common.{◌+◌, subst, sym, take, ◌∙◌}
-use Rattle.std.specs.BTreeSet.{BTreeSet}
-use Rattle.registry.specs.declared.authorization.ImportRow.{ImportRow}
-use Rattle.policy.specs.steps.Authorized.{AreAuthorized}
+use Rattle.policy.proofs.Vocabulary.{◌+◌, subst, sym, take, ◌∙◌, BTreeSet, ImportRow, AreAuthorized}
 use Rattle.policy.proofs.AuthorizedRows.{no_row_more, one_row_more}
 use Rattle.policy.proofs.authorized.authorized_rows.Goals as goal
 use Rattle.policy.proofs.authorized.authorized_rows.Goals.{in-Some+in_ok-insert, in_default}

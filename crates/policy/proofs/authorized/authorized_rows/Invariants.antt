@@ -1,5 +1,4 @@
-use Rattle.std.proofs.Common.{take}
-use Rattle.policy.specs.steps.Authorized.{AreAuthorized}
+use Rattle.policy.proofs.Vocabulary.{take, AreAuthorized}
 use Rattle.policy.proofs.authorized.authorized_rows.Given as goal
 
 abbrev pub invariant-loop-auth : goal.invariant-loop-auth

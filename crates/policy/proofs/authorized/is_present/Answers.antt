@@ -1,10 +1,4 @@
-use Rattle.std.proofs.Common.{◌≡◌, true, sym, ◌∙◌, ap}
-use Rattle.std.specs.List.{list_any}
-use Rattle.registry.specs.declared.grant.Access.TheVariants.{Alter}
-use Rattle.registry.specs.Import.{has_terms}
-use Rattle.registry.specs.Permission.{are_permitted}
-use Rattle.registry.specs.Rows.{rows_of}
-use Rattle.registry.specs.Terms.{row_terms, grant_terms}
+use Rattle.policy.proofs.Vocabulary.{◌≡◌, true, sym, ◌∙◌, ap, list_any, Alter, has_terms, are_permitted, rows_of, row_terms, grant_terms}
 use Rattle.policy.proofs.RowsLemmas.{active-to, active-from}
 use Rattle.policy.proofs.authorized.is_present.Goals as goal
 

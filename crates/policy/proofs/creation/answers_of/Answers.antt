@@ -1,10 +1,4 @@
-use Rattle.std.proofs.Common.{◌≡◌, ◌+◌, nat_le, ◌∷◌, [], ◌<◌, List, false, length, sym, ◌∙◌, ap, refl, arith}
-use Rattle.std.specs.List.{list_any}
-use Rattle.registry.specs.declared.authorization.Auth.{Auth}
-use Rattle.registry.specs.declared.command.Proposed.TheVariants.{Create}
-use Rattle.registry.specs.declared.limits.TheConstants.{MOST_AUTHORIZATIONS}
-use Rattle.registry.specs.Rows.{rows_of}
-use Rattle.registry.specs.Terms.{gives_some}
+use Rattle.policy.proofs.Vocabulary.{◌≡◌, ◌+◌, nat_le, ◌∷◌, [], ◌<◌, List, false, length, sym, ◌∙◌, ap, refl, arith, list_any, Auth, Create, MOST_AUTHORIZATIONS, rows_of, gives_some}
 use Rattle.policy.proofs.Parts.{part-full, part-gives}
 use Rattle.policy.proofs.RowsLemmas.{active-to, active-from}
 use Rattle.policy.proofs.creation.answers_of.Goals as goal

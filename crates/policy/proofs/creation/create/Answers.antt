@@ -1,7 +1,5 @@
-use Rattle.std.proofs.Common.{sym, ap, Some, subst, refl}
+use Rattle.policy.proofs.Vocabulary.{sym, ap, Some, subst, refl, IsAccepted, IsCreated}
 use Rattle.registry.specs.declared.command.Command.TheVariants.{Create}
-use Rattle.registry.specs.Answer.{IsAccepted}
-use Rattle.policy.specs.steps.Creation.{IsCreated}
 use Rattle.policy.proofs.creation.create.Goals as goal
 
 pub returns-clause-answer : goal.returns-clause-answer

@@ -1,6 +1,4 @@
-use Rattle.std.proofs.Common.{◌∷◌, [], true, option_copied, refl, subst}
-use Rattle.registry.specs.declared.command.Proposed.TheVariants.{Create}
-use Rattle.registry.specs.Rows.{RowsIfAny, rows_if_any, rows_of}
+use Rattle.policy.proofs.Vocabulary.{◌∷◌, [], true, option_copied, refl, subst, Create, RowsIfAny, rows_if_any, rows_of}
 use Rattle.policy.proofs.Parts.{whole-part}
 use Rattle.policy.proofs.RowsLemmas.{create-unregistered}
 use Rattle.policy.proofs.creation.create_answers.Goals as goal

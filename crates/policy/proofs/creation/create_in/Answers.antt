@@ -1,5 +1,4 @@
-use Rattle.std.proofs.Common.{sym, subst}
-use Rattle.policy.specs.steps.Creation.{IsCreated}
+use Rattle.policy.proofs.Vocabulary.{sym, subst, IsCreated}
 use Rattle.policy.proofs.creation.create_in.Goals as goal
 
 pub returns-clause-judged : goal.returns-clause-judged

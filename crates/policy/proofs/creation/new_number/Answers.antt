@@ -1,10 +1,4 @@
-use Rattle.std.proofs.Common.{ℕ, ◌+◌, ◌<◌, sym, ◌∙◌, ap, subst}
-use Rattle.std.proofs.lemmas.Bool.{not-true}
-use Rattle.registry.specs.declared.grant.Access.TheVariants.{Alter}
-use Rattle.registry.specs.declared.limits.TheConstants.{LAST_NUMBER}
-use Rattle.registry.specs.Permission.{are_permitted, gives_access}
-use Rattle.registry.specs.Verdict.{fit_lengths}
-use Rattle.registry.specs.Terms.{numbered_terms, grant_terms}
+use Rattle.policy.proofs.Vocabulary.{ℕ, ◌+◌, ◌<◌, sym, ◌∙◌, ap, subst, not-true, Alter, LAST_NUMBER, are_permitted, gives_access, fit_lengths, numbered_terms, grant_terms}
 use Rattle.policy.proofs.CarryTerms.{carries-create}
 use Rattle.policy.proofs.RowsLemmas.{registered-by_grant}
 use Rattle.policy.proofs.creation.new_number.Goals as goal

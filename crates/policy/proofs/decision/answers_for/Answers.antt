@@ -1,4 +1,4 @@
-use Rattle.std.proofs.Common.{option_copied}
+use Rattle.policy.proofs.Vocabulary.{option_copied}
 use Rattle.policy.proofs.AmendLemmas.{amend-facts}
 use Rattle.policy.proofs.RowsLemmas.{facts-of_rows}
 use Rattle.policy.proofs.decision.answers_for.Goals as goal

@@ -1,9 +1,4 @@
-use Rattle.std.proofs.Common.{sym, ◌∙◌, ap, subst, refl}
-use Rattle.std.proofs.lemmas.Result.{err_from_is_err_and}
-use Rattle.registry.specs.declared.command.Command.TheVariants.{Reclaim}
-use Rattle.registry.specs.Answer.{edit_number, IsAccepted}
-use Rattle.registry.specs.Terms.{terms_overlap}
-use Rattle.registry.proofs.Ended.{numbers_where}
+use Rattle.policy.proofs.Vocabulary.{sym, ◌∙◌, ap, subst, refl, err_from_is_err_and, Reclaim, edit_number, IsAccepted, terms_overlap, numbers_where}
 use Rattle.policy.proofs.CarrySpace.{sparing, carries-reclaim}
 use Rattle.policy.proofs.decision.decide_reclaim.Goals as goal
 

@@ -1,12 +1,7 @@
-use Rattle.std.proofs.Common.{refl, sym, ◌∙◌, subst, ◌≡◌, false}
-use Rattle.std.proofs.lemmas.Bool.{not-true}
-use Rattle.std.specs.Prelude.{List}
+use Rattle.policy.proofs.Vocabulary.{refl, sym, ◌∙◌, subst, ◌≡◌, false, not-true, List, Slurm, IsAccepted, carries-exceptions}
 use Rattle.slurm.specs.SlurmSets.{some_overlap}
 use Rattle.slurm.specs.declared.set.NamedSlurm.{NamedSlurm}
 use Rattle.registry.specs.declared.change.Change.TheVariants.{Exceptions as Replace}
-use Rattle.registry.specs.declared.command.Command.TheVariants.{Slurm}
-use Rattle.registry.specs.Answer.{IsAccepted}
-use Rattle.registry.proofs.Carry.{carries-exceptions}
 use Rattle.policy.proofs.decision.decide_slurm.Goals as goal
 
 pub returns-clause-answer : goal.returns-clause-answer

@@ -1,9 +1,4 @@
-use Rattle.std.proofs.Common.{◌∙◌, ap, refl}
-use Rattle.std.proofs.lemmas.Result.{err_from_is_err_and}
-use Rattle.registry.specs.Answer.{edit_number}
-use Rattle.registry.specs.Terms.{terms_overlap}
-use Rattle.registry.proofs.Names.{same_name-false}
-use Rattle.registry.proofs.Ended.{numbers_where}
+use Rattle.policy.proofs.Vocabulary.{◌∙◌, ap, refl, err_from_is_err_and, edit_number, terms_overlap, same_name-false, numbers_where}
 use Rattle.policy.proofs.CarrySpace.{sparing, carries-transfer}
 use Rattle.policy.proofs.decision.decide_transfer.Goals as goal
 

@@ -1,5 +1,4 @@
-use Rattle.std.proofs.Common.{refl, sym, ◌∙◌}
-use Rattle.std.proofs.lemmas.Result.{err_from_is_err_and}
+use Rattle.policy.proofs.Vocabulary.{refl, sym, ◌∙◌, err_from_is_err_and}
 use Rattle.policy.proofs.RowsLemmas.{some_copied}
 use Rattle.policy.proofs.decision.judge.Goals as goal
 

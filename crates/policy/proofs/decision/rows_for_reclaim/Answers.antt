@@ -1,7 +1,4 @@
-use Rattle.std.proofs.Common.{sym, ◌∙◌, inl, inr, subst}
-use Rattle.std.proofs.lemmas.Bool.{false≢true}
-use Rattle.std.proofs.lemmas.Result.{err_from_is_err_and}
-use Rattle.registry.specs.Answer.{AnswersLoss, IfRegistered}
+use Rattle.policy.proofs.Vocabulary.{sym, ◌∙◌, inl, inr, subst, false≢true, err_from_is_err_and, AnswersLoss, IfRegistered}
 use Rattle.policy.proofs.decision.rows_for_reclaim.Goals as goal
 
 pub returns-in_err-rows-clause-admitted : goal.returns-in_err-rows-clause-admitted

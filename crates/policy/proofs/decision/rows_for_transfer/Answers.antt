@@ -1,8 +1,4 @@
-use Rattle.std.proofs.Common.{sym, ◌∙◌, inl, inr, subst}
-use Rattle.std.proofs.lemmas.Bool.{not-false, not-true, false≢true, true≢false}
-use Rattle.std.proofs.lemmas.Result.{err_from_is_err_and}
-use Rattle.registry.specs.Answer.{AnswersLoss, HasRuns, IfRegistered}
-use Rattle.registry.specs.History.{same_name}
+use Rattle.policy.proofs.Vocabulary.{sym, ◌∙◌, inl, inr, subst, not-false, not-true, false≢true, true≢false, err_from_is_err_and, AnswersLoss, HasRuns, IfRegistered, same_name}
 use Rattle.policy.proofs.decision.rows_for_transfer.Goals as goal
 
 pub returns-in_err-giving-clause-admitted : goal.returns-in_err-giving-clause-admitted

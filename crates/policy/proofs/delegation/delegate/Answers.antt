@@ -1,7 +1,4 @@
-use Rattle.std.proofs.Common.{sym, ap, subst, refl}
-use Rattle.std.proofs.lemmas.Result.{err_from_is_err_and}
-use Rattle.registry.specs.declared.command.Command.TheVariants.{Delegate}
-use Rattle.registry.specs.Answer.{edit_number, IsAccepted}
+use Rattle.policy.proofs.Vocabulary.{sym, ap, subst, refl, err_from_is_err_and, Delegate, edit_number, IsAccepted}
 use Rattle.policy.proofs.CarrySpace.{sparing, carries-delegate}
 use Rattle.policy.proofs.delegation.delegate.Goals as goal
 

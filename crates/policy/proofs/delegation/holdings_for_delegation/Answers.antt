@@ -1,10 +1,4 @@
-use Rattle.std.proofs.Common.{sym, ◌∙◌, ap, inl, inr, subst}
-use Rattle.std.specs.Prelude.{is_some, IfSome}
-use Rattle.std.proofs.lemmas.Bool.{not-true, false≢true}
-use Rattle.std.proofs.lemmas.Bool.Decides.{when_false}
-use Rattle.std.proofs.lemmas.Result.{err_from_is_err_and}
-use Rattle.registry.specs.Resources.{IsFree}
-use Rattle.registry.specs.Answer.{HasRuns}
+use Rattle.policy.proofs.Vocabulary.{sym, ◌∙◌, ap, inl, inr, subst, is_some, IfSome, not-true, false≢true, when_false, err_from_is_err_and, IsFree, HasRuns}
 use Rattle.policy.proofs.delegation.holdings_for_delegation.Goals as goal
 
 pub returns-in_err-held : goal.returns-in_err-held

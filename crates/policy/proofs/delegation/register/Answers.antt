@@ -1,7 +1,4 @@
-use Rattle.std.proofs.Common.{sym, ◌∙◌, refl, subst}
-use Rattle.std.proofs.lemmas.Bool.{not-true}
-use Rattle.registry.specs.declared.command.Command.TheVariants.{Register}
-use Rattle.registry.specs.Answer.{IsAccepted}
+use Rattle.policy.proofs.Vocabulary.{sym, ◌∙◌, refl, subst, not-true, Register, IsAccepted}
 use Rattle.policy.proofs.CarrySpace.{carries-register}
 use Rattle.policy.proofs.delegation.register.Goals as goal
 

@@ -1,10 +1,4 @@
-use Rattle.std.proofs.Common.{ℕ, ◌<◌, ◌≤◌, sym, ◌∙◌, ap, subst, length, Some, arith, ◌+◌, refl}
-use Rattle.std.proofs.lemmas.Bool.Decides.{nat_tests}
-use Rattle.registry.specs.declared.limits.TheConstants.{MOST_GRANTS, LAST_NUMBER}
-use Rattle.registry.specs.declared.command.Command.TheVariants.{Grant}
-use Rattle.registry.specs.declared.grant.Granted.{Granted}
-use Rattle.registry.specs.Answer.{IsAccepted, IsMadeIfAny}
-use Rattle.registry.specs.Terms.{numbered_grant, grant_terms, grants_made}
+use Rattle.policy.proofs.Vocabulary.{ℕ, ◌<◌, ◌≤◌, sym, ◌∙◌, ap, subst, length, Some, arith, ◌+◌, refl, nat_tests, MOST_GRANTS, LAST_NUMBER, Grant, Granted, IsAccepted, IsMadeIfAny, numbered_grant, grant_terms, grants_made}
 use Rattle.policy.proofs.CarryGrants.{carries-grant}
 use Rattle.policy.proofs.granting.grant.Goals as goal
 

@@ -1,9 +1,4 @@
-use Rattle.std.proofs.Common.{sym, ◌∙◌, ap, eqb, inl, inr, refl, subst}
-use Rattle.std.specs.List.{list_any}
-use Rattle.std.proofs.lemmas.Bool.{false≢true}
-use Rattle.std.proofs.lemmas.Result.{err_from_is_err_and}
-use Rattle.registry.specs.declared.command.Command.TheVariants.{Revoke}
-use Rattle.registry.specs.Answer.{IsAccepted}
+use Rattle.policy.proofs.Vocabulary.{sym, ◌∙◌, ap, eqb, inl, inr, refl, subst, list_any, false≢true, err_from_is_err_and, Revoke, IsAccepted}
 use Rattle.policy.proofs.RowsLemmas.{registered-by_grant}
 use Rattle.policy.proofs.CarryGrants.{carries-revoke}
 use Rattle.policy.proofs.granting.revoke.Goals as goal

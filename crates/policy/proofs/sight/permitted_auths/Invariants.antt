@@ -1,6 +1,4 @@
-use Rattle.std.proofs.Common.{◌≡◌, filter, take}
-use Rattle.registry.specs.declared.grant.Access.TheVariants.{Look}
-use Rattle.registry.specs.Permission.{is_permitted_terms}
+use Rattle.policy.proofs.Vocabulary.{◌≡◌, filter, take, Look, is_permitted_terms}
 use Rattle.policy.proofs.sight.permitted_auths.Given as goal
 
 abbrev pub invariant-loop-auth : goal.invariant-loop-auth

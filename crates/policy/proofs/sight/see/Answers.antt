@@ -1,7 +1,4 @@
-use Rattle.std.proofs.Common.{inl, inr, sym, ◌∙◌, ap, option_copied}
-use Rattle.std.proofs.lemmas.Bool.{false≢true}
-use Rattle.std.proofs.lemmas.Result.{MatchResult-weaker, err_from_is_err_and}
-use Rattle.registry.specs.Verdict.{auth_of_number}
+use Rattle.policy.proofs.Vocabulary.{inl, inr, sym, ◌∙◌, ap, option_copied, false≢true, MatchResult-weaker, err_from_is_err_and, auth_of_number}
 use Rattle.policy.proofs.RowsLemmas.{grants-are, numbered-are}
 use Rattle.policy.proofs.sight.see.Goals as goal
 

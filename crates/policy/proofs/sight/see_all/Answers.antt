@@ -1,10 +1,4 @@
-use Rattle.std.proofs.Common.{inl, refl, sym, ◌∙◌, ap, filter, option_copied}
-use Rattle.std.proofs.lemmas.Bool.{false≢true}
-use Rattle.std.proofs.lemmas.Result.{err_from_is_err_and}
-use Rattle.registry.specs.declared.grant.Access.TheVariants.{Look}
-use Rattle.registry.specs.Permission.{is_permitted_terms}
-use Rattle.registry.specs.Rows.{auths_if_any}
-use Rattle.registry.specs.Terms.{grant_terms}
+use Rattle.policy.proofs.Vocabulary.{inl, refl, sym, ◌∙◌, ap, filter, option_copied, false≢true, err_from_is_err_and, Look, is_permitted_terms, auths_if_any, grant_terms}
 use Rattle.policy.proofs.RowsLemmas.{listed-are}
 use Rattle.policy.proofs.sight.see_all.Goals as goal
 

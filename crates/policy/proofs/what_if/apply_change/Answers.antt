@@ -1,9 +1,6 @@
-use Rattle.std.proofs.Common.{◌+◌, ap, ◌∙◌, subst, Contains}
-use Rattle.std.proofs.lemmas.Result.{err_from_is_err_and}
+use Rattle.policy.proofs.Vocabulary.{◌+◌, ap, ◌∙◌, subst, Contains, err_from_is_err_and, Create, rows_of, edited, carried}
 use Rattle.registry.specs.declared.change.Edit.TheVariants.{Create as CreateEdit, Withdraw as WithdrawEdit}
-use Rattle.registry.specs.declared.command.Proposed.TheVariants.{Create, Withdraw}
-use Rattle.registry.specs.Rows.{rows_of, edited}
-use Rattle.registry.proofs.Carry.{carried}
+use Rattle.registry.specs.declared.command.Proposed.TheVariants.{Withdraw}
 use Rattle.policy.proofs.Parts.{part-one, part-create, part-withdraw}
 use Rattle.policy.proofs.what_if.apply_change.Goals as goal
 

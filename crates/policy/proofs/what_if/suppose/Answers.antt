@@ -1,4 +1,4 @@
-use Rattle.std.proofs.Common.{refl}
+use Rattle.policy.proofs.Vocabulary.{refl}
 use Rattle.policy.proofs.what_if.suppose.Goals as goal
 
 pub returns : goal.returns

@@ -1,8 +1,4 @@
-use Rattle.std.proofs.Common.{◌≡◌, ℕ, ◌+◌, true, List, length, Some, refl, sym, ap, ◌∙◌, subst, arith}
-use Rattle.std.proofs.lemmas.List.{take_all}
-use Rattle.registry.specs.declared.command.Proposed.{Proposed}
-use Rattle.registry.specs.Rows.{Rows, rows_of, RowsIfAny, RowsOf}
-use Rattle.registry.specs.PartOfRows.{IsPartFor}
+use Rattle.policy.proofs.Vocabulary.{◌≡◌, ℕ, ◌+◌, true, List, length, Some, refl, sym, ap, ◌∙◌, subst, arith, take_all, Proposed, Rows, rows_of, RowsIfAny, RowsOf, IsPartFor}
 use Rattle.policy.proofs.Hypothetical.{so_far-start, so_far-more, so_far-denied, denied-unregistered}
 use Rattle.policy.proofs.Parts.{no-part, some-part, whole-part}
 use Rattle.policy.proofs.what_if.suppose_on.Goals as goal

@@ -1,6 +1,4 @@
-use Rattle.std.proofs.Common.{◌≡◌, length}
-use Rattle.policy.specs.steps.HypotheticalChange.{OfPart}
-use Rattle.registry.specs.Rows.{rows_of}
+use Rattle.policy.proofs.Vocabulary.{◌≡◌, length, OfPart, rows_of}
 use Rattle.policy.proofs.Hypothetical.{SoFar}
 use Rattle.policy.proofs.what_if.suppose_on.Given as goal
 

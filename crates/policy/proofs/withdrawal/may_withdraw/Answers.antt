@@ -1,7 +1,4 @@
-use Rattle.std.proofs.Common.{inl, inr}
-use Rattle.std.proofs.lemmas.Result.{err_from_is_err_and}
-use Rattle.registry.specs.declared.grant.Access.TheVariants.{Alter}
-use Rattle.registry.specs.Permission.{gives_access}
+use Rattle.policy.proofs.Vocabulary.{inl, inr, err_from_is_err_and, Alter, gives_access}
 use Rattle.policy.proofs.CarryTerms.{carries-withdraw}
 use Rattle.policy.proofs.RowsLemmas.{registered-by_grant}
 use Rattle.policy.proofs.withdrawal.may_withdraw.Goals as goal

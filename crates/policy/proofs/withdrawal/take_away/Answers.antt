@@ -1,7 +1,5 @@
-use Rattle.std.proofs.Common.{List, ap, rules}
+use Rattle.policy.proofs.Vocabulary.{List, ap, rules, Auth, Rows, rows_of}
 use Rattle.std.proofs.lemmas.Fn.{filter_same}
-use Rattle.registry.specs.declared.authorization.Auth.{Auth}
-use Rattle.registry.specs.Rows.{Rows, rows_of}
 use Rattle.policy.proofs.withdrawal.take_away.Goals as goal
 
 pub returns : goal.returns

@@ -1,7 +1,4 @@
-use Rattle.std.proofs.Common.{refl, sym, subst}
-use Rattle.std.proofs.lemmas.Result.{err_from_is_err_and}
-use Rattle.registry.specs.declared.command.Command.TheVariants.{Withdraw}
-use Rattle.registry.specs.Answer.{IsAccepted}
+use Rattle.policy.proofs.Vocabulary.{refl, sym, subst, err_from_is_err_and, Withdraw, IsAccepted}
 use Rattle.policy.proofs.withdrawal.withdraw.Goals as goal
 
 pub returns-in_err-may_withdraw-clause-answer : goal.returns-in_err-may_withdraw-clause-answer

@@ -1,5 +1,4 @@
-use Rattle.std.proofs.lemmas.Result.{err_from_is_err_and}
-use Rattle.registry.specs.Rows.{rows_of}
+use Rattle.policy.proofs.Vocabulary.{err_from_is_err_and, rows_of}
 use Rattle.policy.proofs.Parts.{part-found}
 use Rattle.policy.proofs.RowsLemmas.{answers-rows}
 use Rattle.policy.proofs.withdrawal.withdraw_from.Goals as goal

@@ -1,5 +1,4 @@
-use Rattle.std.proofs.Common.{inl, inr}
-use Rattle.std.proofs.lemmas.Bool.{cases_Bool}
+use Rattle.csv_records.proofs.Vocabulary.{inl, inr, cases_Bool}
 use Rattle.csv_records.proofs.RecordSteps.{reading-next, reading-end}
 use Rattle.csv_records.proofs.records.CsvRecords.advance.Goals as goal
 

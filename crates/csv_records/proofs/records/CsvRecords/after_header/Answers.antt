@@ -1,6 +1,4 @@
-use Rattle.std.proofs.Common.{sym, ◌∙◌}
-use Rattle.csv_records.specs.CsvRecords.{csv_records, current, records_left}
-use Rattle.csv_records.specs.Fields.{texts_of}
+use Rattle.csv_records.proofs.Vocabulary.{sym, ◌∙◌, csv_records, current, records_left, texts_of}
 use Rattle.csv_records.proofs.FieldLemmas.{header-same, header-other}
 use Rattle.csv_records.proofs.records.CsvRecords.after_header.Goals as goal
 

@@ -1,5 +1,5 @@
 use Rattle.daily_vrps.proofs.Follows.{auth_joined, in_force_gives}
-use Rattle.payload.proofs.Visits.{on-err}
+use Rattle.daily_vrps.proofs.Vocabulary.{on-err}
 use Rattle.daily_vrps.proofs.daily.DailyVrps.begin.Goals as goal
 
 pub returns-in_ok-begin_entries-clause-ok : goal.returns-in_ok-begin_entries-clause-ok

@@ -1,7 +1,4 @@
-use Rattle.std.proofs.Common.{◌≡◌, ℕ, ◌+◌, ◌∷◌, ◌++◌, [], inl, take, take_all, subst, sym, ap, ◌∙◌, arith, refl}
-use Rattle.std.proofs.lemmas.List.{take_more}
-use Rattle.daily_vrps.specs.Giving.{AreGivingOn, GivesOn}
-use Rattle.payload.proofs.Visits.{on-err}
+use Rattle.daily_vrps.proofs.Vocabulary.{◌≡◌, ℕ, ◌+◌, ◌∷◌, ◌++◌, [], inl, take, take_all, subst, sym, ap, ◌∙◌, arith, refl, take_more, AreGivingOn, GivesOn, on-err}
 use Rattle.daily_vrps.proofs.Follows.{added_since, more_joined, none_joined, same_then}
 use Rattle.daily_vrps.proofs.daily.DailyVrps.begin_all.Goals as goal
 

@@ -1,8 +1,5 @@
-use Rattle.std.proofs.Common.{◌↔◌, take}
-use Rattle.std.specs.Prelude.{Contains}
-use Rattle.addr.specs.declared.vrp.Vrp.{Vrp}
+use Rattle.daily_vrps.proofs.Vocabulary.{◌↔◌, take, Contains, Vrp, AreJoined, IsWithSame}
 use Rattle.payload.specs.VrpSet as set
-use Rattle.daily_vrps.specs.Changes.{AreJoined, IsWithSame}
 use Rattle.daily_vrps.proofs.daily.DailyVrps.begin_all.Given as goal
 
 -- the authorizations so far have joined

@@ -1,9 +1,5 @@
-use Rattle.std.proofs.Common.{◌≡◌, ◌+◌, ◌∷◌, ◌++◌, [], inl, take, take_all, sym, ap, ◌∙◌, arith, refl}
-use Rattle.std.proofs.lemmas.List.{take_more}
-use Rattle.addr.specs.VrpParts.{IsVrpOfEntry}
-use Rattle.daily_vrps.specs.steps.Entries.{IsVrpOfSome}
+use Rattle.daily_vrps.proofs.Vocabulary.{◌≡◌, ◌+◌, ◌∷◌, ◌++◌, [], inl, take, take_all, sym, ap, ◌∙◌, arith, refl, take_more, IsVrpOfEntry, IsVrpOfSome, on-err}
 use Rattle.daily_vrps.proofs.Follows.{added_since, entry_joined, no_entry_joined, same_then}
-use Rattle.payload.proofs.Visits.{on-err}
 use Rattle.daily_vrps.proofs.daily.DailyVrps.begin_entries.Goals as goal
 
 pub loop-entry-init : goal.loop-entry-init

@@ -1,9 +1,5 @@
-use Rattle.std.proofs.Common.{◌↔◌, take}
-use Rattle.std.specs.Prelude.{Contains}
-use Rattle.addr.specs.declared.vrp.Vrp.{Vrp}
+use Rattle.daily_vrps.proofs.Vocabulary.{◌↔◌, take, Contains, Vrp, IsWithSame, IsJoinedBy, IsVrpOfSome}
 use Rattle.payload.specs.VrpSet as set
-use Rattle.daily_vrps.specs.Changes.{IsWithSame}
-use Rattle.daily_vrps.specs.steps.Entries.{IsJoinedBy, IsVrpOfSome}
 use Rattle.daily_vrps.proofs.daily.DailyVrps.begin_entries.Given as goal
 
 -- the entries so far have joined

@@ -1,9 +1,6 @@
-use Rattle.std.proofs.Common.{sym, ◌∙◌}
-use Rattle.std.proofs.lemmas.Bool.{true≢false}
-use Rattle.daily_vrps.specs.KeptDay.{KeptDay}
+use Rattle.daily_vrps.proofs.Vocabulary.{sym, ◌∙◌, true≢false, KeptDay, on-err}
 use Rattle.daily_vrps.proofs.Keeps.{filtered_joined, inserted_joined}
 use Rattle.daily_vrps.proofs.VrpSets.{not_in_set}
-use Rattle.payload.proofs.Visits.{on-err}
 use Rattle.daily_vrps.proofs.daily.DailyVrps.begin_entry.Goals as goal
 
 pub returns-in_ok-insert-clause-ok : goal.returns-in_ok-insert-clause-ok

@@ -1,5 +1,4 @@
-use Rattle.std.proofs.Common.{◌≡◌, ◌+◌, ◌∷◌, ◌++◌, [], take, take_all, sym, ap, ◌∙◌, arith, refl}
-use Rattle.std.proofs.lemmas.List.{take_more}
+use Rattle.daily_vrps.proofs.Vocabulary.{◌≡◌, ◌+◌, ◌∷◌, ◌++◌, [], take, take_all, sym, ap, ◌∙◌, arith, refl, take_more}
 use Rattle.daily_vrps.proofs.Follows.{all_spared, ending, same_then, staying}
 use Rattle.daily_vrps.proofs.daily.DailyVrps.end_all.Goals as goal
 use Rattle.daily_vrps.proofs.daily.DailyVrps.end_all.Goals.{then-ends, else-ends}

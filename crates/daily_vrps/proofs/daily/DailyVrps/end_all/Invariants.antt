@@ -1,9 +1,5 @@
-use Rattle.std.proofs.Common.{◌↔◌, take}
-use Rattle.std.specs.Prelude.{Contains}
-use Rattle.addr.specs.declared.vrp.Vrp.{Vrp}
+use Rattle.daily_vrps.proofs.Vocabulary.{◌↔◌, take, Contains, Vrp, ended, IsSpared, IsWithSame}
 use Rattle.payload.specs.VrpSet as set
-use Rattle.registry.specs.Edits.{ended}
-use Rattle.daily_vrps.specs.Changes.{IsSpared, IsWithSame}
 use Rattle.daily_vrps.proofs.daily.DailyVrps.end_all.Given as goal
 
 -- of the authorizations so far those that end are spared or gone

@@ -1,9 +1,5 @@
-use Rattle.std.proofs.Common.{◌↔◌, take}
-use Rattle.std.specs.Prelude.{Contains}
-use Rattle.addr.specs.declared.vrp.Vrp.{Vrp}
+use Rattle.daily_vrps.proofs.Vocabulary.{◌↔◌, take, Contains, Vrp, IsWithSame, IsLeftWithout, IsVrpOfSome}
 use Rattle.payload.specs.VrpSet as set
-use Rattle.daily_vrps.specs.Changes.{IsWithSame}
-use Rattle.daily_vrps.specs.steps.Entries.{IsLeftWithout, IsVrpOfSome}
 use Rattle.daily_vrps.proofs.daily.DailyVrps.end_entries.Given as goal
 
 -- what the entries so far leave is left

@@ -1,6 +1,4 @@
-use Rattle.std.proofs.Common.{sym, ◌∙◌}
-use Rattle.std.proofs.lemmas.Bool.{true≢false}
-use Rattle.daily_vrps.specs.KeptDay.{KeptDay}
+use Rattle.daily_vrps.proofs.Vocabulary.{sym, ◌∙◌, true≢false, KeptDay}
 use Rattle.daily_vrps.proofs.Keeps.{removed_left, spared_left}
 use Rattle.daily_vrps.proofs.daily.DailyVrps.end_entry.Goals as goal
 

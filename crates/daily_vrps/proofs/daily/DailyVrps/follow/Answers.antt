@@ -1,6 +1,5 @@
-use Rattle.registry.specs.Edits.{begun, ended}
+use Rattle.daily_vrps.proofs.Vocabulary.{begun, ended, on-err}
 use Rattle.daily_vrps.proofs.Follows.{followed}
-use Rattle.payload.proofs.Visits.{on-err}
 use Rattle.daily_vrps.proofs.daily.DailyVrps.follow.Goals as goal
 
 pub returns-clause-ok : goal.returns-clause-ok

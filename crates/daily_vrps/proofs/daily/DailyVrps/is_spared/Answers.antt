@@ -1,4 +1,4 @@
-use Rattle.std.proofs.Common.{inl, inr, sym, ◌∙◌}
+use Rattle.daily_vrps.proofs.Vocabulary.{inl, inr, sym, ◌∙◌}
 use Rattle.daily_vrps.proofs.VrpSets.{in_set, not_in_set}
 use Rattle.daily_vrps.proofs.daily.DailyVrps.is_spared.Goals as goal
 

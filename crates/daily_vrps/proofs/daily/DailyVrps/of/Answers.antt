@@ -1,5 +1,4 @@
-use Rattle.std.proofs.Common.{Contains}
-use Rattle.addr.specs.declared.vrp.Vrp.{Vrp}
+use Rattle.daily_vrps.proofs.Vocabulary.{Contains, Vrp}
 use Rattle.daily_vrps.proofs.Keeps.{kept_after}
 use Rattle.daily_vrps.proofs.VrpSets.{items_of_list}
 use Rattle.daily_vrps.proofs.daily.DailyVrps.of.Goals as goal

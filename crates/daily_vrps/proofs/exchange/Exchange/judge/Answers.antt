@@ -1,6 +1,4 @@
-use Rattle.std.proofs.Common.{◌≡◌, ◌+◌, ◌∷◌, ◌++◌, [], take, sym, ap, ◌∙◌}
-use Rattle.std.proofs.lemmas.List.{take_more}
-use Rattle.daily_vrps.specs.steps.Exchanging.{IsAfter}
+use Rattle.daily_vrps.proofs.Vocabulary.{◌≡◌, ◌+◌, ◌∷◌, ◌++◌, [], take, sym, ap, ◌∙◌, take_more, IsAfter}
 use Rattle.daily_vrps.proofs.States.{one_more_state}
 use Rattle.daily_vrps.proofs.exchange.Exchange.judge.Goals as goal
 

@@ -1,6 +1,4 @@
-use Rattle.std.proofs.Common.{take}
-use Rattle.daily_vrps.specs.States.{HaveStates}
-use Rattle.daily_vrps.specs.steps.Exchanging.{IsAfter}
+use Rattle.daily_vrps.proofs.Vocabulary.{take, HaveStates, IsAfter}
 use Rattle.daily_vrps.proofs.exchange.Exchange.judge.Given as goal
 
 -- the routes so far have these states

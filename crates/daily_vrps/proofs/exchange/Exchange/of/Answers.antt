@@ -1,9 +1,5 @@
-use Rattle.std.proofs.Common.{refl}
-use Rattle.std.specs.Prelude.{Any, Contains}
-use Rattle.addr.specs.declared.vrp.Vrp.{Vrp}
+use Rattle.daily_vrps.proofs.Vocabulary.{refl, Any, Contains, Vrp, FilterMatches, AreGivingOn}
 use Rattle.payload.specs.VrpSet as set
-use Rattle.slurm.specs.Filter.{FilterMatches}
-use Rattle.daily_vrps.specs.Giving.{AreGivingOn}
 use Rattle.daily_vrps.proofs.Exchanges.{given_left}
 use Rattle.daily_vrps.proofs.VrpSets.{items_such}
 use Rattle.daily_vrps.proofs.exchange.Exchange.of.Goals as goal

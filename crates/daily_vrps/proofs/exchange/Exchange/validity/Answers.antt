@@ -1,4 +1,4 @@
-use Rattle.payload.specs.ValidityState.{state_of}
+use Rattle.daily_vrps.proofs.Vocabulary.{state_of}
 use Rattle.daily_vrps.proofs.Exchanges.{state_after}
 use Rattle.daily_vrps.proofs.exchange.Exchange.validity.Goals as goal
 

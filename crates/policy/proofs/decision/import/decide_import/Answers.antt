@@ -1,9 +1,4 @@
-use Rattle.std.proofs.Common.{List, refl, sym, subst}
-use Rattle.std.proofs.lemmas.Result.{err_from_is_err_and}
-use Rattle.registry.specs.declared.authorization.ImportRow.{ImportRow}
-use Rattle.registry.specs.declared.command.Command.TheVariants.{Import}
-use Rattle.registry.specs.Answer.{IsAccepted}
-use Rattle.registry.specs.Import.{ImportGrows}
+use Rattle.policy.proofs.Vocabulary.{List, refl, sym, subst, err_from_is_err_and, ImportRow, Import, IsAccepted, ImportGrows}
 use Rattle.policy.proofs.Imports.{answers-denied}
 use Rattle.policy.proofs.decision.import.decide_import.Goals as goal
 

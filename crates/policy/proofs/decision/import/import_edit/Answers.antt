@@ -1,5 +1,4 @@
-use Rattle.std.proofs.Common.{◌≡◌, ◌<◌, length, sym, ◌∙◌, arith}
-use Rattle.std.proofs.lemmas.Bool.Decides.{nat_tests}
+use Rattle.policy.proofs.Vocabulary.{◌≡◌, ◌<◌, length, sym, ◌∙◌, arith, nat_tests}
 use Rattle.policy.proofs.Imports.{import-none, denied-unregistered}
 use Rattle.policy.proofs.decision.import.import_edit.Goals as goal
 

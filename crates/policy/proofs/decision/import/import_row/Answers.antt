@@ -1,13 +1,4 @@
-use Rattle.std.proofs.Common.{inr, true, sym, ◌∙◌, Some, Err}
-use Rattle.std.proofs.lemmas.Bool.{false≢true}
-use Rattle.std.proofs.lemmas.Result.{err_from_is_err_and}
-use Rattle.registry.specs.declared.rule.Refusal.{Refusal}
-use Rattle.registry.specs.declared.rule.Refusal.TheVariants.{Denied, Memory}
-use Rattle.registry.specs.declared.rule.Rule.{Rule}
-use Rattle.registry.specs.Import.{JudgesRow, row_command}
-use Rattle.registry.specs.Rows.{rows_of}
-use Rattle.registry.specs.Verdict.{Verdict}
-use Rattle.policy.specs.steps.Part.{IsRefusedBy}
+use Rattle.policy.proofs.Vocabulary.{inr, true, sym, ◌∙◌, Some, Err, false≢true, err_from_is_err_and, Refusal, Denied, Memory, Rule, JudgesRow, row_command, rows_of, Verdict, IsRefusedBy}
 use Rattle.policy.proofs.Parts.{whole-part}
 use Rattle.policy.proofs.decision.import.import_row.Goals as goal
 

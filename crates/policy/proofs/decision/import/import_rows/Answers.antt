@@ -1,7 +1,4 @@
-use Rattle.std.proofs.Common.{◌+◌, Some, refl, sym, ap, subst, arith}
-use Rattle.std.proofs.lemmas.List.{take_all}
-use Rattle.registry.specs.Rows.{Rows, rows_of, RowsIfAny}
-use Rattle.policy.specs.steps.Authorized.{AreAuthorized}
+use Rattle.policy.proofs.Vocabulary.{◌+◌, Some, refl, sym, ap, subst, arith, take_all, Rows, rows_of, RowsIfAny, AreAuthorized}
 use Rattle.policy.proofs.Imports.{of_rows-none, of_rows-more, so_far-start, so_far-more, so_far-denied}
 use Rattle.policy.proofs.decision.import.import_rows.Goals as goal
 

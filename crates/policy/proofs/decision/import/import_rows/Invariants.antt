@@ -1,9 +1,4 @@
-use Rattle.std.proofs.Common.{◌≡◌, Some, take}
-use Rattle.registry.specs.declared.charter.Charter.{Charter}
-use Rattle.registry.specs.Answer.{AtEachHolder}
-use Rattle.registry.specs.Edits.{AreOfRows}
-use Rattle.registry.specs.Rows.{rows_of}
-use Rattle.policy.specs.steps.Authorized.{AreAuthorized}
+use Rattle.policy.proofs.Vocabulary.{◌≡◌, Some, take, Charter, AtEachHolder, AreOfRows, rows_of, AreAuthorized}
 use Rattle.policy.proofs.Imports.{SoFar}
 use Rattle.policy.proofs.decision.import.import_rows.Given as goal
 
