@@ -1,36 +1,18 @@
 -- What the queries of all rows of a table mean over the schema of a desk, and that they select them.
-use Rattle.std.proofs.Common.{◌≡◌, ℕ, true, List, [], ◌∷◌, ◌++◌, map, filter, length, codes, refl, ap, subst, ◌∙◌, IsPermutation}
-use Rattle.std.proofs.lemmas.List.{map-append}
-use Rattle.sqlite.specs.Effect.{Database, Reads}
-use Rattle.sqlite_value.specs.declared.value.Value.TheVariants.{Null}
-use Rattle.sqlite_value.specs.Order.{Row}
-use Rattle.sqlite_trees.proofs.ListLemmas.{all_of, filter_all}
-use Rattle.sqlite_sql.specs.Term.{col, eval, eval_all}
-use Rattle.sqlite_schema.specs.declared.command.Command.{Command}
-use Rattle.sqlite_schema.specs.declared.command.Command.TheVariants.{Select}
+use Rattle.store_open.proofs.Vocabulary.{◌≡◌, ℕ, true, List, [], ◌∷◌, ◌++◌, map, filter, length, codes, refl, ap, subst, ◌∙◌, IsPermutation, map-append, Database, Reads, Null, Row, all_of, filter_all, col, eval, eval_all, Command, Select, SELECT_ALL_CLAIMS, SELECT_ALL_ENTRIES, SELECT_ENTRY_ROWIDS, SELECT_SCHEMA, OverDesk, from_table, no_limit, picks, permuted, shown_at, shown_columns, Means, upwards, columns_and_rowid, SelectsAll, AnswersSelect, claim_places, entry_places}
 use Rattle.sqlite.specs.Given.{IsPlain}
 use Rattle.sqlite.specs.Listing.{understood}
 use Rattle.sqlite_tied.specs.Compute.{everything}
 use Rattle.store_tables.specs.declared.auth.TheConstants.{SELECT_ALL_AUTHS}
-use Rattle.store_tables.specs.declared.claim.TheConstants.{SELECT_ALL_CLAIMS}
-use Rattle.store_tables.specs.declared.entry.TheConstants.{SELECT_ALL_ENTRIES, SELECT_ENTRY_ROWIDS}
 use Rattle.store_tables.specs.declared.exception.TheConstants.{SELECT_ALL_EXCEPTIONS}
 use Rattle.store_tables.specs.declared.granted.TheConstants.{SELECT_ALL_GRANTS}
 use Rattle.store_tables.specs.declared.holder.TheConstants.{SELECT_ALL_HOLDERS}
 use Rattle.store_tables.specs.declared.holding.TheConstants.{SELECT_ALL_SPANS}
-use Rattle.store_tables.specs.declared.meta.TheConstants.{SELECT_SCHEMA}
 use Rattle.store_tables.specs.declared.operator.TheConstants.{SELECT_ALL_OPERATORS}
 use Rattle.store_tables.specs.declared.pool.TheConstants.{SELECT_ALL_PREFIXES}
-use Rattle.store_tables.specs.Tables.{OverDesk}
 use Rattle.store_tables.proofs.ClaimTexts.{all_claims_is, all_entries_is}
-use Rattle.store_tables.proofs.Selecting.{from_table, no_limit, picks, permuted}
-use Rattle.store_tables.proofs.Columns.{shown_at, shown_columns}
 use Rattle.store_tables.proofs.ExceptionTexts.{all_exceptions_is}
-use Rattle.store_tables.proofs.Texts.{Means, upwards}
 use Rattle.store_open.specs.declared.reading.TheConstants.{COUNT_CLAIMS}
-use Rattle.store_open.specs.steps.Numbered.{columns_and_rowid, SelectsAll}
-use Rattle.store_transactions.specs.steps.Statements.{AnswersSelect}
-use Rattle.store_open.specs.steps.Opened.{claim_places, entry_places}
 
 -- SELECT these columns and the rowid FROM the table ORDER BY rowid
 abbrev pub all_of_table : ℕ → List ℕ → List (List ℕ) → Command

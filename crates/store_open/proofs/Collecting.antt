@@ -1,19 +1,5 @@
 -- Values that are taken from rows, one row at a time.
-use Rattle.std.proofs.Common.{◌≡◌, ℕ, ℤ, true, false, List, [], ◌∷◌, ◌++◌, map, Option, Some, None, IfSome, sym, ap, ap₂, subst, ◌∙◌, is_eq, is_lt, int_cmp, arith, IsPermutation}
-use Rattle.std.specs.List.{AllByRecursion}
-use Rattle.std.proofs.lemmas.Int.{ints}
-use Rattle.std.proofs.lemmas.List.{map-append}
-use Rattle.std.proofs.lemmas.List.Elements.{All-from_recursion}
-use Rattle.sqlite_value.specs.declared.value.Value.TheVariants.{Int}
-use Rattle.sqlite_value.specs.Order.{Row, value_cmp}
-use Rattle.sqlite_trees.specs.View.{is_int}
-use Rattle.sqlite_trees.proofs.ListLemmas.{all_weaker, all-permutation, ascending-append}
-use Rattle.sqlite_rules.specs.Lists.{Has}
-use Rattle.sqlite_rules.proofs.ListLemmas.{all_has}
-use Rattle.sqlite_rules.proofs.ProbeLemmas.{mapped_has}
-use Rattle.store_tables.specs.Decode.{ShowsNone, first_columns}
-use Rattle.store_open.specs.TablesRead.{ShowsSome}
-use Rattle.store_open.specs.steps.Numbered.{last_value, is_integer_below, AreRead, AreTaken, EndApart, EndsUpTo, AscendByNumber}
+use Rattle.store_open.proofs.Vocabulary.{◌≡◌, ℕ, ℤ, true, false, List, [], ◌∷◌, ◌++◌, map, Option, Some, None, IfSome, sym, ap, ap₂, subst, ◌∙◌, is_eq, is_lt, int_cmp, arith, IsPermutation, AllByRecursion, ints, map-append, All-from_recursion, Int, Row, value_cmp, is_int, all_weaker, all-permutation, ascending-append, Has, all_has, mapped_has, ShowsNone, first_columns, ShowsSome, last_value, is_integer_below, AreRead, AreTaken, EndApart, EndsUpTo, AscendByNumber}
 use Rattle.store_open.proofs.Rowids.{below_apart}
 
 -- ---- integers that rise

@@ -1,36 +1,10 @@
 -- The query of all entries in the order of their key.
-use Rattle.std.proofs.Common.{◌≡◌, ℕ, ◌+◌, ◌<◌, ◌^◌, true, List, [], ◌∷◌, map, filter, length, codes, drop, get_or, Equal, refl, sym, ap, ap₂, subst, ◌∙◌, arith, is_lt, Ordering, IsPermutation, IsSorted}
-use Rattle.std.specs.Ordering.{ordering_then}
-use Rattle.std.proofs.lemmas.List.{get_or-map, length-map}
-use Rattle.std.proofs.lemmas.List.Elements.{All-from_recursion}
-use Rattle.std.proofs.lemmas.List.Sorted.{IsPermutation-map}
-use Rattle.sqlite.specs.Effect.{Database, Reads}
+use Rattle.store_open.proofs.Vocabulary.{◌≡◌, ℕ, ◌+◌, ◌<◌, ◌^◌, true, List, [], ◌∷◌, map, filter, length, codes, drop, get_or, Equal, refl, sym, ap, ap₂, subst, ◌∙◌, arith, is_lt, Ordering, IsPermutation, IsSorted, ordering_then, get_or-map, length-map, All-from_recursion, IsPermutation-map, Database, Reads, Null, Row, column, value_cmp, then-Equal, value_cmp-Text, all_of, all-permutation, filter_all, map-map, Term, Command, Select, EntryRow, SELECT_ENTRIES_BY_KEY, Claim, OfHolder, entry_cells, named_cells, first_columns, columns, contents, entry, shown_at, shown_columns, entry_row_cmp, of_holder_cmp, from_table, no_limit, permuted, picks, sorted, Means, upwards, AnswersSelect, MakeOfTable, MakeNoneOfTable, EntriesRead, MakeNoneOfRows, MakeOfRows, ShowEntries, shown_entries, entry_places}
 use Rattle.sqlite.specs.Listing.{understood}
-use Rattle.sqlite_value.specs.declared.value.Value.TheVariants.{Null}
 use Rattle.sqlite_value.specs.declared.keys.Key.{Key}
-use Rattle.sqlite_value.specs.Order.{Row, column, value_cmp}
-use Rattle.sqlite_value.proofs.OrderLemmas.{then-Equal, value_cmp-Text}
-use Rattle.sqlite_trees.proofs.ListLemmas.{all_of, all-permutation, filter_all, map-map}
-use Rattle.sqlite_sql.specs.Term.{Term}
-use Rattle.sqlite_schema.specs.declared.command.Command.{Command}
-use Rattle.sqlite_schema.specs.declared.command.Command.TheVariants.{Select}
 use Rattle.sqlite_tied.specs.Compute.{everything}
 use Rattle.addr.proofs.AddressLemmas.{below_widest, first_below}
-use Rattle.store_tables.specs.declared.entry.EntryRow.{EntryRow}
-use Rattle.store_tables.specs.declared.entry.TheConstants.{SELECT_ENTRIES_BY_KEY}
-use Rattle.store_tables.specs.declared.claim.Claim.{Claim}
-use Rattle.store_tables.specs.declared.groups.OfHolder.{OfHolder}
-use Rattle.store_tables.specs.Cells.{entry_cells, named_cells}
-use Rattle.store_tables.specs.Decode.{first_columns}
-use Rattle.store_tables.specs.Tables.{columns, contents, entry}
-use Rattle.store_tables.proofs.Columns.{shown_at, shown_columns}
 use Rattle.store_tables.proofs.GroupCells.{by_entry, entries_alike}
-use Rattle.store_tables.proofs.GroupOrder.{entry_row_cmp, of_holder_cmp}
-use Rattle.store_tables.proofs.Selecting.{from_table, no_limit, permuted, picks, sorted}
-use Rattle.store_tables.proofs.Texts.{Means, upwards}
-use Rattle.store_transactions.specs.steps.Statements.{AnswersSelect}
-use Rattle.store_open.specs.steps.Joining.{MakeOfTable, MakeNoneOfTable, EntriesRead, MakeNoneOfRows, MakeOfRows, ShowEntries, shown_entries}
-use Rattle.store_open.specs.steps.Opened.{entry_places}
 
 abbrev key_order : List (Term × Key)
 key_order = upwards 1 ∷ upwards 2 ∷ upwards 4 ∷ upwards 5 ∷ upwards 6 ∷ []

@@ -1,21 +1,6 @@
 -- Claims with their entries as authorizations.
-use Rattle.std.proofs.Common.{◌≡◌, ◌≤◌, ◌<◌, ◌+◌, ◌==◌, ℕ, true, false, ap, arith, Option, Some, List, [], ◌∷◌, ◌++◌, drop, get_or, length, map, flat_map, refl, subst, sym, ◌∙◌}
-use Rattle.std.proofs.lemmas.Bool.{eqb-true, false≢true}
-use Rattle.std.proofs.Math.ListN.{drop_of_length-le}
-use Rattle.sqlite_trees.proofs.ListLemmas.{all-map, map-map, flat_map-map, flat_map_same_on}
-use Rattle.registry.specs.RoaPrefixes.{AreEntries}
-use Rattle.registry.specs.declared.authorization.Auth.{Auth}
-use Rattle.addr.specs.declared.roa_prefix.RoaPrefix.{RoaPrefix}
-use Rattle.store_tables.specs.declared.claim.Claim.{Claim}
-use Rattle.store_tables.specs.declared.entry.EntryRow.{EntryRow}
-use Rattle.store_tables.specs.declared.groups.Group.{Group}
-use Rattle.store_tables.specs.declared.groups.OfHolder.{OfHolder}
-use Rattle.store_tables.specs.Authorizations.{claim_of}
-use Rattle.store_tables.specs.Groups.{AllApart, AreGroups, HasNoGroups, claim_entry, group_rows, holder_entry}
-use Rattle.store_tables.specs.steps.Groups.{entry_found, entry_if, first_entries, holder_entry_found, holder_entry_if, only_found, only_found_of_holder}
+use Rattle.store_open.proofs.Vocabulary.{◌≡◌, ◌≤◌, ◌<◌, ◌+◌, ◌==◌, ℕ, true, false, ap, arith, Option, Some, List, [], ◌∷◌, ◌++◌, drop, get_or, length, map, flat_map, refl, subst, sym, ◌∙◌, eqb-true, false≢true, drop_of_length-le, all-map, map-map, flat_map-map, flat_map_same_on, AreEntries, Auth, RoaPrefix, Claim, EntryRow, Group, OfHolder, claim_of, AllApart, AreGroups, HasNoGroups, claim_entry, group_rows, holder_entry, entry_found, entry_if, first_entries, holder_entry_found, holder_entry_if, only_found, only_found_of_holder, Walked, claim_unfit, one_claim_more, rows_left, walked_all, walked_none, MakeAuths, named_claim, named_entries}
 use Rattle.store_tables.specs.steps.Ungrouping.{auth_of}
-use Rattle.store_tables.proofs.Grouping.{Walked, claim_unfit, one_claim_more, rows_left, walked_all, walked_none}
-use Rattle.store_open.specs.steps.Opened.{MakeAuths, named_claim, named_entries}
 
 abbrev pub named_row : OfHolder Claim → RoaPrefix → OfHolder EntryRow
 named_row = holder_entry claim_entry

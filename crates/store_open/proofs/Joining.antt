@@ -1,22 +1,6 @@
 -- The walk along claims while the rows of entries come one at a time.
-use Rattle.std.proofs.Common.{◌≡◌, ◌≤◌, ◌<◌, ◌+◌, ℕ, Bool, true, false, MatchBool, List, [], ◌∷◌, ◌++◌, Some, None, map, drop, length, get_or, refl, sym, ap, ap₂, subst, ◌∙◌, arith}
-use Rattle.std.proofs.lemmas.List.{map-append}
-use Rattle.std.proofs.Math.ListN.{drop_of_length-le}
-use Rattle.sqlite_value.specs.Order.{Row}
-use Rattle.registry.specs.RoaPrefixes.{AreEntries}
-use Rattle.addr.specs.declared.roa_prefix.RoaPrefix.{RoaPrefix}
-use Rattle.store_tables.specs.declared.claim.Claim.{Claim}
-use Rattle.store_tables.specs.declared.entry.EntryRow.{EntryRow}
-use Rattle.store_tables.specs.declared.groups.Group.{Group}
-use Rattle.store_tables.specs.declared.groups.OfHolder.{OfHolder}
-use Rattle.store_tables.specs.Cells.{entry_cells, named_cells}
-use Rattle.store_tables.specs.Decode.{EntryRowFits, NamedFits, ShowsNone, first_columns}
-use Rattle.store_tables.specs.Groups.{AllApart, AreGroups}
-use Rattle.store_tables.specs.steps.Groups.{first_entries, with_entry}
-use Rattle.store_tables.proofs.Grouping.{Walked, after_all, first_of, rows_left, unfit_entries, walked_all, walked_more, walked_none}
+use Rattle.store_open.proofs.Vocabulary.{◌≡◌, ◌≤◌, ◌<◌, ◌+◌, ℕ, Bool, true, false, MatchBool, List, [], ◌∷◌, ◌++◌, Some, None, map, drop, length, get_or, refl, sym, ap, ap₂, subst, ◌∙◌, arith, map-append, drop_of_length-le, Row, AreEntries, RoaPrefix, Claim, EntryRow, Group, OfHolder, entry_cells, named_cells, EntryRowFits, NamedFits, ShowsNone, first_columns, AllApart, AreGroups, first_entries, with_entry, Walked, after_all, first_of, rows_left, unfit_entries, walked_all, walked_more, walked_none, AreOfFirst, EachShowsEntry, JoinsRows, MakeNoneOfRows, MakeOfRows, NeverMake, ShowEntries, WalkStands, WalkGoesOn, first_claim_entry, MakeAuths}
 use Rattle.store_tables.proofs.Vocabulary.{append-nil, append_assoc, drop_more}
-use Rattle.store_open.specs.steps.Joining.{AreOfFirst, EachShowsEntry, JoinsRows, MakeNoneOfRows, MakeOfRows, NeverMake, ShowEntries, WalkStands, WalkGoesOn, first_claim_entry}
-use Rattle.store_open.specs.steps.Opened.{MakeAuths}
 use Rattle.store_open.proofs.Collecting.{all_and_one}
 use Rattle.store_open.proofs.SomeAuths.{one_named_entry}
 use Rattle.store_open.proofs.Grouped.{found_named, makes, named_entry_if, named_row, none_made, only_named}

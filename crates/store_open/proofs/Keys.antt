@@ -1,23 +1,6 @@
 -- The claims of which the keys are held.
-use Rattle.std.proofs.Common.{◌≡◌, ◌+◌, ℕ, ℤ, Bool, true, false, List, [], ◌∷◌, ◌++◌, map, drop, get_or, set, length, zero, suc, Option, Some, IfSome, MatchBool, refl, inl, sym, ap, subst, ◌∙◌, is_lt, int_cmp, IsPermutation, IsSorted}
+use Rattle.store_open.proofs.Vocabulary.{◌≡◌, ◌+◌, ℕ, ℤ, Bool, true, false, List, [], ◌∷◌, ◌++◌, map, drop, get_or, set, length, zero, suc, Option, Some, IfSome, MatchBool, refl, inl, sym, ap, subst, ◌∙◌, is_lt, int_cmp, IsPermutation, IsSorted, swap, SwapsInRange, apply_swaps, nat_cmp_total, nat_list_cmp_total, on_total, then_total, drop-map, length-map, map-append, map-set, All-permutation, IsPermutation-map, IsPermutation-trans, Database, Int, Row, has_left, has_right, Claim, EntryRow, OfHolder, ClaimFits, NamedFits, ClaimKey, first_claim_entry, AreOfSome, AreTakenClaims, ClaimsInOrder, ClaimsRead, Collects, ShowsKey, ShowsNoClaim, first_key_entry, key_cmp, key_of, show_claim, last_value}
 use Rattle.std.specs.Cmp.{IsTotalOrder}
-use Rattle.std.specs.List.{swap}
-use Rattle.std.specs.List.Sorted.{SwapsInRange, apply_swaps}
-use Rattle.std.proofs.lemmas.Cmp.{nat_cmp_total, nat_list_cmp_total, on_total, then_total}
-use Rattle.std.proofs.lemmas.List.{drop-map, length-map, map-append, map-set}
-use Rattle.std.proofs.lemmas.List.Sorted.{All-permutation, IsPermutation-map, IsPermutation-trans}
-use Rattle.sqlite.specs.Effect.{Database}
-use Rattle.sqlite_value.specs.declared.value.Value.TheVariants.{Int}
-use Rattle.sqlite_value.specs.Order.{Row}
-use Rattle.sqlite_rules.proofs.ListLemmas.{has_left, has_right}
-use Rattle.store_tables.specs.declared.claim.Claim.{Claim}
-use Rattle.store_tables.specs.declared.entry.EntryRow.{EntryRow}
-use Rattle.store_tables.specs.declared.groups.OfHolder.{OfHolder}
-use Rattle.store_tables.specs.Decode.{ClaimFits, NamedFits}
-use Rattle.store_open.specs.declared.key.ClaimKey.{ClaimKey}
-use Rattle.store_open.specs.steps.Joining.{first_claim_entry}
-use Rattle.store_open.specs.steps.Keys.{AreOfSome, AreTakenClaims, ClaimsInOrder, ClaimsRead, Collects, ShowsKey, ShowsNoClaim, first_key_entry, key_cmp, key_of, show_claim}
-use Rattle.store_open.specs.steps.Numbered.{last_value}
 use Rattle.store_open.proofs.Collecting.{taken_more}
 
 pub key_total : IsTotalOrder key_cmp

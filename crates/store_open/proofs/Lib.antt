@@ -13,3 +13,4 @@ mod Opened
 mod OldRead
 mod MovingDesk
 mod OpenedDesk
+pub mod Vocabulary

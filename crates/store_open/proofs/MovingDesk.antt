@@ -1,28 +1,8 @@
 -- A database of schema 1 that is moved, and whose rows are read, is a desk with what it held.
-use Rattle.std.proofs.Common.{◌≡◌, Bool, true, false, inl, inr, arith, length, [], ◌∷◌, codes, refl, sym, ap, subst, ◌∙◌, IsPermutation, Result, Ok, Err, IfOk, OnOk}
-use Rattle.std.proofs.lemmas.List.Sorted.{Contains-permutation}
-use Rattle.std.specs.Prelude.{Contains}
-use Rattle.sqlite.specs.Effect.{Database}
-use Rattle.sqlite.specs.State.{State, HasCleanDisk, Shows, Survives}
-use Rattle.sqlite_rules.proofs.ListLemmas.{contains_had}
-use Rattle.sqlite_schema.specs.declared.schema.Kind.TheVariants.{Integer}
-use Rattle.sqlite_trees.specs.Tree.{Trees}
-use Rattle.registry.specs.CharterSets.{CharterSets}
+use Rattle.store_open.proofs.Vocabulary.{◌≡◌, Bool, true, false, inl, inr, arith, length, [], ◌∷◌, codes, refl, sym, ap, subst, ◌∙◌, IsPermutation, Result, Ok, Err, IfOk, OnOk, Contains-permutation, Contains, Database, State, HasCleanDisk, Shows, Survives, contains_had, Integer, Trees, CharterSets, meta, desk_schema, required_column, contents, AreMovable, IsMoved, IsWidened, TablesHold, old_tables, old_schema_row, HasOldNumber, not_now, moved_hold, old_schema_if, MovesRows, WidensTables, AreMoved, LeavesOldOrMoved, OpensDesk, OldTablesRead, HoldSomeRows, TablesRead, MovesDesk, HasNumber, ShowsNumber}
 use Rattle.registry.specs.RowsOfAll.{AllRows}
-use Rattle.store_tables.specs.Tables.{meta, desk_schema, required_column, contents}
-use Rattle.store_schema.specs.Moved.{AreMovable, IsMoved, IsWidened}
-use Rattle.store_tables.specs.TablesHold.{TablesHold}
 use Rattle.store_schema.specs.EitherSchema.{EitherSchemaHolds}
-use Rattle.store_schema.specs.OldTables.{old_tables, old_schema_row, HasOldNumber}
-use Rattle.store_schema.proofs.EitherSchema.{not_now}
-use Rattle.store_schema.proofs.Moved.{moved_hold}
 use Rattle.store_schema.proofs.Steps.{are_movable}
-use Rattle.store_schema.specs.Moving.{old_schema_if, MovesRows, WidensTables}
-use Rattle.store_open.specs.Opening.{AreMoved, LeavesOldOrMoved, OpensDesk}
-use Rattle.store_open.specs.OldTablesRead.{OldTablesRead}
-use Rattle.store_open.specs.TablesRead.{HoldSomeRows, TablesRead}
-use Rattle.store_open.specs.steps.Moving.{MovesDesk}
-use Rattle.store_open.specs.steps.Opened.{HasNumber, ShowsNumber}
 use Rattle.store_open.proofs.OldRead.{moved_read, read_movable}
 use Rattle.store_open.proofs.Opened.{all_shown}
 

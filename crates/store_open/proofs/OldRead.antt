@@ -1,24 +1,6 @@
 -- Where the tables of schema 1 read, their rows can be moved, and the tables that they are moved to read.
-use Rattle.std.proofs.Common.{◌≡◌, inl, List, [], ◌∷◌, map, flat_map, refl, subst, ◌∙◌, arith, IsPermutation}
+use Rattle.store_open.proofs.Vocabulary.{◌≡◌, inl, List, [], ◌∷◌, map, flat_map, refl, subst, ◌∙◌, arith, IsPermutation, AllByRecursion, Contains-permutation, IsPermutation-map, IsPermutation-trans, Trees, all_of, all-flat_map, all-map, all-permutation, flat_map_same_on, map-flat_map, contains_had, GrantFits, Auth, OfHolder, claim_of, operator_row, prefix_cells, holding_row, granted_row, schema_row, exception_columns, meta, auth, contents, HasOneEntry, auth_row, claim_columns, entry_columns, AreAuthRows, AreMovable, IsMoved, claim_turned, entry_turned, joined_ones, stays, rows_of_auth, HasSomeOldAuths, OldTablesRead, rows_of_entries, row_of_claim, HasSomeAuths, HasSomeCharter, ShowsHolder, ShowsOfHolder, ShowsException, TablesRead, AreFewOfEach}
 use Rattle.std.specs.Bool.{⊤}
-use Rattle.std.specs.List.{AllByRecursion}
-use Rattle.std.proofs.lemmas.List.Sorted.{Contains-permutation, IsPermutation-map, IsPermutation-trans}
-use Rattle.sqlite_trees.specs.Tree.{Trees}
-use Rattle.sqlite_trees.proofs.ListLemmas.{all_of, all-flat_map, all-map, all-permutation, flat_map_same_on, map-flat_map}
-use Rattle.sqlite_rules.proofs.ListLemmas.{contains_had}
-use Rattle.registry.specs.Values.{GrantFits}
-use Rattle.registry.specs.declared.authorization.Auth.{Auth}
-use Rattle.store_tables.specs.declared.groups.OfHolder.{OfHolder}
-use Rattle.store_tables.specs.Authorizations.{claim_of}
-use Rattle.store_tables.specs.Cells.{operator_row, prefix_cells, holding_row, granted_row, schema_row}
-use Rattle.store_tables.specs.Decode.{exception_columns}
-use Rattle.store_tables.specs.Tables.{meta, auth, contents}
-use Rattle.store_schema.specs.OldTables.{HasOneEntry, auth_row}
-use Rattle.store_schema.specs.Moved.{claim_columns, entry_columns, AreAuthRows, AreMovable, IsMoved}
-use Rattle.store_schema.proofs.Moved.{claim_turned, entry_turned, joined_ones, stays}
-use Rattle.store_open.specs.OldTablesRead.{rows_of_auth, HasSomeOldAuths, OldTablesRead}
-use Rattle.store_open.specs.TablesRead.{rows_of_entries, row_of_claim, HasSomeAuths, HasSomeCharter, ShowsHolder, ShowsOfHolder, ShowsException, TablesRead}
-use Rattle.store_transactions.specs.Files.{AreFewOfEach}
 
 rows_are_auth_rows : (auths : List (OfHolder Auth)) → AreAuthRows (flat_map rows_of_auth auths)
 rows_are_auth_rows auths =

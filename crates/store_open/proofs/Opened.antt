@@ -1,47 +1,14 @@
 -- From what the queries of all rows show to what the tables hold.
-use Rattle.std.proofs.Common.{◌≡◌, ℕ, ◌+◌, ◌<◌, true, false, List, [], ◌∷◌, ◌++◌, map, filter, drop, length, codes, slice_get, Some, None, refl, inl, inr, sym, ap, subst, ◌∙◌, is_eq, arith, IsPermutation}
-use Rattle.std.specs.Prelude.{⊤}
-use Rattle.std.specs.List.{AllByRecursion}
-use Rattle.std.proofs.lemmas.Bool.{both_ways}
-use Rattle.std.proofs.lemmas.List.{length-map}
-use Rattle.std.proofs.lemmas.List.Sorted.{Contains-permutation, IsPermutation-sym}
-use Rattle.sqlite.specs.Effect.{Database}
+use Rattle.store_open.proofs.Vocabulary.{◌≡◌, ℕ, ◌+◌, ◌<◌, true, false, List, [], ◌∷◌, ◌++◌, map, filter, drop, length, codes, slice_get, Some, None, refl, inl, inr, sym, ap, subst, ◌∙◌, is_eq, arith, IsPermutation, ⊤, AllByRecursion, both_ways, length-map, Contains-permutation, IsPermutation-sym, Database, Value, Text, Row, column, value_cmp, rowid, IsAscending, is_int, all_weaker, all_both, all-map, all-permutation, all_from_map, ascending-filter, filter-map, Has, all_has, contains_had, has_filtered, mapped_has, IsSound, Span, CharterSets, IsCharter, Auth, Granted, GrantFits, schema_row, operator_row, prefix_cells, span_cells, grant_cells, holder_row, holding_row, granted_row, first_columns, desk_tables, holder_reference, required_column, meta, operator, pool, holder, holding, granted, slurm, claim, entry, contents, columns, IsTree, AreTrees, names, name_of-true, name_of_itself, all_columns, first_of_all, OfHolder, ShowsSome, ShowsHolder, ShowsOfHolder, HoldSomeRows, TablesRead, HasSomeAuths, row_of_claim, shown_in, ShowsNumber, ShowsCharter, ShowExceptions, ShowHolders, ShowAuths, all_whole, all_referred, once, equal_texts, at_claim, column_after}
 use Rattle.sqlite_value.specs.declared.keys.Collation.TheVariants.{Binary}
-use Rattle.sqlite_value.specs.declared.value.Value.{Value}
-use Rattle.sqlite_value.specs.declared.value.Value.TheVariants.{Text}
-use Rattle.sqlite_value.specs.Order.{Row, column, value_cmp}
-use Rattle.sqlite_trees.specs.Tree.{rowid, IsAscending}
-use Rattle.sqlite_trees.specs.View.{is_int}
-use Rattle.sqlite_trees.proofs.ListLemmas.{all_weaker, all_both, all-map, all-permutation, all_from_map, ascending-filter, filter-map}
 use Rattle.sqlite_schema.specs.declared.schema.Column.{Column}
 use Rattle.sqlite_schema.specs.declared.schema.Kind.TheVariants.{Integer, Text as OfText}
 use Rattle.sqlite_schema.specs.declared.schema.Table.{Table}
 use Rattle.sqlite_schema.specs.Rules.{equal}
-use Rattle.sqlite_rules.specs.Lists.{Has}
-use Rattle.sqlite_rules.proofs.ListLemmas.{all_has, contains_had, has_filtered}
-use Rattle.sqlite_rules.proofs.ProbeLemmas.{mapped_has}
-use Rattle.sqlite_catalog.specs.Listing.{IsSound}
-use Rattle.addr.specs.declared.span.Span.{Span}
-use Rattle.registry.specs.CharterSets.{CharterSets, IsCharter}
-use Rattle.registry.specs.declared.authorization.Auth.{Auth}
-use Rattle.registry.specs.declared.grant.Granted.{Granted}
-use Rattle.registry.specs.Values.{GrantFits}
-use Rattle.store_tables.specs.Cells.{schema_row, operator_row, prefix_cells, span_cells, grant_cells, holder_row, holding_row, granted_row}
-use Rattle.store_tables.specs.Decode.{first_columns}
-use Rattle.store_tables.specs.Tables.{desk_tables, holder_reference, required_column, meta, operator, pool, holder, holding, granted, slurm, claim, entry, contents, columns, IsTree, AreTrees}
 use Rattle.store_tables.proofs.Inserting.{each_table}
-use Rattle.store_tables.proofs.PartLemmas.{names, name_of-true, name_of_itself}
-use Rattle.store_tables.proofs.ReadLemmas.{all_columns, first_of_all}
-use Rattle.store_tables.specs.declared.groups.OfHolder.{OfHolder}
-use Rattle.store_open.specs.TablesRead.{ShowsSome, ShowsHolder, ShowsOfHolder, HoldSomeRows, TablesRead, HasSomeAuths, row_of_claim}
-use Rattle.store_open.specs.steps.Numbered.{shown_in}
-use Rattle.store_open.specs.steps.Opened.{ShowsNumber, ShowsCharter, ShowExceptions, ShowHolders, ShowAuths}
-use Rattle.store_transactions.proofs.Obeyed.{all_whole, all_referred, once, equal_texts}
-use Rattle.store_transactions.proofs.KeyedRows.{at_claim}
 use Rattle.store_open.proofs.SomeAuths.{auths_read}
 use Rattle.store_open.proofs.SomeRows.{IsPartRow, have_entries, holds_parts, rows_in}
 use Rattle.store_transactions.proofs.HeldRows.{files_few}
-use Rattle.store_tables.proofs.Columns.{column_after}
 
 module _ (db : Database) (tables : db.schema.tables ≡ desk_tables) (sound : IsSound db.schema db.trees) where
   -- a table of so many columns shows all of its rows

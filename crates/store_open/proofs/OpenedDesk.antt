@@ -1,14 +1,6 @@
 -- What opening leaves of a database, whatever the limit of its steps was.
-use Rattle.std.proofs.Common.{◌≡◌, inl, inr, false, arith, length, ℕ, Option, sym, ap, subst, ◌∙◌}
-use Rattle.sqlite.specs.Effect.{Database}
-use Rattle.sqlite.specs.State.{State}
-use Rattle.registry.specs.CharterSets.{CharterSets}
-use Rattle.store_tables.specs.Tables.{desk_tables}
-use Rattle.store_tables.specs.TablesHold.{TablesHold}
-use Rattle.store_schema.proofs.EitherSchema.{hold_now}
-use Rattle.store_open.specs.Opening.{LeavesOldOrMoved, OpensDesk}
+use Rattle.store_open.proofs.Vocabulary.{◌≡◌, inl, inr, false, arith, length, ℕ, Option, sym, ap, subst, ◌∙◌, Database, State, CharterSets, desk_tables, TablesHold, hold_now, LeavesOldOrMoved, OpensDesk, HoldSomeRows, TablesRead}
 use Rattle.store_transactions.specs.Queries.{ShowsTheSame}
-use Rattle.store_open.specs.TablesRead.{HoldSomeRows, TablesRead}
 
 -- a desk whose rows were read, and nothing else
 pub opens_desk : (a f : State) (charter : CharterSets) → a.in_transaction ≡ false → a.now.schema.tables ≡ desk_tables → a.committed ≡ a.now → ShowsTheSame a f

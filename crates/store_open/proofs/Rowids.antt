@@ -1,29 +1,9 @@
 -- Rows that end in their rowids, and the trees that they are of.
-use Rattle.std.proofs.Common.{◌≡◌, ℕ, suc, ◌+◌, ◌-◌, true, false, List, [], ◌∷◌, ◌++◌, map, drop, length, get_or, All, Result, Ok, Err, IfOk, OnOk, refl, sym, ap, subst, ◌∙◌, is_eq, is_lt, int_cmp, Ordering, Less, Equal, Greater, arith, IsPermutation}
-use Rattle.std.specs.List.{AllAdjacentBelow, AllByRecursion}
-use Rattle.std.proofs.lemmas.Int.{ints}
-use Rattle.std.specs.Prelude.{Any}
-use Rattle.std.specs.Global.{Vec}
-use Rattle.std.proofs.lemmas.List.{length-append, length-map}
+use Rattle.store_open.proofs.Vocabulary.{◌≡◌, ℕ, suc, ◌+◌, ◌-◌, true, false, List, [], ◌∷◌, ◌++◌, map, drop, length, get_or, All, Result, Ok, Err, IfOk, OnOk, refl, sym, ap, subst, ◌∙◌, is_eq, is_lt, int_cmp, Ordering, Less, Equal, Greater, arith, IsPermutation, AllAdjacentBelow, AllByRecursion, ints, Any, Vec, length-append, length-map, IsPermutation-map, IsPermutation-sym, Value, Null, Int, Row, column, value_cmp, value_cmp-Int, rowid, IsAscending, is_int, map-map, all_weaker, all_from_map, all-permutation, ascending_from_map, ascending_weaker, all_has, any_has, ShowsNone, first_columns, columns, contents, IsTree, StoreFault, ShowsSome, ascending_moved, last_value, is_integer_below, AscendByNumber, columns_and_rowid, AreRead}
 use Rattle.std.proofs.lemmas.List.FromFn.{fill_by_all}
 use lib.ListN.{get_or-append}
 use lib.Seq.{get_or-append_seam}
-use Rattle.std.proofs.lemmas.List.Sorted.{IsPermutation-map, IsPermutation-sym}
-use Rattle.sqlite_value.specs.declared.value.Value.{Value}
-use Rattle.sqlite_value.specs.declared.value.Value.TheVariants.{Null, Int}
-use Rattle.sqlite_value.specs.Order.{Row, column, value_cmp}
-use Rattle.sqlite_value.proofs.OrderLemmas.{value_cmp-Int}
-use Rattle.sqlite_trees.specs.Tree.{rowid, IsAscending}
-use Rattle.sqlite_trees.specs.View.{is_int}
-use Rattle.sqlite_trees.proofs.ListLemmas.{map-map, all_weaker, all_from_map, all-permutation, ascending_from_map, ascending_weaker}
-use Rattle.sqlite_rules.proofs.ListLemmas.{all_has, any_has}
-use Rattle.store_tables.specs.Decode.{ShowsNone, first_columns}
-use Rattle.store_tables.specs.Tables.{columns, contents, IsTree}
-use Rattle.store_transactions.specs.declared.fault.StoreFault.{StoreFault}
-use Rattle.store_open.specs.TablesRead.{ShowsSome}
 use Rattle.store_tables.proofs.TreeRows.{alike_flip}
-use Rattle.store_transactions.proofs.Ascending.{ascending_moved}
-use Rattle.store_open.specs.steps.Numbered.{last_value, is_integer_below, AscendByNumber, columns_and_rowid, AreRead}
 
 -- ---- from each row and the next to all rows
 

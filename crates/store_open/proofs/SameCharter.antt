@@ -1,25 +1,11 @@
 -- Tables hold one charter at most.
-use Rattle.std.proofs.Common.{◌≡◌, ℕ, ◌<◌, zero, suc, Bool, true, false, ◌||◌, List, [], ◌∷◌, map, length, get_or, refl, sym, ap, ◌∙◌, subst, add-one, arith, Ordering, Less, Equal, Greater, is_lt, nat_eq, nat_cmp, IsPermutation, IsSorted}
-use Rattle.std.specs.Cmp.Lexicographic.{pointwise, slice_cmp}
+use Rattle.store_open.proofs.Vocabulary.{◌≡◌, ℕ, ◌<◌, zero, suc, Bool, true, false, ◌||◌, List, [], ◌∷◌, map, length, get_or, refl, sym, ap, ◌∙◌, subst, add-one, arith, Ordering, Less, Equal, Greater, is_lt, nat_eq, nat_cmp, IsPermutation, IsSorted, pointwise, slice_cmp, ordering_reverse, IsStrictlySortedBy, and_from, eq-eqb, nat_list_cmp_total, IsPermutation-sym, IsPermutation-trans, Trees, IsAscending, Row, prefix_eq, CharterSets, IsCharter, has_repeat, operator_row, prefix_cells, HoldsCharter, one_prefix, values_shown}
 use Rattle.std.specs.FinMap.{nat_cmp-IsAntisymmetric, slice_cmp-IsAntisymmetric}
-use Rattle.std.specs.Ordering.{ordering_reverse}
-use Rattle.std.specs.List.Sorted.{IsStrictlySortedBy}
-use Rattle.std.proofs.lemmas.Bool.{and_from, eq-eqb}
-use Rattle.std.proofs.lemmas.Cmp.{nat_list_cmp_total}
-use Rattle.std.proofs.lemmas.List.Sorted.{IsPermutation-sym, IsPermutation-trans}
 use Rattle.std.proofs.lemmas.Map.Keys.{sorted_head, sorted_tail, sorted_from_all_adjacent}
 use Rattle.sqlite_keyed.proofs.SortLemmas.{sorted_unique}
-use Rattle.sqlite_trees.specs.Tree.{Trees, IsAscending}
-use Rattle.sqlite_value.specs.Order.{Row}
-use Rattle.addr.specs.Address.{prefix_eq}
 use Rattle.addr.specs.Order.{IsOrder, prefix_cmp}
 use Rattle.addr.proofs.Equality.{prefix_itself}
 use Rattle.addr.proofs.OrderLemmas.{prefix_order}
-use Rattle.registry.specs.CharterSets.{CharterSets, IsCharter}
-use Rattle.registry.specs.Repeats.{has_repeat}
-use Rattle.store_tables.specs.Cells.{operator_row, prefix_cells}
-use Rattle.store_tables.specs.TablesHold.{HoldsCharter}
-use Rattle.store_tables.proofs.CellsOnce.{one_prefix, values_shown}
 
 -- ---- a sorted list in which nothing is twice has no other order that is sorted
 

@@ -1,49 +1,11 @@
 -- The authorizations that the rows of claims and of entries make, and that tables that read show them.
-use Rattle.std.proofs.Common.{codes, ◌≡◌, ◌≢◌, ℕ, true, false, List, [], ◌∷◌, ◌++◌, map, flat_map, length, take, drop, refl, sym, ap, subst, ◌∙◌, arith, is_eq, nat_cmp, Ordering, Less, Equal, Greater, IsPermutation, IsSorted, IsTrue, Result, OnOk}
-use Rattle.std.specs.Cmp.Lexicographic.{slice_cmp}
-use Rattle.std.specs.List.{AllByRecursion}
-use Rattle.std.specs.Ordering.{ordering_then}
-use Rattle.std.proofs.lemmas.Bool.{and_parts, and_from, false_from_ne_true, le-leb}
+use Rattle.store_open.proofs.Vocabulary.{codes, ◌≡◌, ◌≢◌, ℕ, true, false, List, [], ◌∷◌, ◌++◌, map, flat_map, length, take, drop, refl, sym, ap, subst, ◌∙◌, arith, is_eq, nat_cmp, Ordering, Less, Equal, Greater, IsPermutation, IsSorted, IsTrue, Result, OnOk, slice_cmp, AllByRecursion, ordering_then, and_parts, and_from, false_from_ne_true, le-leb, recursion_from_All, IsPermutation-sym, IsPermutation-trans, IsPermutation-map, on_ok_weaker, Database, Text, Row, column, IsAscending, all_weaker, all_both, all-map, all-flat_map, all_from_map, all-permutation, ascending-map, ascending_from_map, ascending_weaker, map-map, map-flat_map, flat_map_same_on, Integer, IsSound, FitsMaxLength, fits_max_length, is_name, AuthFits, AreEntries, Auth, RoaPrefix, Claim, EntryRow, Group, OfHolder, claim_of, entry_rows_of, claim_cells, claim_row, entry_cells, entry_row, named_cells, ClaimFits, EntryRowFits, NamedFits, AllApart, claim_entry, group_rows, desk_tables, auth, claim, entry, required_column, contents, columns, IsTree, one_claim, one_entry_row, values_shown, claim_cmp, claim_orders, entry_row_cmp, groups_in_order, holder_orders, of_holder_cmp, rising_apart, AreOrders, HaveInOrder, all_columns, ShowsSome, HasSomeAuths, row_of_claim, rows_of_entries, shown_in, AreRead, MakeAuths, ShowAuths, claim_places, entry_places, named_claim, named_entries, all_claims_differ, at_claim, at_entry, ascending_moved, all_whole}
 use Rattle.std.proofs.lemmas.Bool.Decides.{nat_tests}
-use Rattle.std.proofs.lemmas.List.Elements.{recursion_from_All}
-use Rattle.std.proofs.lemmas.List.Sorted.{IsPermutation-sym, IsPermutation-trans, IsPermutation-map}
-use Rattle.std.proofs.lemmas.Result.{on_ok_weaker}
 use Rattle.std.proofs.lemmas.Map.Text.{is_eq-slice_cmp}
-use Rattle.sqlite.specs.Effect.{Database}
-use Rattle.sqlite_value.specs.declared.value.Value.TheVariants.{Text}
-use Rattle.sqlite_value.specs.Order.{Row, column}
-use Rattle.sqlite_trees.specs.Tree.{IsAscending}
-use Rattle.sqlite_trees.proofs.ListLemmas.{all_weaker, all_both, all-map, all-flat_map, all_from_map, all-permutation, ascending-map, ascending_from_map, ascending_weaker, map-map, map-flat_map, flat_map_same_on}
-use Rattle.sqlite_schema.specs.declared.schema.Kind.TheVariants.{Integer}
-use Rattle.sqlite_catalog.specs.Listing.{IsSound}
-use Rattle.addr.specs.Address.{FitsMaxLength, fits_max_length}
-use Rattle.addr.specs.Name.{is_name}
-use Rattle.registry.specs.Values.{AuthFits}
-use Rattle.registry.specs.RoaPrefixes.{AreEntries}
 use Rattle.registry.specs.Verdict.{fit_lengths}
-use Rattle.registry.specs.declared.authorization.Auth.{Auth}
-use Rattle.addr.specs.declared.roa_prefix.RoaPrefix.{RoaPrefix}
 use Rattle.registry.proofs.Names.{same_name-true}
-use Rattle.store_tables.specs.declared.claim.Claim.{Claim}
-use Rattle.store_tables.specs.declared.entry.EntryRow.{EntryRow}
-use Rattle.store_tables.specs.declared.groups.Group.{Group}
-use Rattle.store_tables.specs.declared.groups.OfHolder.{OfHolder}
-use Rattle.store_tables.specs.Authorizations.{claim_of, entry_rows_of}
-use Rattle.store_tables.specs.Cells.{claim_cells, claim_row, entry_cells, entry_row, named_cells}
-use Rattle.store_tables.specs.Decode.{ClaimFits, EntryRowFits, NamedFits}
-use Rattle.store_tables.specs.Groups.{AllApart, claim_entry, group_rows}
-use Rattle.store_tables.specs.Tables.{desk_tables, auth, claim, entry, required_column, contents, columns, IsTree}
-use Rattle.store_tables.proofs.CellsOnce.{one_claim, one_entry_row, values_shown}
-use Rattle.store_tables.proofs.GroupOrder.{claim_cmp, claim_orders, entry_row_cmp, groups_in_order, holder_orders, of_holder_cmp, rising_apart, AreOrders, HaveInOrder}
-use Rattle.store_tables.proofs.ReadLemmas.{all_columns}
 use Rattle.store_transactions.specs.Laws.{number_columns}
-use Rattle.store_open.specs.TablesRead.{ShowsSome, HasSomeAuths, row_of_claim, rows_of_entries}
-use Rattle.store_open.specs.steps.Numbered.{shown_in, AreRead}
-use Rattle.store_open.specs.steps.Opened.{MakeAuths, ShowAuths, claim_places, entry_places, named_claim, named_entries}
 use Rattle.store_open.proofs.Grouped.{group_of, makes, named_row, same_rows}
-use Rattle.store_transactions.proofs.KeyedRows.{all_claims_differ, at_claim, at_entry}
-use Rattle.store_transactions.proofs.Ascending.{ascending_moved}
-use Rattle.store_transactions.proofs.Obeyed.{all_whole}
 
 -- ---- in range
 

@@ -1,24 +1,6 @@
 -- The rows of every holder that tables hold whose rows show values.
-use Rattle.std.proofs.Common.{◌≡◌, ◌≢◌, ℕ, ◌<◌, Bool, true, false, cond, List, [], ◌∷◌, ◌++◌, map, flat_map, filter, length, Option, Some, None, refl, inl, sym, ap, subst, ◌∙◌, arith, IsPermutation}
-use Rattle.std.specs.List.{AllByRecursion}
-use Rattle.std.proofs.lemmas.List.Elements.{filter-append}
-use Rattle.std.proofs.lemmas.List.Sorted.{length_permutation}
-use Rattle.sqlite_value.specs.declared.value.Value.TheVariants.{Text}
-use Rattle.sqlite_value.specs.Order.{Row, column}
-use Rattle.sqlite_trees.proofs.ListLemmas.{all_of, all_weaker, all-filter, all-map, all-flat_map, all-permutation, filter_all, filter_none, IsPermutation-filter, IsPermutation-same}
-use Rattle.sqlite_rules.specs.Lists.{Has}
-use Rattle.sqlite_rules.proofs.ListLemmas.{all_has, has_filtered, has_kept}
-use Rattle.addr.specs.declared.span.Span.{Span}
-use Rattle.registry.specs.declared.authorization.Auth.{Auth}
-use Rattle.registry.specs.declared.grant.Granted.{Granted}
-use Rattle.registry.specs.RoaPrefixes.{AreEntries}
+use Rattle.store_open.proofs.Vocabulary.{◌≡◌, ◌≢◌, ℕ, ◌<◌, Bool, true, false, cond, List, [], ◌∷◌, ◌++◌, map, flat_map, filter, length, Option, Some, None, refl, inl, sym, ap, subst, ◌∙◌, arith, IsPermutation, AllByRecursion, filter-append, length_permutation, Text, Row, column, all_of, all_weaker, all-filter, all-map, all-flat_map, all-permutation, filter_all, filter_none, IsPermutation-filter, IsPermutation-same, Has, all_has, has_filtered, has_kept, Span, Auth, Granted, AreEntries, OfHolder, EachHasEntries, HaveEntries, claim_of, entry_rows_of, holder_row, holding_row, granted_row, claim_row, entry_row, Part, HoldsPart, part_rows, is_name_of, is_text, holder_part, holding_part, granted_part, claim_part, entry_part, names, name_of-true, name_of_itself, row_of_claim, rows_of_entries}
 use Rattle.registry.specs.Rows.{Rows}
-use Rattle.store_tables.specs.declared.groups.OfHolder.{OfHolder}
-use Rattle.store_tables.specs.Authorizations.{EachHasEntries, HaveEntries, claim_of, entry_rows_of}
-use Rattle.store_tables.specs.Cells.{holder_row, holding_row, granted_row, claim_row, entry_row}
-use Rattle.store_tables.specs.TablesHold.{Part, HoldsPart, part_rows, is_name_of, is_text, holder_part, holding_part, granted_part, claim_part, entry_part}
-use Rattle.store_tables.proofs.PartLemmas.{names, name_of-true, name_of_itself}
-use Rattle.store_open.specs.TablesRead.{row_of_claim, rows_of_entries}
 
 -- ---- the rows of one name
 

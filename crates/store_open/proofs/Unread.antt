@@ -1,39 +1,8 @@
 -- Tables that read show values of the types that each query asks for.
-use Rattle.std.proofs.Common.{◌≡◌, inl, inr, ℕ, Bool, true, false, ◌||◌, List, [], ◌∷◌, map, drop, length, Result, Ok, Err, IfOk, OnErr, nat_eq, refl, sym, ap, subst, ◌∙◌, arith, IsPermutation, IsTrue}
-use Rattle.std.specs.Prelude.{⊤, Any}
-use Rattle.std.specs.Cmp.Lexicographic.{pointwise}
-use Rattle.std.specs.List.{AllByRecursion}
-use Rattle.std.proofs.lemmas.Bool.{both_ways}
-use Rattle.std.proofs.lemmas.Cmp.{nat_list_eq_equiv}
-use Rattle.std.proofs.lemmas.List.{length-map}
-use Rattle.std.proofs.lemmas.List.Elements.{recursion_from_All}
-use Rattle.std.proofs.lemmas.List.Sorted.{IsPermutation-sym, IsPermutation-trans, IsPermutation-map, length_permutation}
-use Rattle.sqlite.specs.Effect.{Database}
-use Rattle.sqlite_value.specs.declared.value.Value.TheVariants.{Text}
-use Rattle.sqlite_value.specs.Order.{Row}
-use Rattle.sqlite_trees.proofs.ListLemmas.{map-map, all_of, all_weaker, all-map, all-permutation}
-use Rattle.sqlite_rules.specs.Lists.{Has}
-use Rattle.sqlite_rules.proofs.ListLemmas.{has_contained, contains_had, any_has}
-use Rattle.sqlite_rules.proofs.ProbeLemmas.{mapped_has, has_mapped}
-use Rattle.addr.specs.Address.{prefix_eq}
-use Rattle.addr.specs.Name.{is_name}
+use Rattle.store_open.proofs.Vocabulary.{◌≡◌, inl, inr, ℕ, Bool, true, false, ◌||◌, List, [], ◌∷◌, map, drop, length, Result, Ok, Err, IfOk, OnErr, nat_eq, refl, sym, ap, subst, ◌∙◌, arith, IsPermutation, IsTrue, ⊤, Any, pointwise, AllByRecursion, both_ways, nat_list_eq_equiv, length-map, recursion_from_All, IsPermutation-sym, IsPermutation-trans, IsPermutation-map, length_permutation, Database, Text, Row, map-map, all_of, all_weaker, all-map, all-permutation, Has, has_contained, contains_had, any_has, mapped_has, has_mapped, prefix_eq, is_name, AreAllowedCounts, CharterSets, has_repeat, IsCount, GrantFits, schema_row, operator_row, prefix_cells, span_cells, grant_cells, holder_row, holding_row, granted_row, exception_row, ExceptionRowFits, meta, operator, pool, holder, holding, granted, slurm, contents, columns, one_prefix, values_shown, StoreFault, Schema, ShowsSome, ShowsHolder, ShowsOfHolder, TablesRead, columns_and_rowid, shown_in, AreRead, old_schema_row, HasNumber, number_row, ShowsRows, ShowsCharter, grant_shown, exception_places}
 use Rattle.addr.specs.declared.prefix.Prefix.{Prefix}
-use Rattle.registry.specs.CharterSets.{AreAllowedCounts, CharterSets}
-use Rattle.registry.specs.Repeats.{has_repeat}
-use Rattle.registry.specs.Values.{IsCount, GrantFits}
 use Rattle.registry.proofs.Repeats.{has_repeat-moved, prefix_eq-flips}
 use Rattle.store_tables.specs.declared.holder.Registered.{Registered}
-use Rattle.store_tables.specs.Cells.{schema_row, operator_row, prefix_cells, span_cells, grant_cells, holder_row, holding_row, granted_row, exception_row}
-use Rattle.store_tables.specs.Decode.{ExceptionRowFits}
-use Rattle.store_tables.specs.Tables.{meta, operator, pool, holder, holding, granted, slurm, contents, columns}
-use Rattle.store_tables.proofs.CellsOnce.{one_prefix, values_shown}
-use Rattle.store_transactions.specs.declared.fault.StoreFault.{StoreFault}
-use Rattle.store_transactions.specs.declared.fault.StoreFault.TheVariants.{Schema}
-use Rattle.store_open.specs.TablesRead.{ShowsSome, ShowsHolder, ShowsOfHolder, TablesRead}
-use Rattle.store_open.specs.steps.Numbered.{columns_and_rowid, shown_in, AreRead}
-use Rattle.store_schema.specs.OldTables.{old_schema_row}
-use Rattle.store_open.specs.steps.Opened.{HasNumber, number_row, ShowsRows, ShowsCharter}
-use Rattle.store_tables.proofs.Columns.{grant_shown, exception_places}
 
 -- ---- what was read
 

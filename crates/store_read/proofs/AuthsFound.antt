@@ -1,42 +1,10 @@
 -- The authorizations of a holder, out of its claims and the rows of its entries.
-use Rattle.std.proofs.Common.{◌≡◌, ◌≢◌, ℕ, suc, ◌<◌, ◌^◌, false, List, [], ◌∷◌, map, flat_map, get_or, filter, ◌+◌, true, Option, Some, None, Ordering, Less, refl, sym, ap, subst, ◌∙◌, arith, is_lt, is_eq, nat_cmp, IsPermutation, IsSorted, IsSortedByKey, int_cmp, pos}
-use Rattle.std.specs.Prelude.{AllPairs, Err, IfOk, MatchOption, Result}
-use Rattle.std.specs.Option.{ok_or}
-use Rattle.std.specs.List.{AllByRecursion}
-use Rattle.std.specs.Ordering.{on}
-use Rattle.std.proofs.lemmas.Int.{ints}
-use Rattle.std.proofs.lemmas.Bool.{false_from_ne_true}
-use Rattle.std.proofs.lemmas.List.{get_or-map, length-map, map-id}
-use Rattle.std.proofs.lemmas.List.Sorted.{IsPermutation-map, IsPermutation-sym}
-use Rattle.sqlite.specs.Effect.{Database, IsDatabase}
-use Rattle.sqlite_value.specs.declared.value.Value.TheVariants.{Text}
-use Rattle.sqlite_value.specs.Order.{Row, column, value_cmp}
-use Rattle.sqlite_value.proofs.OrderLemmas.{value_cmp-Int}
-use Rattle.sqlite_rules.proofs.ListLemmas.{all_from, contains_had}
-use Rattle.sqlite_rules.proofs.ProbeLemmas.{mapped_has}
-use Rattle.sqlite_trees.specs.Tree.{Trees, IsAscending}
-use Rattle.sqlite_trees.proofs.ListLemmas.{all-map, ascending-map, ascending_weaker, flat_map-map, map-map}
-use Rattle.addr.proofs.AddressLemmas.{below_widest, first_below}
-use Rattle.registry.specs.CharterSets.{CharterSets}
-use Rattle.registry.specs.RoaPrefixes.{AreEntries}
-use Rattle.registry.specs.Rows.{Rows}
-use Rattle.registry.specs.RowsOfAll.{AllRows}
-use Rattle.registry.specs.declared.authorization.Auth.{Auth}
-use Rattle.store_tables.specs.declared.claim.Claim.{Claim}
-use Rattle.store_tables.specs.declared.entry.EntryRow.{EntryRow}
+use Rattle.store_read.proofs.Vocabulary.{◌≡◌, ◌≢◌, ℕ, suc, ◌<◌, ◌^◌, false, List, [], ◌∷◌, map, flat_map, get_or, filter, ◌+◌, true, Option, Some, None, Ordering, Less, refl, sym, ap, subst, ◌∙◌, arith, is_lt, is_eq, nat_cmp, IsPermutation, IsSorted, IsSortedByKey, int_cmp, pos, AllPairs, Err, IfOk, MatchOption, Result, ok_or, AllByRecursion, on, ints, false_from_ne_true, get_or-map, length-map, map-id, IsPermutation-map, IsPermutation-sym, Database, IsDatabase, Text, Row, column, value_cmp, value_cmp-Int, all_from, contains_had, mapped_has, Trees, IsAscending, all-map, ascending-map, ascending_weaker, flat_map-map, map-map, below_widest, first_below, CharterSets, AreEntries, Rows, AllRows, Auth, Claim, EntryRow, AreAuths, NumbersRise, claim_of, entry_rows_of, claim_cells, claim_row, entry_cells, number_cell, claim_entry, group_rows, claim, contents, desk_tables, TablesHold, claim_part, items_if_any, part_rows, by_entry, entries_alike, names, ClaimsDiffer, number_columns}
 use Rattle.store_tables.specs.declared.groups.Group.{Group}
-use Rattle.store_tables.specs.Authorizations.{AreAuths, NumbersRise, claim_of, entry_rows_of}
-use Rattle.store_tables.specs.Cells.{claim_cells, claim_row, entry_cells, number_cell}
-use Rattle.store_tables.specs.Groups.{claim_entry, group_rows}
 use Rattle.store_tables.specs.steps.Ungrouping.{auth_of, group_of}
-use Rattle.store_tables.specs.Tables.{claim, contents, desk_tables}
-use Rattle.store_tables.specs.TablesHold.{TablesHold, claim_part, items_if_any, part_rows}
-use Rattle.store_tables.proofs.GroupCells.{by_entry, entries_alike}
 use Rattle.store_tables.proofs.GroupNeeds.{claims_grouped_once}
 use Rattle.store_tables.proofs.GroupOrder.{claim_cmp, claim_orders, entry_row_cmp, groups_in_order}
-use Rattle.store_tables.proofs.PartLemmas.{names}
 use Rattle.store_tables.proofs.Ungrouping.{grouped, ungrouped}
-use Rattle.store_transactions.specs.Laws.{ClaimsDiffer, number_columns}
 
 -- ---- lists in order
 

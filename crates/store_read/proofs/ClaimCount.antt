@@ -1,33 +1,7 @@
 -- How many authorizations a holder has: the number of its claims.
-use Rattle.std.proofs.Common.{◌≡◌, ℕ, min, List, [], ◌∷◌, filter, length, slice_get, unwrap_or, Option, Some, None, IsTrue, arith, refl, sym, ap, subst, ◌∙◌}
-use Rattle.std.proofs.lemmas.List.{length-map}
-use Rattle.std.proofs.lemmas.List.Sorted.{length_permutation}
-use Rattle.std.specs.Option.{ok_or}
-use Rattle.std.specs.Prelude.{IfOk}
-use Rattle.sqlite.specs.State.{State, Shown}
+use Rattle.store_read.proofs.Vocabulary.{◌≡◌, ℕ, min, List, [], ◌∷◌, filter, length, slice_get, unwrap_or, Option, Some, None, IsTrue, arith, refl, sym, ap, subst, ◌∙◌, length-map, length_permutation, ok_or, IfOk, State, Shown, as_count, Term, Null, Text, Row, column, CharterSets, Rows, AllRows, IsU32, number_cell, Decodes, desk_tables, contents, TablesHold, part_rows, claim_part, COUNT_HOLDER_CLAIMS, count_claims_is, names, picks, holder_test, equals, reads_desk, StoreFault, auths_held}
 use Rattle.sqlite_sql.specs.Aggregate.{count}
-use Rattle.sqlite_sql.specs.Query.{as_count}
-use Rattle.sqlite_sql.specs.Term.{Term}
-use Rattle.sqlite_value.specs.declared.value.Value.TheVariants.{Null, Text}
-use Rattle.sqlite_value.specs.Order.{Row, column}
-use Rattle.registry.specs.CharterSets.{CharterSets}
-use Rattle.registry.specs.Rows.{Rows}
-use Rattle.registry.specs.RowsOfAll.{AllRows}
-use Rattle.registry.specs.Values.{IsU32}
-use Rattle.store_tables.specs.Cells.{number_cell}
-use Rattle.store_tables.specs.Decode.{Decodes}
-use Rattle.store_tables.specs.Tables.{desk_tables, contents}
-use Rattle.store_tables.specs.TablesHold.{TablesHold, part_rows, claim_part}
-use Rattle.store_tables.specs.declared.claim.TheConstants.{COUNT_HOLDER_CLAIMS}
-use Rattle.store_tables.proofs.ClaimTexts.{count_claims_is}
 use Rattle.store_tables.proofs.Counting.{counted}
-use Rattle.store_tables.proofs.PartLemmas.{names}
-use Rattle.store_tables.proofs.Selecting.{picks}
-use Rattle.store_tables.proofs.Testing.{holder_test}
-use Rattle.store_tables.proofs.Texts.{equals}
-use Rattle.store_transactions.proofs.QueryLemmas.{reads_desk}
-use Rattle.store_transactions.specs.declared.fault.StoreFault.{StoreFault}
-use Rattle.store_read.specs.Loads.{auths_held}
 use Rattle.store_read.proofs.Finding.{of_contents}
 
 -- a holder has a claim for each authorization

@@ -1,25 +1,8 @@
 -- The payloads that are of one of some claims. The claims rise by their holders and numbers, so a binary search finds one.
-use Rattle.std.proofs.Common.{◌≡◌, ℕ, ◌+◌, ◌<◌, Bool, true, false, cond, ◌||◌, List, [], ◌∷◌, ◌++◌, map, length, get_or, MatchBool, Result, Ok, Err, is_ok, inl, inr, refl, sym, ap, ap₂, subst, ◌∙◌, arith, append-nil, IsSorted}
+use Rattle.store_read.proofs.Vocabulary.{◌≡◌, ℕ, ◌+◌, ◌<◌, Bool, true, false, cond, ◌||◌, List, [], ◌∷◌, ◌++◌, map, length, get_or, MatchBool, Result, Ok, Err, is_ok, inl, inr, refl, sym, ap, ap₂, subst, ◌∙◌, arith, append-nil, IsSorted, list_any, cases_lt, on_total, then_total, get_or-map, length-map, map-append, filter-append, list_any_none, list_any_at, searchable_from_sorted, Row, column, value_cmp_total, Has, has_left, has_right, Vrp, VrpFits, vrp_cells, ShowsNone, ClaimKey, claim_key, key_cells, payload_of, payload_key, key_order, is_claimed, of_claims, ClaimsRise, ShowVrps}
 use Rattle.std.specs.Cmp.{IsTotalOrder}
 use Rattle.std.specs.List.Sorted.{IsBinarySearchResult, IsSearchInRange}
-use Rattle.std.specs.List.{list_any}
 use Rattle.std.specs.Ordering.{is_eq, is_lt}
-use Rattle.std.proofs.lemmas.Bool.{cases_lt}
-use Rattle.std.proofs.lemmas.Cmp.{on_total, then_total}
-use Rattle.std.proofs.lemmas.List.{get_or-map, length-map, map-append}
-use Rattle.std.proofs.lemmas.List.Elements.{filter-append}
-use Rattle.std.proofs.lemmas.List.Folds.{list_any_none, list_any_at}
-use Rattle.std.proofs.lemmas.List.Sorted.{searchable_from_sorted}
-use Rattle.sqlite_value.specs.Order.{Row, column}
-use Rattle.sqlite_value.proofs.OrderLemmas.{value_cmp_total}
-use Rattle.sqlite_rules.specs.Lists.{Has}
-use Rattle.sqlite_rules.proofs.ListLemmas.{has_left, has_right}
-use Rattle.addr.specs.declared.vrp.Vrp.{Vrp}
-use Rattle.registry.specs.Values.{VrpFits}
-use Rattle.store_tables.specs.Cells.{vrp_cells}
-use Rattle.store_tables.specs.Decode.{ShowsNone}
-use Rattle.store_read.specs.declared.across.ClaimKey.{ClaimKey}
-use Rattle.store_read.specs.steps.InForce.{claim_key, key_cells, payload_of, payload_key, key_order, is_claimed, of_claims, ClaimsRise, ShowVrps}
 
 pub key_total : IsTotalOrder key_order
 key_total = then_total (on_total (λ (r : Row). column r 0) value_cmp_total) (on_total (λ (r : Row). column r 1) value_cmp_total)

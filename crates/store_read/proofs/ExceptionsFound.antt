@@ -1,20 +1,5 @@
 -- What the query of all exceptions answers: the rows of the table.
-use Rattle.std.proofs.Common.{◌≡◌, true, List, [], ◌∷◌, ◌++◌, map, filter, drop, refl, sym, subst, ◌∙◌, IsPermutation}
-use Rattle.std.proofs.lemmas.List.Sorted.{IsPermutation-map}
-use Rattle.sqlite.specs.Effect.{Database, Reads}
-use Rattle.sqlite_value.specs.declared.value.Value.TheVariants.{Null}
-use Rattle.sqlite_value.specs.Order.{Row}
-use Rattle.sqlite_trees.proofs.ListLemmas.{all_of, filter_all, map-map}
-use Rattle.sqlite_sql.specs.Term.{col, eval_all}
-use Rattle.sqlite_schema.specs.declared.command.Command.{Command}
-use Rattle.store_tables.specs.declared.exception.TheConstants.{SELECT_ALL_EXCEPTIONS}
-use Rattle.store_tables.specs.Decode.{exception_columns, first_columns}
-use Rattle.store_tables.specs.Tables.{contents, slurm}
-use Rattle.store_tables.proofs.Columns.{exception_places, shown_at, shown_columns}
-use Rattle.store_tables.proofs.Selecting.{permuted, picks}
-use Rattle.store_tables.proofs.ExceptionTexts.{all_exceptions_is}
-use Rattle.store_tables.proofs.Texts.{upwards}
-use Rattle.store_transactions.specs.steps.Statements.{AnswersSelect}
+use Rattle.store_read.proofs.Vocabulary.{◌≡◌, true, List, [], ◌∷◌, ◌++◌, map, filter, drop, refl, sym, subst, ◌∙◌, IsPermutation, IsPermutation-map, Database, Reads, Null, Row, all_of, filter_all, map-map, col, eval_all, Command, SELECT_ALL_EXCEPTIONS, exception_columns, first_columns, contents, slurm, exception_places, shown_at, shown_columns, permuted, picks, all_exceptions_is, upwards, AnswersSelect}
 
 pub exceptions_found : (db : Database) (rows : List Row) → AnswersSelect SELECT_ALL_EXCEPTIONS.now db rows
     → IsPermutation (map exception_columns (contents (db.trees slurm.tree))) (map (first_columns 8) rows)

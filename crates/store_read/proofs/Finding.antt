@@ -1,64 +1,10 @@
 -- What the queries of the values of one holder answer.
-use Rattle.std.proofs.Common.{◌≡◌, ℕ, suc, pos, ◌==◌, Bool, true, false, cond, ◌&&◌, List, [], ◌∷◌, ◌++◌, map, flat_map, filter, drop, length, Option, Some, None, Ordering, Equal, refl, sym, ap, ap₂, subst, ◌∙◌, IsPermutation, IsSorted}
-use Rattle.std.specs.List.{AllByRecursion}
-use Rattle.std.specs.Ordering.{then_cmp, ordering_then}
-use Rattle.std.proofs.lemmas.List.{map-append}
-use Rattle.std.proofs.lemmas.List.Elements.{filter-append}
-use Rattle.std.proofs.lemmas.List.Sorted.{IsPermutation-trans, IsPermutation-map}
-use Rattle.sqlite.specs.Effect.{Database, Reads}
-use Rattle.sqlite_value.specs.declared.keys.Key.{Key}
-use Rattle.sqlite_value.specs.declared.keys.Collation.TheVariants.{Binary}
-use Rattle.sqlite_value.specs.declared.value.Value.TheVariants.{Null, Text, Blob}
-use Rattle.sqlite_value.specs.Order.{Row, column, value_cmp}
-use Rattle.sqlite_value.proofs.OrderLemmas.{then-Equal}
-use Rattle.sqlite_trees.specs.Tree.{Trees}
-use Rattle.sqlite_trees.proofs.ListLemmas.{IsPermutation-filter, all-map, all_of, filter_all, filter_none, filter-map, map-flat_map, map-map}
-use Rattle.sqlite_sql.specs.declared.ops.CompareOp.TheVariants.{Le}
-use Rattle.sqlite_sql.specs.declared.ops.BinaryOp.TheVariants.{Compare}
-use Rattle.sqlite_sql.specs.Ops.{binary, is_true}
-use Rattle.sqlite_sql.specs.Term.{Term, eval_all}
-use Rattle.sqlite_sql.specs.Query.{IsAnswer, key_cmp}
-use Rattle.sqlite_sql.specs.Program.{overlay}
-use Rattle.sqlite_schema.specs.declared.command.Command.{Command}
+use Rattle.store_read.proofs.Vocabulary.{◌≡◌, ℕ, suc, pos, ◌==◌, Bool, true, false, cond, ◌&&◌, List, [], ◌∷◌, ◌++◌, map, flat_map, filter, drop, length, Option, Some, None, Ordering, Equal, refl, sym, ap, ap₂, subst, ◌∙◌, IsPermutation, IsSorted, AllByRecursion, then_cmp, ordering_then, map-append, filter-append, IsPermutation-trans, IsPermutation-map, Database, Reads, Key, Binary, Null, Text, Blob, Row, column, value_cmp, then-Equal, Trees, IsPermutation-filter, all-map, all_of, filter_all, filter_none, filter-map, map-flat_map, map-map, Le, Compare, binary, is_true, Term, eval_all, IsAnswer, key_cmp, overlay, Command, last_of, family_eq, Asn, Prefix, below_widest, first_below, CharterSets, Auth, RoaPrefix, Rows, AllRows, claim_of, entry_rows_of, address_bytes, family_number, span_cells, grant_cells, claim_cells, given_cells, entry_cells, number_cell, holding_row, granted_row, claim_row, entry_row, contents, columns, Part, TablesHold, is_name_of, items_if_any, HoldsPart, part_rows, holder_part, holding_part, granted_part, claim_part, entry_part, first_columns, claim_entry, Claim, EntryRow, SELECT_HOLDER_CLAIMS, SELECT_NUMBERED_CLAIM, SELECT_ENTRIES_UP_TO, SELECT_GIVEN_ENTRIES, SELECT_HOLDER_ENTRIES, SELECT_NUMBERED_ENTRIES, SELECT_HOLDER_SPANS, are_whole, filter_twice, begins_up_to, entries_given, entries_up_to, gives_entry, by_column, AnswersRows, Selects, SelectsWith, from_table, no_limit, picks, permuted, sorted, column_after, shown_at, shown_columns, grant_places, grant_shown, equals_blob, equals_int, equals_text, holder_test, last_term, by_entry, names, cells_of_counters, counters_of_rows, one_counters, one_span, one_grant, one_claim, one_entry_row, of_number_tests, given_tests, up_to_tests, claims_is, entries_is, entries_up_to_is, given_entries_is, numbered_claim_is, numbered_entries_is, Means, equals, upwards, counters_is, spans_is, grants_is}
 use Rattle.sqlite_schema.specs.declared.command.Command.TheVariants.{Select}
-use Rattle.addr.specs.Address.{last_of}
-use Rattle.addr.specs.Family.{family_eq}
-use Rattle.addr.specs.declared.asn.Asn.{Asn}
-use Rattle.addr.specs.declared.prefix.Prefix.{Prefix}
-use Rattle.addr.proofs.AddressLemmas.{below_widest, first_below}
-use Rattle.registry.specs.CharterSets.{CharterSets}
-use Rattle.registry.specs.declared.authorization.Auth.{Auth}
-use Rattle.addr.specs.declared.roa_prefix.RoaPrefix.{RoaPrefix}
-use Rattle.registry.specs.Rows.{Rows}
-use Rattle.registry.specs.RowsOfAll.{AllRows}
-use Rattle.store_tables.specs.Authorizations.{claim_of, entry_rows_of}
-use Rattle.store_tables.specs.Cells.{address_bytes, family_number, span_cells, grant_cells, claim_cells, given_cells, entry_cells, number_cell, holding_row, granted_row, claim_row, entry_row}
-use Rattle.store_tables.specs.Tables.{contents, columns}
-use Rattle.store_tables.specs.TablesHold.{Part, TablesHold, is_name_of, items_if_any, HoldsPart, part_rows, holder_part, holding_part, granted_part, claim_part, entry_part}
-use Rattle.store_tables.specs.Decode.{first_columns}
-use Rattle.store_tables.specs.Groups.{claim_entry}
-use Rattle.store_tables.specs.declared.claim.Claim.{Claim}
-use Rattle.store_tables.specs.declared.entry.EntryRow.{EntryRow}
-use Rattle.store_tables.specs.declared.claim.TheConstants.{SELECT_HOLDER_CLAIMS, SELECT_NUMBERED_CLAIM}
-use Rattle.store_tables.specs.declared.entry.TheConstants.{SELECT_ENTRIES_UP_TO, SELECT_GIVEN_ENTRIES, SELECT_HOLDER_ENTRIES, SELECT_NUMBERED_ENTRIES}
 use Rattle.store_tables.specs.declared.granted.TheConstants.{SELECT_HOLDER_GRANTS}
 use Rattle.store_tables.specs.declared.holder.TheConstants.{SELECT_COUNTERS}
-use Rattle.store_tables.specs.declared.holding.TheConstants.{SELECT_HOLDER_SPANS}
 use Rattle.store_tables.proofs.CellLemmas.{is_bytes, is_number_cell, number_of_number, same_address, same_family_number}
-use Rattle.store_tables.proofs.ReadLemmas.{are_whole}
-use Rattle.store_tables.proofs.TreeRows.{filter_twice}
-use Rattle.store_read.specs.Loads.{begins_up_to, entries_given, entries_up_to, gives_entry}
-use Rattle.store_read.specs.steps.Queries.{by_column, AnswersRows, Selects, SelectsWith}
 use Rattle.store_read.proofs.Overlapping.{address_le, last_fits}
-use Rattle.store_tables.proofs.Selecting.{from_table, no_limit, picks, permuted, sorted}
-use Rattle.store_tables.proofs.Columns.{column_after, shown_at, shown_columns, grant_places, grant_shown}
-use Rattle.store_tables.proofs.Testing.{equals_blob, equals_int, equals_text, holder_test}
-use Rattle.sqlite_typed.proofs.TestLemmas.{last_term}
-use Rattle.store_tables.proofs.GroupCells.{by_entry}
-use Rattle.store_tables.proofs.PartLemmas.{names}
-use Rattle.store_tables.proofs.CellsOnce.{cells_of_counters, counters_of_rows, one_counters, one_span, one_grant, one_claim, one_entry_row}
-use Rattle.store_tables.proofs.ClaimTexts.{of_number_tests, given_tests, up_to_tests, claims_is, entries_is, entries_up_to_is, given_entries_is, numbered_claim_is, numbered_entries_is}
-use Rattle.store_tables.proofs.Texts.{Means, equals, upwards, counters_is, spans_is, grants_is}
 
 -- what is shown of the rows that pass, where both read the columns alone
 pub of_contents : {X : Type 0} (shows cells : Row → X) (passes goes : Row → Bool) → ((r : Row) → shows r ≡ cells (drop 1 r)) → ((r : Row) → passes r ≡ goes (drop 1 r)) → (rows : List Row)

@@ -1,31 +1,6 @@
 -- What a grant, a create and an amendment ask: whether an authorization of a holder gives a VRP, out of the entries that
 -- give it, and how many authorizations were made.
-use Rattle.std.proofs.Common.{◌≡◌, ℕ, ◌+◌, ◌<◌, ◌≤◌, nat_le, arith, ◌&&◌, ◌||◌, ◌==◌, Bool, true, false, cond, List, [], ◌∷◌, flat_map, filter, drop, length, get_or, Option, Some, None, refl, sym, ap, ap₂, ◌∙◌, IsPermutation}
-use Rattle.std.specs.Prelude.{All}
-use Rattle.std.specs.List.{list_any}
-use Rattle.std.proofs.Math.Bool.{and-false, and-true, or-false}
-use Rattle.std.proofs.lemmas.Bool.Decides.{nat_tests}
-use Rattle.std.proofs.lemmas.List.{drop_more}
-use Rattle.std.proofs.lemmas.List.Elements.{All-nil, All-from_recursion, recursion_from_All}
-use Rattle.std.proofs.lemmas.List.Folds.{list_any-append}
-use Rattle.std.proofs.lemmas.List.Sorted.{list_any-IsPermutation}
-use Rattle.sqlite_trees.proofs.ListLemmas.{all-filter}
-use Rattle.addr.specs.declared.asn.Asn.{Asn}
-use Rattle.registry.specs.declared.authorization.Auth.{Auth}
-use Rattle.addr.specs.declared.roa_prefix.RoaPrefix.{RoaPrefix}
-use Rattle.registry.specs.declared.limits.TheConstants.{MOST_AUTHORIZATIONS}
-use Rattle.registry.specs.declared.rows.HolderRows.{HolderRows}
-use Rattle.registry.specs.Rows.{Rows}
-use Rattle.addr.specs.VrpParts.{is_entry}
-use Rattle.registry.specs.Terms.{are_shared, gives_some}
-use Rattle.registry.specs.Values.{FitIfAny}
-use Rattle.store_tables.specs.Authorizations.{claim_of, entry_rows_of}
-use Rattle.store_tables.specs.Decode.{EntryRowFits}
-use Rattle.store_tables.specs.Groups.{claim_entry}
-use Rattle.store_tables.specs.TablesHold.{items_if_any}
-use Rattle.store_tables.specs.declared.entry.EntryRow.{EntryRow}
-use Rattle.store_tables.proofs.TreeRows.{list_any-map}
-use Rattle.store_read.specs.Loads.{auths_held, created_if_any, entries_given, gives_entry, AreCounted}
+use Rattle.store_read.proofs.Vocabulary.{◌≡◌, ℕ, ◌+◌, ◌<◌, ◌≤◌, nat_le, arith, ◌&&◌, ◌||◌, ◌==◌, Bool, true, false, cond, List, [], ◌∷◌, flat_map, filter, drop, length, get_or, Option, Some, None, refl, sym, ap, ap₂, ◌∙◌, IsPermutation, All, list_any, and-false, and-true, or-false, nat_tests, drop_more, All-nil, All-from_recursion, recursion_from_All, list_any-append, list_any-IsPermutation, all-filter, Asn, Auth, RoaPrefix, MOST_AUTHORIZATIONS, HolderRows, Rows, is_entry, are_shared, gives_some, FitIfAny, claim_of, entry_rows_of, EntryRowFits, claim_entry, items_if_any, EntryRow, list_any-map, auths_held, created_if_any, entries_given, gives_entry, AreCounted}
 use Rattle.store_read.proofs.Loading.{entries_fit}
 
 -- ---- tests of lists

@@ -1,32 +1,5 @@
 -- The VRPs that the authorizations in force give, and the prefixes that are taken.
-use Rattle.std.proofs.Common.{◌≡◌, ◌↔◌, ◌≢◌, ℕ, true, ◌==◌, List, [], ◌∷◌, ◌++◌, map, Contains, arith, refl, sym, ap, subst, ◌∙◌}
-use Rattle.std.specs.Prelude.{AllPairs}
-use Rattle.std.proofs.lemmas.List.{get_or-map, length-map}
-use Rattle.std.proofs.lemmas.Bool.{and_parts, and_from, eqb-true, eq-eqb}
-use Rattle.std.proofs.lemmas.Bool.Decides.{nat_tests}
-use Rattle.std.specs.List.{list_any}
-use Rattle.sqlite_value.specs.Order.{Row}
-use Rattle.sqlite_rules.specs.Lists.{Has}
-use Rattle.sqlite_rules.proofs.ListLemmas.{has_contained, contains_had, some_has, some_from, test_has}
-use Rattle.sqlite_rules.proofs.ProbeLemmas.{mapped_has, has_mapped}
-use Rattle.addr.specs.Address.{prefix_eq, FitsMaxLength, fits_max_length}
-use Rattle.addr.specs.Order.{same_vrp}
-use Rattle.addr.specs.declared.asn.Asn.{Asn}
-use Rattle.addr.specs.declared.prefix.Prefix.{Prefix}
-use Rattle.addr.specs.declared.vrp.Vrp.{Vrp}
-use Rattle.registry.specs.declared.authorization.Auth.{Auth}
-use Rattle.addr.specs.declared.roa_prefix.RoaPrefix.{RoaPrefix}
-use Rattle.addr.specs.VrpParts.{is_entry, IsVrpOfEntry}
-use Rattle.registry.specs.Terms.{IsVrpOf}
-use Rattle.registry.specs.Values.{AuthFits, VrpFits}
-use Rattle.store_tables.specs.Cells.{vrp_cells, number_cell, prefix_cells}
-use Rattle.store_tables.specs.Decode.{ShowsNone}
-use Rattle.addr.proofs.Equality.{equal_prefix, prefix_itself}
-use Rattle.addr.proofs.SpanLemmas.{met_iff}
-use Rattle.store_read.specs.steps.InForce.{payload_cells, IsPayloadOn}
-use Rattle.store_read.specs.Loads.{MeetsSome, AllGiveOn}
-use Rattle.registry.specs.RowsOfAll.{AllRows, IsGivenOn, IsTaken}
-use Rattle.store_tables.proofs.CellsOnce.{one_prefix}
+use Rattle.store_read.proofs.Vocabulary.{◌≡◌, ◌↔◌, ◌≢◌, ℕ, true, ◌==◌, List, [], ◌∷◌, ◌++◌, map, Contains, arith, refl, sym, ap, subst, ◌∙◌, AllPairs, get_or-map, length-map, and_parts, and_from, eqb-true, eq-eqb, nat_tests, list_any, Row, Has, has_contained, contains_had, some_has, some_from, test_has, mapped_has, has_mapped, prefix_eq, FitsMaxLength, fits_max_length, same_vrp, Asn, Prefix, Vrp, Auth, RoaPrefix, is_entry, IsVrpOfEntry, IsVrpOf, AuthFits, VrpFits, vrp_cells, number_cell, prefix_cells, ShowsNone, equal_prefix, prefix_itself, met_iff, payload_cells, IsPayloadOn, MeetsSome, AllGiveOn, AllRows, IsGivenOn, IsTaken, one_prefix}
 
 cells_of_entry : (x : Auth) (e : RoaPrefix) (v : Vrp) → IsVrpOfEntry e x.asn v → vrp_cells v ≡ payload_cells x e
 cells_of_entry x e v is = λ i. number_cell (ap (λ (a : Asn). a.0) is.2 i) ∷ prefix_cells (is.0 i) ++ number_cell (is.1 i) ∷ []

@@ -1,28 +1,12 @@
 -- A table holds one list of SLURM files at most.
-use Rattle.std.proofs.Common.{◌≡◌, ℕ, zero, suc, add-one, ◌<◌, ◌==◌, Bool, true, false, List, [], ◌∷◌, ◌++◌, map, filter, append-nil, Ordering, Less, is_lt, nat_cmp, refl, sym, ap, ap₂, subst, ◌∙◌, arith, IsPermutation, IsSorted}
-use Rattle.std.specs.List.{AllByRecursion}
-use Rattle.std.specs.Ordering.{on, ordering_reverse}
-use Rattle.std.proofs.lemmas.Cmp.{nat_cmp_total, on_total}
-use Rattle.std.proofs.lemmas.List.Elements.{filter-append}
-use Rattle.std.proofs.lemmas.List.Sorted.{IsPermutation-sym, IsPermutation-trans}
+use Rattle.store_read.proofs.Vocabulary.{◌≡◌, ℕ, zero, suc, add-one, ◌<◌, ◌==◌, Bool, true, false, List, [], ◌∷◌, ◌++◌, map, filter, append-nil, Ordering, Less, is_lt, nat_cmp, refl, sym, ap, ap₂, subst, ◌∙◌, arith, IsPermutation, IsSorted, AllByRecursion, on, ordering_reverse, nat_cmp_total, on_total, filter-append, IsPermutation-sym, IsPermutation-trans, Row, IsAscending, all_from_map, all-map, all_of, ascending_weaker, filter_all, filter_none, map-map, IsPermutation-filter, same_vrp, Asn, Vrp, NamedSlurm, ExceptionRow, assertion_cells, exception_cells, exception_row, filter_cells, kind_number, number_cell, ArePlaced, HoldsExceptions, HoldsFiles, is_of_file, one_prefix, same_values, values_shown}
 use Rattle.sqlite_keyed.proofs.SortLemmas.{sorted_unique}
-use Rattle.sqlite_value.specs.Order.{Row}
-use Rattle.sqlite_trees.specs.Tree.{IsAscending}
-use Rattle.sqlite_trees.proofs.ListLemmas.{all_from_map, all-map, all_of, ascending_weaker, filter_all, filter_none, map-map, IsPermutation-filter}
-use Rattle.addr.specs.Order.{same_vrp}
-use Rattle.addr.specs.declared.asn.Asn.{Asn}
-use Rattle.addr.specs.declared.vrp.Vrp.{Vrp}
 use Rattle.slurm.specs.Exceptions.{Exceptions}
 use Rattle.slurm.specs.SlurmSets.{exceptions_named}
 use Rattle.slurm.specs.declared.filter.Filter.{Filter}
 use Rattle.slurm.specs.declared.filter.Filter.TheVariants.{Under, By, Both}
-use Rattle.slurm.specs.declared.set.NamedSlurm.{NamedSlurm}
 use Rattle.store_tables.specs.declared.exception.Exception.{Exception}
 use Rattle.store_tables.specs.declared.exception.Exception.TheVariants.{Filter as FilterOf, Assertion}
-use Rattle.store_tables.specs.declared.exception.ExceptionRow.{ExceptionRow}
-use Rattle.store_tables.specs.Cells.{assertion_cells, exception_cells, exception_row, filter_cells, kind_number, number_cell}
-use Rattle.store_tables.specs.TablesHold.{ArePlaced, HoldsExceptions, HoldsFiles, is_of_file}
-use Rattle.store_tables.proofs.CellsOnce.{one_prefix, same_values, values_shown}
 use Rattle.store_transactions.proofs.NamedFiles.{files_alike}
 
 -- ---- rows of the same cells

@@ -1,13 +1,5 @@
 -- Whether every address of entries is held, entry by entry.
-use Rattle.std.proofs.Common.{◌≡◌, inl, inr, ◌↔◌, ℕ, ◌+◌, ◌<◌, List, [], ◌∷◌, drop, length, get_or, sym, ap, subst, ◌∙◌}
-use Rattle.std.proofs.lemmas.Bool.{or_cases, or_left, or_right, false≢true}
-use Rattle.std.proofs.lemmas.List.{drop_more}
-use Rattle.addr.specs.Address.{has_address}
-use Rattle.addr.specs.Spans.{HaveAll}
-use Rattle.addr.specs.declared.span.Span.{Span}
-use Rattle.addr.specs.declared.roa_prefix.RoaPrefix.{RoaPrefix}
-use Rattle.registry.specs.Terms.{entries_have}
-use Rattle.store_read.specs.Loads.{AreHeld}
+use Rattle.store_read.proofs.Vocabulary.{◌≡◌, inl, inr, ◌↔◌, ℕ, ◌+◌, ◌<◌, List, [], ◌∷◌, drop, length, get_or, sym, ap, subst, ◌∙◌, or_cases, or_left, or_right, false≢true, drop_more, has_address, HaveAll, Span, RoaPrefix, entries_have, AreHeld}
 
 pub none_to_hold : (spans : List Span) → AreHeld spans []
 none_to_hold spans a has = absurd (false≢true has)

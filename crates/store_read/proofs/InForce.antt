@@ -1,53 +1,8 @@
 -- The authorizations of all holders that are in force on a day.
-use Rattle.std.proofs.Common.{◌≡◌, ◌↔◌, ℕ, pos, true, false, ◌&&◌, List, [], ◌∷◌, ◌++◌, map, filter, drop, Some, Contains, nat_le, int_cmp, is_eq, Ordering, Less, Equal, Greater, refl, sym, ap, ap₂, subst, ◌∙◌, arith, IsPermutation}
-use Rattle.std.specs.Ordering.{ordering_then}
-use Rattle.std.proofs.lemmas.Bool.{and_parts, and_from, leb-true, le-leb}
-use Rattle.std.proofs.lemmas.Cmp.{tied_itself}
-use Rattle.std.proofs.lemmas.Int.{ints}
-use Rattle.std.proofs.lemmas.List.Sorted.{IsPermutation-sym, IsPermutation-map, list_any-IsPermutation}
-use Rattle.std.proofs.lemmas.List.{map-append}
-use Rattle.sqlite.specs.Effect.{Database, IsDatabase, Reads}
-use Rattle.sqlite.specs.State.{State}
-use Rattle.sqlite_value.specs.declared.keys.Key.{Key}
-use Rattle.sqlite_value.specs.declared.value.Value.TheVariants.{Null, Text}
-use Rattle.sqlite_value.specs.Order.{Row, column, value_cmp}
-use Rattle.sqlite_value.proofs.OrderLemmas.{value_cmp-Int, then-Equal}
-use Rattle.sqlite_sql.specs.declared.ops.CompareOp.TheVariants.{Le, Ge}
-use Rattle.sqlite_sql.specs.Term.{Term, eval_all}
-use Rattle.sqlite_schema.specs.declared.command.Command.{Command}
-use Rattle.sqlite_rules.specs.Lists.{Has}
-use Rattle.sqlite_rules.proofs.ListLemmas.{all_from, has_filtered, has_kept, has_contained, contains_had, some_has, some_from}
-use Rattle.sqlite_rules.proofs.ProbeLemmas.{mapped_has, has_mapped}
-use Rattle.sqlite_trees.proofs.ListLemmas.{map-map, filter-map, filter_all, IsPermutation-filter, IsPermutation-same}
-use Rattle.sqlite_typed.proofs.TestLemmas.{at_ints, then_term, last_term}
-use Rattle.registry.specs.declared.authorization.Auth.{Auth}
-use Rattle.addr.specs.declared.roa_prefix.RoaPrefix.{RoaPrefix}
-use Rattle.registry.specs.Rows.{Rows}
-use Rattle.registry.specs.RowsOfAll.{AllRows}
+use Rattle.store_read.proofs.Vocabulary.{◌≡◌, ◌↔◌, ℕ, pos, true, false, ◌&&◌, List, [], ◌∷◌, ◌++◌, map, filter, drop, Some, Contains, nat_le, int_cmp, is_eq, Ordering, Less, Equal, Greater, refl, sym, ap, ap₂, subst, ◌∙◌, arith, IsPermutation, ordering_then, and_parts, and_from, leb-true, le-leb, tied_itself, ints, IsPermutation-sym, IsPermutation-map, list_any-IsPermutation, map-append, Database, IsDatabase, Reads, State, Key, Null, Text, Row, column, value_cmp, value_cmp-Int, then-Equal, Le, Ge, Term, eval_all, Command, Has, all_from, has_filtered, has_kept, has_contained, contains_had, some_has, some_from, mapped_has, has_mapped, map-map, filter-map, filter_all, IsPermutation-filter, IsPermutation-same, at_ints, then_term, last_term, Auth, RoaPrefix, Rows, AllRows, Claim, SELECT_CLAIMS_IN_FORCE, EntryRow, SELECT_PAYLOADS, claim_of, number_cell, claim_cells, claim_row, entry_row, named_cells, first_columns, claim_entry, claim, entry, desk_tables, contents, IsTree, HoldsPart, claim_part, entry_part, claims_in_force_tests, claims_in_force_is, payloads_is, name_of_text, picks, permuted, sorted, has_permuted, of_some, in_table, has_entry_row, entry_row_of, upwards, payload_columns, ClaimsDiffer, AnswersSelect, AnswersWith, shown_at, shown_columns, ClaimKey, claim_columns_read, entry_columns_read, payload_of, claim_key, key_cells, payload_key, key_order, is_claimed, ClaimsRise, is_open_on, keys_on, is_claimed_on, FindsClaims, FindsPayloads, FindsInForce, IsPayloadOn, of_claims, EachRows}
 use Rattle.registry.proofs.Names.{same_name-true}
-use Rattle.store_tables.specs.declared.claim.Claim.{Claim}
-use Rattle.store_tables.specs.declared.claim.TheConstants.{SELECT_CLAIMS_IN_FORCE}
-use Rattle.store_tables.specs.declared.entry.EntryRow.{EntryRow}
-use Rattle.store_tables.specs.declared.entry.TheConstants.{SELECT_PAYLOADS}
-use Rattle.store_tables.specs.Authorizations.{claim_of}
 use Rattle.store_tables.specs.declared.groups.OfHolder.{OfHolder}
-use Rattle.store_tables.specs.Cells.{number_cell, claim_cells, claim_row, entry_row, named_cells}
-use Rattle.store_tables.specs.Decode.{first_columns}
-use Rattle.store_tables.specs.Groups.{claim_entry}
-use Rattle.store_tables.specs.Tables.{claim, entry, desk_tables, contents, IsTree}
-use Rattle.store_tables.specs.TablesHold.{HoldsPart, claim_part, entry_part}
-use Rattle.store_tables.proofs.ClaimTexts.{claims_in_force_tests, claims_in_force_is, payloads_is}
 use Rattle.store_tables.proofs.Once.{two_are_one, number_columns, NumbersDiffer}
-use Rattle.store_tables.proofs.PartLemmas.{name_of_text}
-use Rattle.store_tables.proofs.Selecting.{picks, permuted, sorted}
-use Rattle.store_tables.proofs.SomeRow.{has_permuted, of_some, in_table, has_entry_row, entry_row_of}
-use Rattle.store_tables.proofs.Texts.{upwards}
-use Rattle.store_transactions.specs.Laws.{payload_columns, ClaimsDiffer}
-use Rattle.store_transactions.specs.steps.Statements.{AnswersSelect, AnswersWith}
-use Rattle.store_tables.proofs.Columns.{shown_at, shown_columns}
-use Rattle.store_read.specs.declared.across.ClaimKey.{ClaimKey}
-use Rattle.store_read.specs.steps.InForce.{claim_columns_read, entry_columns_read, payload_of, claim_key, key_cells, payload_key, key_order, is_claimed, ClaimsRise, is_open_on, keys_on, is_claimed_on, FindsClaims, FindsPayloads, FindsInForce, IsPayloadOn, of_claims}
-use Rattle.store_read.specs.Loads.{EachRows}
 use Rattle.store_read.proofs.Claimed.{key_total, keys_rise}
 use Rattle.store_read.proofs.Finding.{of_contents}
 

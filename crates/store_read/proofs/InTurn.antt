@@ -1,13 +1,6 @@
 -- Reads in turn: what one read leaves as it was, for those before and after it.
-use Rattle.std.proofs.Common.{ℕ, List, Result, Ok, arith}
-use Rattle.sqlite.specs.Held.{Held, state}
+use Rattle.store_read.proofs.Vocabulary.{ℕ, List, Result, Ok, arith, Held, state, CharterSets, AllRows, FitIfAny, TablesHold, IsAsked, IsClean, OpenEachRows}
 use Rattle.sqlite.specs.Store.{Ghosts}
-use Rattle.registry.specs.CharterSets.{CharterSets}
-use Rattle.registry.specs.RowsOfAll.{AllRows}
-use Rattle.registry.specs.Values.{FitIfAny}
-use Rattle.store_tables.specs.TablesHold.{TablesHold}
-use Rattle.store_transactions.specs.Queries.{IsAsked, IsClean}
-use Rattle.store_read.specs.Loads.{OpenEachRows}
 use Rattle.store_read.proofs.Loading.{held_before, refused_before}
 
 module _ {S : Type 0} (g : Ghosts S) where

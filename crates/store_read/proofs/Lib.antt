@@ -14,3 +14,4 @@ mod ExceptionsFound
 pub mod HeldAlike
 mod RunsApart
 mod RunsBelow
+pub mod Vocabulary

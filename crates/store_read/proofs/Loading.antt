@@ -1,39 +1,8 @@
 -- What is loaded from the rows that queries found.
-use Rattle.std.proofs.Common.{◌≡◌, ℕ, ◌+◌, ◌<◌, ◌||◌, true, List, [], ◌∷◌, map, flat_map, take, length, get_or, slice_get, All, Option, Some, None, IsTrue, Result, Ok, Err, IfOk, refl, sym, ap, subst, ◌∙◌, arith, IsPermutation}
-use Rattle.std.specs.Prelude.{⊤, IsSorted, is_some}
-use Rattle.std.specs.Global.{Vec}
-use Rattle.std.specs.List.{AllByRecursion}
-use Rattle.std.proofs.Math.Bool.{or-false}
-use Rattle.std.proofs.lemmas.Bool.Decides.{nat_tests}
-use Rattle.std.proofs.lemmas.List.Elements.{All-nil, All-cons, All-from_recursion, recursion_from_All}
-use Rattle.std.proofs.lemmas.List.{nil_from_length}
-use Rattle.std.proofs.lemmas.List.Folds.{list_any-append}
-use Rattle.std.proofs.lemmas.List.Sorted.{list_any-IsPermutation, length_permutation, IsPermutation-refl}
-use Rattle.sqlite.specs.Effect.{Database}
-use Rattle.sqlite.specs.State.{State}
+use Rattle.store_read.proofs.Vocabulary.{◌≡◌, ℕ, ◌+◌, ◌<◌, ◌||◌, true, List, [], ◌∷◌, map, flat_map, take, length, get_or, slice_get, All, Option, Some, None, IsTrue, Result, Ok, Err, IfOk, refl, sym, ap, subst, ◌∙◌, arith, IsPermutation, ⊤, IsSorted, is_some, Vec, AllByRecursion, or-false, nat_tests, All-nil, All-cons, All-from_recursion, recursion_from_All, nil_from_length, list_any-append, list_any-IsPermutation, length_permutation, IsPermutation-refl, Database, State, all_from, test_has, all-flat_map, all-map, all_weaker, Address, FitsMaxLength, fits_max_length, span_has, spans_have, AreMaximal, Span, Auth, RoaPrefix, CharterSets, HolderRows, Rows, claim_of, entry_rows_of, grant_cells, ClaimFits, EntryRowFits, claim_entry, items_if_any, TablesHold, EachRowsOf, OpenEachRows, AreCounted, AreGrants, AreInOrder, HaveSame, AreLoaded, by_column, counters_if_any, IsCount, GrantFits, AuthFits, FitIfAny, AllRows, counters_of_rows}
 use Rattle.sqlite.proofs.Callers.{one_permutation}
-use Rattle.sqlite_rules.proofs.ListLemmas.{all_from, test_has}
-use Rattle.sqlite_trees.proofs.ListLemmas.{all-flat_map, all-map, all_weaker}
-use Rattle.addr.specs.Address.{Address, FitsMaxLength, fits_max_length}
-use Rattle.addr.specs.Spans.{span_has, spans_have, AreMaximal}
-use Rattle.addr.specs.declared.span.Span.{Span}
-use Rattle.registry.specs.declared.authorization.Auth.{Auth}
-use Rattle.addr.specs.declared.roa_prefix.RoaPrefix.{RoaPrefix}
 use Rattle.registry.specs.declared.grant.Granted.{Granted}
-use Rattle.registry.specs.CharterSets.{CharterSets}
-use Rattle.registry.specs.declared.rows.HolderRows.{HolderRows}
-use Rattle.registry.specs.Rows.{Rows}
-use Rattle.store_tables.specs.Authorizations.{claim_of, entry_rows_of}
-use Rattle.store_tables.specs.Cells.{grant_cells}
-use Rattle.store_tables.specs.Decode.{ClaimFits, EntryRowFits}
-use Rattle.store_tables.specs.Groups.{claim_entry}
-use Rattle.store_tables.specs.TablesHold.{items_if_any, TablesHold}
-use Rattle.store_read.specs.Loads.{EachRowsOf, OpenEachRows, AreCounted, AreGrants, AreInOrder, HaveSame, AreLoaded}
-use Rattle.store_read.specs.steps.Queries.{by_column, counters_if_any}
 use Rattle.store_tables.specs.declared.holder.Counters.{Counters}
-use Rattle.registry.specs.Values.{IsCount, GrantFits, AuthFits, FitIfAny}
-use Rattle.registry.specs.RowsOfAll.{AllRows}
-use Rattle.store_tables.proofs.CellsOnce.{counters_of_rows}
 use Rattle.store_read.proofs.AuthsFound.{by_number}
 use Rattle.store_transactions.proofs.StatementLemmas.{taken_more}
 

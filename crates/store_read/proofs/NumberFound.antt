@@ -1,29 +1,5 @@
 -- The authorizations of a holder that have a number, out of the claims of that number and the rows of its entries.
-use Rattle.std.proofs.Common.{◌≡◌, ◌≢◌, ℕ, ◌&&◌, List, [], map, flat_map, filter, Option, Some, None, refl, ap, subst, ◌∙◌, IsPermutation, IsSorted}
-use Rattle.std.specs.Prelude.{All, AllPairs}
-use Rattle.std.specs.List.{AllByRecursion}
-use Rattle.std.proofs.lemmas.List.Elements.{All-from_recursion, recursion_from_All}
-use Rattle.std.proofs.lemmas.List.Sorted.{IsPermutation-map, IsPermutation-sym}
-use Rattle.sqlite.specs.Effect.{Database, IsDatabase}
-use Rattle.sqlite_trees.proofs.ListLemmas.{IsPermutation-filter, all-filter, all-flat_map, all-map, all_weaker, map-map}
-use Rattle.registry.specs.CharterSets.{CharterSets}
-use Rattle.registry.specs.Rows.{Rows}
-use Rattle.registry.specs.RowsOfAll.{AllRows}
-use Rattle.registry.specs.Values.{AuthFits, FitIfAny}
-use Rattle.registry.specs.declared.authorization.Auth.{Auth}
-use Rattle.store_tables.specs.declared.claim.Claim.{Claim}
-use Rattle.store_tables.specs.declared.entry.EntryRow.{EntryRow}
-use Rattle.store_tables.specs.Authorizations.{AreAuths, NumbersRise, claim_of, entry_rows_of}
-use Rattle.store_tables.specs.Cells.{claim_cells, claim_row, entry_cells}
-use Rattle.store_tables.specs.Decode.{ClaimFits, EntryRowFits}
-use Rattle.store_tables.specs.Tables.{claim, contents, desk_tables}
-use Rattle.store_tables.specs.TablesHold.{TablesHold, claim_part, items_if_any, part_rows}
-use Rattle.store_tables.proofs.GroupCells.{by_entry}
-use Rattle.store_tables.proofs.PartLemmas.{names}
-use Rattle.store_tables.proofs.TreeRows.{filter_twice}
-use Rattle.store_transactions.specs.Laws.{ClaimsDiffer, number_columns}
-use Rattle.store_read.specs.Loads.{AreInOrder}
-use Rattle.store_read.specs.steps.Queries.{by_column}
+use Rattle.store_read.proofs.Vocabulary.{◌≡◌, ◌≢◌, ℕ, ◌&&◌, List, [], map, flat_map, filter, Option, Some, None, refl, ap, subst, ◌∙◌, IsPermutation, IsSorted, All, AllPairs, AllByRecursion, All-from_recursion, recursion_from_All, IsPermutation-map, IsPermutation-sym, Database, IsDatabase, IsPermutation-filter, all-filter, all-flat_map, all-map, all_weaker, map-map, CharterSets, Rows, AllRows, AuthFits, FitIfAny, Auth, Claim, EntryRow, AreAuths, NumbersRise, claim_of, entry_rows_of, claim_cells, claim_row, entry_cells, ClaimFits, EntryRowFits, claim, contents, desk_tables, TablesHold, claim_part, items_if_any, part_rows, by_entry, names, filter_twice, ClaimsDiffer, number_columns, AreInOrder, by_column}
 use Rattle.store_read.proofs.AuthsFound.{HasEntries, are_some, held_entries, in_order, key_of}
 use Rattle.store_read.proofs.Finding.{claims_kept, claims_numbered, entries_numbered, has_number, is_numbered}
 use Rattle.store_read.proofs.Loading.{claim_fits, entries_of_fit}

@@ -1,37 +1,6 @@
 -- Whether a run of some holder shares an address with a prefix.
-use Rattle.std.proofs.Common.{◌≡◌, ◌↔◌, ℕ, suc, pos, ◌-◌, ◌^◌, ◌<◌, ◌==◌, Bool, true, false, not, ◌||◌, cond, List, [], ◌∷◌, filter, drop, length, take, IsTrue, nat_le, is_le, nat_cmp, int_eq, refl, sym, ap, subst, ◌∙◌, arith, pow_pos}
-use Rattle.std.specs.List.{list_any}
-use Rattle.std.proofs.lemmas.Bool.Decides.{nat_tests}
-use Rattle.sqlite.specs.State.{State, Shown}
-use Rattle.sqlite_value.specs.declared.keys.Collation.TheVariants.{Binary}
-use Rattle.sqlite_value.specs.declared.value.Value.TheVariants.{Null, Int, Blob}
-use Rattle.sqlite_value.specs.Order.{Row}
-use Rattle.sqlite_sql.specs.declared.ops.CompareOp.TheVariants.{Eq, Le, Ge}
-use Rattle.sqlite_sql.specs.declared.ops.BinaryOp.TheVariants.{Compare}
-use Rattle.sqlite_sql.specs.Ops.{binary, is_true}
-use Rattle.sqlite_sql.specs.Term.{lit}
-use Rattle.sqlite_rules.proofs.ListLemmas.{some_has, some_from}
-use Rattle.sqlite_rules.proofs.ProbeLemmas.{mapped_has, has_mapped}
-use Rattle.sqlite_typed.proofs.TestLemmas.{at_ints, at_blobs, then_term, last_term}
-use Rattle.addr.specs.Family.{width, family_eq}
-use Rattle.addr.specs.Address.{last_of}
-use Rattle.addr.specs.Spans.{span_meets}
-use Rattle.addr.specs.declared.family.Family.{Family}
+use Rattle.store_read.proofs.Vocabulary.{◌≡◌, ◌↔◌, ℕ, suc, pos, ◌-◌, ◌^◌, ◌<◌, ◌==◌, Bool, true, false, not, ◌||◌, cond, List, [], ◌∷◌, filter, drop, length, take, IsTrue, nat_le, is_le, nat_cmp, int_eq, refl, sym, ap, subst, ◌∙◌, arith, pow_pos, list_any, nat_tests, State, Shown, Binary, Null, Int, Blob, Row, Eq, Le, Ge, Compare, binary, is_true, lit, some_has, some_from, mapped_has, has_mapped, at_ints, at_blobs, then_term, last_term, width, family_eq, last_of, span_meets, Family, Prefix, Span, below_widest, first_below, AllRows, desk_tables, contents, number_cell, family_number, address_bytes, holding_row, HoldsPart, holding_part, SELECT_OVERLAP, MeetsSome, addresses_in_order, of_some, in_table, picks, first_shown, reads_desk, overlap_tests, overlap_is}
 use Rattle.addr.specs.declared.family.Family.TheVariants.{V4, V6}
-use Rattle.addr.specs.declared.prefix.Prefix.{Prefix}
-use Rattle.addr.specs.declared.span.Span.{Span}
-use Rattle.addr.proofs.AddressLemmas.{below_widest, first_below}
-use Rattle.registry.specs.RowsOfAll.{AllRows}
-use Rattle.store_tables.specs.Tables.{desk_tables, contents}
-use Rattle.store_tables.specs.Cells.{number_cell, family_number, address_bytes, holding_row}
-use Rattle.store_tables.specs.TablesHold.{HoldsPart, holding_part}
-use Rattle.store_tables.specs.declared.holding.TheConstants.{SELECT_OVERLAP}
-use Rattle.store_read.specs.Loads.{MeetsSome}
-use Rattle.store_tables.proofs.AddressBytes.{addresses_in_order}
-use Rattle.store_tables.proofs.SomeRow.{of_some, in_table}
-use Rattle.store_tables.proofs.Selecting.{picks, first_shown}
-use Rattle.store_transactions.proofs.QueryLemmas.{reads_desk}
-use Rattle.store_tables.proofs.Texts.{overlap_tests, overlap_is}
 
 pub family_tested : (f g : Family) → int_eq (pos (family_number f)) (pos (family_number g)) ≡ family_eq f g
 family_tested V4 V4 = refl

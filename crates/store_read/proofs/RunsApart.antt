@@ -1,21 +1,5 @@
 -- Where runs are apart, the last run that begins at or before an address decides what is held from there on.
-use Rattle.std.proofs.Common.{◌≡◌, ◌⊎◌, inl, inr, ◌↔◌, ℕ, ◌+◌, ◌≤◌, ◌&&◌, true, List, [], ◌∷◌, nat_le, Option, Some, None, refl, sym, ap, subst, ◌∙◌, arith}
-use Rattle.std.proofs.lemmas.Bool.{cases_lt, and_parts, and_from, or_cases, or_left, or_right, false≢true}
-use Rattle.std.proofs.lemmas.Bool.Decides.{nat_tests}
-use Rattle.sqlite_rules.specs.Lists.{Has}
-use Rattle.sqlite_rules.proofs.ListLemmas.{contains_had, has_contained, some_from, some_has, test_has}
-use Rattle.addr.specs.Address.{Address, last_of}
-use Rattle.addr.specs.Spans.{span_has, span_meets, spans_have, is_apart_below, is_apart, AreApart, HaveAll}
-use Rattle.addr.specs.declared.prefix.Prefix.{Prefix}
-use Rattle.addr.specs.declared.span.Span.{Span}
-use Rattle.addr.proofs.AddressLemmas.{between_at, between_within, first-last, overlap_ends}
-use Rattle.addr.proofs.Equality.{equal_family, same_family}
-use Rattle.addr.proofs.SpanLemmas.{is_gap, gap_wider, no_gap}
-use Rattle.registry.specs.Rows.{Rows}
-use Rattle.registry.specs.RowsOfAll.{AllRows}
-use Rattle.store_tables.specs.TablesHold.{items_if_any}
-use Rattle.store_read.specs.Loads.{AreRunsApart, HasRun, MeetsSome}
-use Rattle.store_read.specs.steps.Below.{IsRunBelow, IsLastBelow}
+use Rattle.store_read.proofs.Vocabulary.{◌≡◌, ◌⊎◌, inl, inr, ◌↔◌, ℕ, ◌+◌, ◌≤◌, ◌&&◌, true, List, [], ◌∷◌, nat_le, Option, Some, None, refl, sym, ap, subst, ◌∙◌, arith, cases_lt, and_parts, and_from, or_cases, or_left, or_right, false≢true, nat_tests, Has, contains_had, has_contained, some_from, some_has, test_has, Address, last_of, span_has, span_meets, spans_have, is_apart_below, is_apart, AreApart, HaveAll, Prefix, Span, between_at, between_within, first-last, overlap_ends, equal_family, same_family, is_gap, gap_wider, no_gap, Rows, AllRows, items_if_any, AreRunsApart, HasRun, MeetsSome, IsRunBelow, IsLastBelow}
 
 -- ---- two runs of one list
 

@@ -1,41 +1,7 @@
 -- Which row the query of the last run that begins at or before an address answers.
-use Rattle.std.proofs.Common.{◌≡◌, ◌↔◌, inl, ℕ, pos, ◌^◌, ◌<◌, ◌≤◌, Bool, false, ◌&&◌, List, [], ◌∷◌, filter, map, drop, length, take, ◌++◌, option_to_list, IsSome, Option, Some, None, IsTrue, nat_le, refl, sym, ap, subst, ◌∙◌, arith, is_lt, IsPermutation, IsSortedBy}
-use Rattle.std.proofs.lemmas.Bool.{and_parts, and_from}
-use Rattle.std.proofs.lemmas.Bool.Decides.{nat_tests}
-use Rattle.std.proofs.lemmas.List.{length-append}
-use Rattle.std.proofs.lemmas.List.Sorted.{IsPermutation-sym, IsStrictWeakOrder-flip, ranks_by, sorted_far}
-use Rattle.std.specs.Ordering.{is_ge, nat_cmp}
-use Rattle.sqlite.specs.State.{State, Shown}
+use Rattle.store_read.proofs.Vocabulary.{◌≡◌, ◌↔◌, inl, ℕ, pos, ◌^◌, ◌<◌, ◌≤◌, Bool, false, ◌&&◌, List, [], ◌∷◌, filter, map, drop, length, take, ◌++◌, option_to_list, IsSome, Option, Some, None, IsTrue, nat_le, refl, sym, ap, subst, ◌∙◌, arith, is_lt, IsPermutation, IsSortedBy, and_parts, and_from, nat_tests, length-append, IsPermutation-sym, IsStrictWeakOrder-flip, ranks_by, sorted_far, is_ge, State, Shown, Null, Int, Text, Blob, Row, column, value_cmp, then-Equal, value_cmp-Blob, value_cmp_total, Eq, Query, IsAnswer, Output, output, overlay, lit, col, Has, contains_had, has_contained, has_filtered, has_kept, mapped_has, has_mapped, Trees, at_ints, then_term, last_term, family_eq, Family, Span, below_widest, equal_family, same_family, AllRows, desk_tables, contents, number_cell, family_number, address_bytes, holding_row, HoldsPart, holding_part, is_name_of, SELECT_RUN_BELOW, IsRunBelow, IsRowBelow, addresses_in_order, name_of-true, name_of_itself, has_permuted, of_some, in_table, from_table, picks, outputs, reads_desk, below_tests, last_first, run_below_is}
+use Rattle.std.specs.Ordering.{nat_cmp}
 use Rattle.sqlite_value.specs.declared.value.Value.{Value}
-use Rattle.sqlite_value.specs.declared.value.Value.TheVariants.{Null, Int, Text, Blob}
-use Rattle.sqlite_value.specs.Order.{Row, column, value_cmp}
-use Rattle.sqlite_value.proofs.OrderLemmas.{then-Equal, value_cmp-Blob, value_cmp_total}
-use Rattle.sqlite_sql.specs.declared.ops.CompareOp.TheVariants.{Eq}
-use Rattle.sqlite_sql.specs.Query.{Query, IsAnswer, Output, output}
-use Rattle.sqlite_sql.specs.Program.{overlay}
-use Rattle.sqlite_sql.specs.Term.{lit, col}
-use Rattle.sqlite_rules.specs.Lists.{Has}
-use Rattle.sqlite_rules.proofs.ListLemmas.{contains_had, has_contained, has_filtered, has_kept}
-use Rattle.sqlite_rules.proofs.ProbeLemmas.{mapped_has, has_mapped}
-use Rattle.sqlite_trees.specs.Tree.{Trees}
-use Rattle.sqlite_typed.proofs.TestLemmas.{at_ints, then_term, last_term}
-use Rattle.addr.specs.Family.{family_eq}
-use Rattle.addr.specs.declared.family.Family.{Family}
-use Rattle.addr.specs.declared.span.Span.{Span}
-use Rattle.addr.proofs.AddressLemmas.{below_widest}
-use Rattle.addr.proofs.Equality.{equal_family, same_family}
-use Rattle.registry.specs.RowsOfAll.{AllRows}
-use Rattle.store_tables.specs.Tables.{desk_tables, contents}
-use Rattle.store_tables.specs.Cells.{number_cell, family_number, address_bytes, holding_row}
-use Rattle.store_tables.specs.TablesHold.{HoldsPart, holding_part, is_name_of}
-use Rattle.store_tables.specs.declared.holding.TheConstants.{SELECT_RUN_BELOW}
-use Rattle.store_read.specs.steps.Below.{IsRunBelow, IsRowBelow}
-use Rattle.store_tables.proofs.AddressBytes.{addresses_in_order}
-use Rattle.store_tables.proofs.PartLemmas.{name_of-true, name_of_itself}
-use Rattle.store_tables.proofs.SomeRow.{has_permuted, of_some, in_table}
-use Rattle.store_tables.proofs.Selecting.{from_table, picks, outputs}
-use Rattle.store_transactions.proofs.QueryLemmas.{reads_desk}
-use Rattle.store_tables.proofs.Texts.{below_tests, last_first, run_below_is}
 use Rattle.store_read.proofs.Finding.{of_contents}
 use Rattle.store_read.proofs.Overlapping.{address_le, family_tested}
 

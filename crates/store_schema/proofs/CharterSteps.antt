@@ -1,29 +1,8 @@
 -- What putting the charter does to tables that were just made.
-use Rattle.std.proofs.Common.{◌≡◌, ◌≢◌, ℕ, pos, ◌+◌, List, [], ◌∷◌, ◌++◌, map, codes, true, refl, sym, ap, subst, ◌∙◌, append-nil, IsPermutation}
-use Rattle.sqlite.specs.Effect.{Database}
-use Rattle.sqlite.specs.State.{State}
-use Rattle.sqlite_value.specs.declared.value.Value.TheVariants.{Null, Int, Text}
-use Rattle.sqlite_value.specs.Order.{Row}
-use Rattle.sqlite_sql.specs.Term.{lit}
+use Rattle.store_schema.proofs.Vocabulary.{◌≡◌, ◌≢◌, ℕ, pos, ◌+◌, List, [], ◌∷◌, ◌++◌, map, codes, true, refl, sym, ap, subst, ◌∙◌, append-nil, IsPermutation, Database, State, Null, Int, Text, Row, lit, CharterSets, meta, operator, pool, desk_tables, contents, is_table, IsTree, AreTrees, schema_row, operator_row, prefix_cells, Edits, holder_part, holding_part, granted_part, claim_part, entry_part, INSERT_SCHEMA, INSERT_OPERATOR, INSERT_PREFIX, IsReady, IsExecuted, IsMadeTo, HasCharter, PutsRows, cast_schema, cast_prefix, sound_still, puts_row, each_table, put_terms, put_schema_is, put_operator_is, put_prefix_is}
 use Rattle.addr.specs.declared.prefix.Prefix.{Prefix}
-use Rattle.registry.specs.CharterSets.{CharterSets}
-use Rattle.store_tables.specs.Tables.{meta, operator, pool, desk_tables, contents, is_table, IsTree, AreTrees}
-use Rattle.store_tables.specs.Cells.{schema_row, operator_row, prefix_cells}
-use Rattle.store_tables.specs.steps.Edits.{Edits}
-use Rattle.store_tables.specs.TablesHold.{holder_part, holding_part, granted_part, claim_part, entry_part}
-use Rattle.store_tables.specs.declared.meta.TheConstants.{INSERT_SCHEMA}
-use Rattle.store_tables.specs.declared.operator.TheConstants.{INSERT_OPERATOR}
-use Rattle.store_tables.specs.declared.pool.TheConstants.{INSERT_PREFIX}
-use Rattle.store_transactions.specs.Statements.{IsReady, IsExecuted}
-use Rattle.store_schema.specs.Making.{IsMadeTo}
-use Rattle.store_schema.specs.steps.Making.{HasCharter}
-use Rattle.store_transactions.specs.steps.Statements.{PutsRows}
-use Rattle.store_tables.proofs.CellLemmas.{cast_schema, cast_prefix}
 use Rattle.store_tables.proofs.HaveEntries.{none_have_entries}
-use Rattle.store_transactions.proofs.StatementLemmas.{sound_still, puts_row}
-use Rattle.store_tables.proofs.Inserting.{each_table}
 use Rattle.store_schema.proofs.MakingSteps.{none_held, none_of_files}
-use Rattle.store_tables.proofs.Texts.{put_terms, put_schema_is, put_operator_is, put_prefix_is}
 
 module _ (old new : State) where
   pub puts_schema : IsReady old → IsExecuted INSERT_SCHEMA.now [] old new → PutsRows meta.tree (schema_row ∷ []) old new

@@ -1,32 +1,14 @@
 -- What INSERT from a query over another table does, whatever the two tables.
-use Rattle.std.proofs.Common.{◌≡◌, ℕ, Bool, true, false, cond, List, [], ◌∷◌, ◌++◌, map, drop, slice_get, Some, None, refl, sym, ap₂, subst, ◌∙◌, append-nil, IsPermutation}
-use Rattle.std.proofs.lemmas.List.{map-append}
-use Rattle.std.proofs.lemmas.List.Sorted.{IsPermutation-map, IsPermutation-trans, IsPermutation-append_left}
-use Rattle.sqlite.specs.Effect.{Database}
-use Rattle.sqlite.specs.State.{State, Writes}
+use Rattle.store_schema.proofs.Vocabulary.{◌≡◌, ℕ, Bool, true, false, cond, List, [], ◌∷◌, ◌++◌, map, drop, slice_get, Some, None, refl, sym, ap₂, subst, ◌∙◌, append-nil, IsPermutation, map-append, IsPermutation-map, IsPermutation-trans, IsPermutation-append_left, Database, State, Writes, Value, Null, Int, Row, Trees, rowid, put_row, map-map, Term, eval_all, Schema, Table, Command, Insert, cast_row, as_strict, with_tables, contents, IsTree, EditsAmong, applied, at_table}
 use Rattle.sqlite_value.specs.declared.keys.Collation.{Collation}
-use Rattle.sqlite_value.specs.declared.value.Value.{Value}
-use Rattle.sqlite_value.specs.declared.value.Value.TheVariants.{Null, Int}
-use Rattle.sqlite_value.specs.Order.{Row}
-use Rattle.sqlite_trees.specs.Tree.{Trees, rowid, put_row}
-use Rattle.sqlite_trees.proofs.ListLemmas.{map-map}
-use Rattle.sqlite_sql.specs.Term.{Term, eval_all}
 use Rattle.sqlite_sql.specs.Query.{Query, IsAnswer}
 use Rattle.sqlite_sql.specs.Program.{overlay}
 use Rattle.sqlite_schema.specs.declared.schema.Keys.TheVariants.{Enforced}
-use Rattle.sqlite_schema.specs.declared.schema.Schema.{Schema}
-use Rattle.sqlite_schema.specs.declared.schema.Table.{Table}
-use Rattle.sqlite_schema.specs.declared.command.Command.{Command}
-use Rattle.sqlite_schema.specs.declared.command.Command.TheVariants.{Insert}
 use Rattle.sqlite_schema.specs.declared.command.Source.TheVariants as source
 use Rattle.sqlite_rules.specs.declared.error.Rowids.{Rowids}
 use Rattle.sqlite_rules.specs.declared.error.Rowids.TheVariants.{Chosen}
-use Rattle.sqlite_rules.specs.Cast.{cast_row}
 use Rattle.sqlite_rules.specs.Edit.{Applies, edit_of, with_rowid, is_chosen, at_least, next_rowid, numbered, put_all}
-use Rattle.store_tables.specs.Tables.{as_strict, with_tables, contents, IsTree}
-use Rattle.store_tables.specs.steps.Edits.{EditsAmong}
 use Rattle.store_tables.proofs.TreeRows.{put_all_permutes, put_all_tree, all_kept}
-use Rattle.store_tables.proofs.Inserting.{applied, at_table}
 use Rattle.store_tables.proofs.Selecting.{from_table, no_limit, permuted}
 
 -- SELECT shown FROM one table, for INSERT, whose query has a collation for each column

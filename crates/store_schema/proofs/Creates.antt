@@ -1,28 +1,9 @@
 -- The statements that make the tables of a desk, one on the other. Each fact is computed.
-use Rattle.std.proofs.Common.{◌≡◌, ℕ, List, false, Ok, refl}
+use Rattle.store_schema.proofs.Vocabulary.{◌≡◌, ℕ, List, false, Ok, refl, created, indexed, next_tree, lacks_sequence, IsPlain, command_of, statement_of, CreateTable, CreateIndex, Schema, Table, old_schema, old_schema_without_index, meta, operator, pool, holder, holding, granted, auth, slurm, claim, entry, holding_of, CREATE_AUTH, CREATE_CLAIM, CREATE_ENTRY, CREATE_SLURM, CREATE_GRANTED, CREATE_HOLDER, CREATE_HOLDING, CREATE_HOLDING_INDEX, CREATE_META, CREATE_OPERATOR, CREATE_POOL, schema_so_far}
 use Rattle.sqlite.specs.Compile.{table_defined_by, index_defined_by}
-use Rattle.sqlite.specs.Change.{created, indexed, next_tree}
-use Rattle.sqlite.specs.Does.{lacks_sequence}
 use Rattle.sqlite.specs.Listing.{understood}
-use Rattle.sqlite.proofs.Callers.{IsPlain, command_of, statement_of}
-use Rattle.sqlite_schema.specs.declared.command.Command.TheVariants.{CreateTable, CreateIndex}
-use Rattle.sqlite_schema.specs.declared.schema.Schema.{Schema}
-use Rattle.sqlite_schema.specs.declared.schema.Table.{Table}
 use Rattle.sqlite_tied.specs.Compute.{everything}
 use Rattle.std.specs.Fmt.{digits}
-use Rattle.store_schema.specs.OldTables.{old_schema, old_schema_without_index}
-use Rattle.store_tables.specs.Tables.{meta, operator, pool, holder, holding, granted, auth, slurm, claim, entry, holding_of}
-use Rattle.store_tables.specs.declared.auth.TheConstants.{CREATE_AUTH}
-use Rattle.store_tables.specs.declared.claim.TheConstants.{CREATE_CLAIM}
-use Rattle.store_tables.specs.declared.entry.TheConstants.{CREATE_ENTRY}
-use Rattle.store_tables.specs.declared.exception.TheConstants.{CREATE_SLURM}
-use Rattle.store_tables.specs.declared.granted.TheConstants.{CREATE_GRANTED}
-use Rattle.store_tables.specs.declared.holder.TheConstants.{CREATE_HOLDER}
-use Rattle.store_tables.specs.declared.holding.TheConstants.{CREATE_HOLDING, CREATE_HOLDING_INDEX}
-use Rattle.store_tables.specs.declared.meta.TheConstants.{CREATE_META}
-use Rattle.store_tables.specs.declared.operator.TheConstants.{CREATE_OPERATOR}
-use Rattle.store_tables.specs.declared.pool.TheConstants.{CREATE_POOL}
-use Rattle.store_schema.specs.Making.{schema_so_far}
 
 -- over the first tables, the text defines this table, and makes the next schema
 pub record Defines (sql : List ℕ) (table : Table) (before after : Schema) : Type 0 where

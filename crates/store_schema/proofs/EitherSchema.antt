@@ -1,18 +1,6 @@
 -- Tables that have the number of one schema hold nothing as tables of the other.
-use Rattle.std.proofs.Common.{◌≡◌, inl, inr, ℕ, pos, [], ◌∷◌, sym, ap, arith, Contains}
-use Rattle.std.proofs.lemmas.List.Sorted.{Contains-permutation, IsPermutation-sym}
-use Rattle.sqlite_rules.proofs.ListLemmas.{has_contained}
-use Rattle.sqlite_trees.specs.Tree.{Trees}
-use Rattle.sqlite_value.specs.declared.value.Value.{Value}
-use Rattle.sqlite_value.specs.declared.value.Value.TheVariants.{Int}
-use Rattle.sqlite_value.specs.Order.{Row, column}
-use Rattle.registry.specs.CharterSets.{CharterSets}
-use Rattle.registry.specs.RowsOfAll.{AllRows}
-use Rattle.store_tables.specs.Cells.{schema_row}
-use Rattle.store_tables.specs.Tables.{meta, contents}
-use Rattle.store_tables.specs.TablesHold.{TablesHold}
+use Rattle.store_schema.proofs.Vocabulary.{◌≡◌, inl, inr, ℕ, pos, [], ◌∷◌, sym, ap, arith, Contains, Contains-permutation, IsPermutation-sym, has_contained, Trees, Value, Int, Row, column, CharterSets, AllRows, schema_row, meta, contents, TablesHold, old_schema_row, HasOldNumber, OldTablesHold}
 use Rattle.store_schema.specs.EitherSchema.{EitherSchemaHolds}
-use Rattle.store_schema.specs.OldTables.{old_schema_row, HasOldNumber, OldTablesHold}
 
 -- the two rows have other numbers
 abbrev number_in : Value → ℕ

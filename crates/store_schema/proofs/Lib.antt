@@ -7,3 +7,4 @@ mod Creates
 mod MakingSteps
 mod MovingSteps
 pub mod CharterSteps
+pub mod Vocabulary

@@ -1,28 +1,6 @@
 -- What each CREATE does to the tables that are made so far.
-use Rattle.std.proofs.Common.{◌≡◌, ℕ, suc, Bool, true, false, List, [], ◌∷◌, ◌++◌, None, Some, slice_get, Ok, refl, sym, ap, subst, ◌∙◌}
-use Rattle.std.specs.List.{AllByRecursion}
-use Rattle.std.proofs.lemmas.List.Sorted.{IsPermutation-refl}
-use Rattle.sqlite_value.specs.Order.{Row}
-use Rattle.sqlite.specs.Change.{created, indexed, next_tree, KeepsRows}
-use Rattle.sqlite.specs.Does.{Tally, Does, lacks_sequence}
-use Rattle.sqlite.specs.Effect.{Database}
-use Rattle.sqlite.specs.State.{State, mode_of, Writes}
-use Rattle.sqlite.proofs.Callers.{runs_as}
-use Rattle.sqlite_trees.specs.Tree.{Trees}
-use Rattle.sqlite_trees.proofs.ListLemmas.{all_both, all-append}
-use Rattle.sqlite_schema.specs.declared.command.Command.TheVariants.{CreateTable, CreateIndex}
-use Rattle.sqlite_schema.specs.declared.schema.Schema.{Schema}
-use Rattle.sqlite_schema.specs.declared.schema.Table.{Table}
-use Rattle.store_tables.specs.Tables.{claim, entry, holding, holding_of, contents}
-use Rattle.store_tables.specs.TablesHold.{Part, HoldsPart, HoldsFiles}
-use Rattle.store_tables.specs.declared.holding.TheConstants.{CREATE_HOLDING_INDEX}
-use Rattle.store_schema.specs.OldTables.{old_schema, old_schema_without_index}
-use Rattle.store_schema.specs.Moving.{IsOverOld}
-use Rattle.store_schema.specs.Making.{schema_so_far, tables_so_far, IsMadeTo}
-use Rattle.store_schema.specs.steps.Making.{Redefines, MakesTable, MakesClaimTables}
-use Rattle.store_transactions.specs.Statements.{IsExecuted}
+use Rattle.store_schema.proofs.Vocabulary.{◌≡◌, ℕ, suc, Bool, true, false, List, [], ◌∷◌, ◌++◌, None, Some, slice_get, Ok, refl, sym, ap, subst, ◌∙◌, AllByRecursion, IsPermutation-refl, Row, created, indexed, next_tree, KeepsRows, Tally, Does, lacks_sequence, Database, State, mode_of, Writes, runs_as, Trees, all_both, all-append, CreateTable, CreateIndex, Schema, Table, claim, entry, holding, holding_of, contents, Part, HoldsPart, HoldsFiles, CREATE_HOLDING_INDEX, old_schema, old_schema_without_index, IsOverOld, schema_so_far, tables_so_far, IsMadeTo, Redefines, MakesTable, MakesClaimTables, IsExecuted, went, same_value, each_table}
 use Rattle.store_tables.proofs.HeldFiles.{no_files_held}
-use Rattle.store_tables.proofs.Inserting.{went, same_value, each_table}
 use Rattle.store_schema.proofs.Creates.{Defines, DefinesIndex, index_defined, old_index_defined}
 
 -- tables that keep their rows stay empty

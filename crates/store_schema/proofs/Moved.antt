@@ -1,24 +1,7 @@
 -- A desk of schema 1 whose rows were moved holds what it held.
-use Rattle.std.proofs.Common.{◌≡◌, ◌≢◌, ℕ, true, List, [], ◌∷◌, ◌++◌, length, map, flat_map, filter, Option, Some, None, refl, sym, ap, ap₂, subst, ◌∙◌, arith, IsPermutation}
-use Rattle.std.specs.List.{AllByRecursion}
-use Rattle.std.proofs.lemmas.List.{map-append}
-use Rattle.std.proofs.lemmas.List.Sorted.{IsPermutation-map, IsPermutation-trans}
-use Rattle.sqlite_value.specs.Order.{Row, column}
-use Rattle.sqlite_trees.specs.Tree.{Trees}
-use Rattle.sqlite_trees.proofs.ListLemmas.{map-map, map-flat_map, flat_map_same_on, filter-map, all-map, all_weaker, all-permutation, IsPermutation-filter}
-use Rattle.registry.specs.CharterSets.{CharterSets}
-use Rattle.registry.specs.Rows.{Rows}
-use Rattle.registry.specs.RowsOfAll.{AllRows}
+use Rattle.store_schema.proofs.Vocabulary.{◌≡◌, ◌≢◌, ℕ, true, List, [], ◌∷◌, ◌++◌, length, map, flat_map, filter, Option, Some, None, refl, sym, ap, ap₂, subst, ◌∙◌, arith, IsPermutation, AllByRecursion, map-append, IsPermutation-map, IsPermutation-trans, Row, column, Trees, map-map, map-flat_map, flat_map_same_on, filter-map, all-map, all_weaker, all-permutation, IsPermutation-filter, CharterSets, Rows, AllRows, RoaPrefix, claim_of, entry_rows_of, claim_row, entry_row, operator_row, prefix_cells, claim_entry, auth_row, auth_rows, auth_part, is_old_table, HasOneEntry, OldTablesHold, auth, meta, contents, Part, HoldsPart, HoldsFiles, TablesHold, part_rows, is_name_of, is_text, holder_part, holding_part, granted_part, claim_part, entry_part, claim_columns, entry_columns, IsMoved}
 use Rattle.registry.specs.RoaPrefixes.{AreEntries}
 use Rattle.registry.specs.declared.authorization.Auth.{Auth}
-use Rattle.addr.specs.declared.roa_prefix.RoaPrefix.{RoaPrefix}
-use Rattle.store_tables.specs.Authorizations.{claim_of, entry_rows_of}
-use Rattle.store_tables.specs.Cells.{claim_row, entry_row, operator_row, prefix_cells}
-use Rattle.store_tables.specs.Groups.{claim_entry}
-use Rattle.store_schema.specs.OldTables.{auth_row, auth_rows, auth_part, is_old_table, HasOneEntry, OldTablesHold}
-use Rattle.store_tables.specs.Tables.{auth, meta, contents}
-use Rattle.store_tables.specs.TablesHold.{Part, HoldsPart, HoldsFiles, TablesHold, part_rows, is_name_of, is_text, holder_part, holding_part, granted_part, claim_part, entry_part}
-use Rattle.store_schema.specs.Moved.{claim_columns, entry_columns, IsMoved}
 use Rattle.store_tables.proofs.PartLemmas.{names}
 
 -- the rows of every holder, each turned into the row that another table has for it

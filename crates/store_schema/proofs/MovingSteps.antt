@@ -1,26 +1,10 @@
 -- What the statements do that move the rows of schema 1.
-use Rattle.std.proofs.Common.{◌≡◌, Bool, true, [], None, Ok, sym, ap, subst, ◌∙◌}
-use Rattle.sqlite.specs.Does.{Tally, Does}
-use Rattle.sqlite.specs.Effect.{Database}
+use Rattle.store_schema.proofs.Vocabulary.{◌≡◌, Bool, true, [], None, Ok, sym, ap, subst, ◌∙◌, Tally, Does, Database, State, mode_of, runs_as, statement_of, DropIndex, Schema, COPY_CLAIMS, COPY_ENTRIES, DELETE_ALL_AUTHS, DROP_HOLDING_INDEX, UPDATE_SCHEMA, old_tables, old_schema, desk_tables, desk_schema, CREATE_HOLDING_INDEX, went, same_value, each_table, IsReady, IsExecuted, IsOver, MakesClaimTables, DropsIndex, old_schema_if, wide_schema, WidensTables, MovesRows, has_schema, wrote, ready_still}
 use Rattle.sqlite.specs.Listing.{understood}
-use Rattle.sqlite.specs.State.{State, mode_of}
-use Rattle.sqlite.proofs.Callers.{runs_as, statement_of}
 use Rattle.sqlite_catalog.specs.Change.{KeepsRows}
-use Rattle.sqlite_schema.specs.declared.command.Command.TheVariants.{DropIndex}
-use Rattle.sqlite_schema.specs.declared.schema.Schema.{Schema}
-use Rattle.store_schema.specs.declared.statements.TheConstants.{COPY_CLAIMS, COPY_ENTRIES, DELETE_ALL_AUTHS, DROP_HOLDING_INDEX, UPDATE_SCHEMA}
-use Rattle.store_schema.specs.OldTables.{old_tables, old_schema}
 use Rattle.store_schema.proofs.Steps.{copies_claims, copies_entries, takes_auths, sets_schema, moved, still_moved}
 use Rattle.store_schema.proofs.Texts.{copy_claims_is, copy_entries_is, take_auths_is, set_schema_is, drop_index_is, drop_index_plain, index_dropped}
-use Rattle.store_tables.specs.Tables.{desk_tables, desk_schema}
-use Rattle.store_tables.specs.declared.holding.TheConstants.{CREATE_HOLDING_INDEX}
-use Rattle.store_tables.proofs.Inserting.{went, same_value, each_table}
-use Rattle.store_transactions.specs.Statements.{IsReady, IsExecuted}
-use Rattle.store_schema.specs.Making.{IsOver}
-use Rattle.store_schema.specs.steps.Making.{MakesClaimTables, DropsIndex}
-use Rattle.store_schema.specs.Moving.{old_schema_if, wide_schema, WidensTables, MovesRows}
 use Rattle.store_schema.proofs.MakingSteps.{makes_index}
-use Rattle.store_transactions.proofs.StatementLemmas.{has_schema, wrote, ready_still}
 
 -- ---- the tables
 

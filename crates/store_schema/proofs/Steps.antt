@@ -1,41 +1,13 @@
 -- What the four statements do that move the rows of schema 1, and that together they move them.
-use Rattle.std.proofs.Common.{◌≡◌, ◌≢◌, ℕ, true, not, List, [], ◌∷◌, ◌++◌, map, filter, drop, Option, None, refl, sym, ap, ap₂, subst, ◌∙◌, append-nil, arith, IsPermutation}
-use Rattle.std.proofs.lemmas.List.{nil_from_length}
-use Rattle.std.proofs.lemmas.List.Sorted.{IsPermutation-map, IsPermutation-trans, length_permutation}
-use Rattle.sqlite.specs.Effect.{Database}
-use Rattle.sqlite.specs.State.{State, Writes}
-use Rattle.sqlite_value.specs.Order.{Row, column}
-use Rattle.sqlite_trees.specs.Tree.{Trees}
-use Rattle.sqlite_sql.specs.Term.{eval_all}
-use Rattle.sqlite_schema.specs.declared.command.Command.TheVariants.{Update, Delete}
+use Rattle.store_schema.proofs.Vocabulary.{◌≡◌, ◌≢◌, ℕ, true, not, List, [], ◌∷◌, ◌++◌, map, filter, drop, Option, None, refl, sym, ap, ap₂, subst, ◌∙◌, append-nil, arith, IsPermutation, nil_from_length, IsPermutation-map, IsPermutation-trans, length_permutation, Database, State, Writes, Row, column, Trees, eval_all, Update, Delete, Schema, cast_all, all_from, CharterSets, Rows, AllRows, RoaPrefix, SCHEMA, claim_of, number_cell, schema_row, claim_entry, auth_row, auth_rows, auth_part, old_tables, is_old_table, old_schema_row, OldTablesHold, meta, auth, claim, entry, desk_tables, desk_beside, contents, is_table, IsTree, SameRows, HoldsPart, Edits, claim_columns, entry_columns, AreAuthRows, AreMovable, IsWidened, IsMoved, cast_schema, cast_claim, cast_entry, deletion_of, takes, each_table, update_of, changes}
 use Rattle.sqlite_schema.specs.declared.schema.Column.{Column}
-use Rattle.sqlite_schema.specs.declared.schema.Schema.{Schema}
-use Rattle.sqlite_rules.specs.Cast.{cast_all}
-use Rattle.sqlite_rules.proofs.ListLemmas.{all_from}
 use Rattle.sqlite_rules.proofs.ProbeLemmas.{has_mapped}
-use Rattle.registry.specs.CharterSets.{CharterSets}
-use Rattle.registry.specs.Rows.{Rows}
-use Rattle.registry.specs.RowsOfAll.{AllRows}
-use Rattle.addr.specs.declared.roa_prefix.RoaPrefix.{RoaPrefix}
 use Rattle.store_tables.specs.declared.claim.Claim.{Claim}
-use Rattle.store_tables.specs.declared.meta.TheConstants.{SCHEMA}
-use Rattle.store_tables.specs.Authorizations.{claim_of}
-use Rattle.store_tables.specs.Cells.{number_cell, schema_row}
-use Rattle.store_tables.specs.Groups.{claim_entry}
-use Rattle.store_schema.specs.OldTables.{auth_row, auth_rows, auth_part, old_tables, is_old_table, old_schema_row, OldTablesHold}
-use Rattle.store_tables.specs.Tables.{meta, auth, claim, entry, desk_tables, desk_beside, contents, is_table, IsTree, SameRows}
-use Rattle.store_tables.specs.TablesHold.{HoldsPart}
-use Rattle.store_tables.specs.steps.Edits.{Edits}
-use Rattle.store_schema.specs.Moved.{claim_columns, entry_columns, AreAuthRows, AreMovable, IsWidened, IsMoved}
-use Rattle.store_tables.proofs.CellLemmas.{cast_schema, cast_claim, cast_entry}
 use Rattle.store_schema.proofs.Copying.{copied, puts_shown}
 use Rattle.store_tables.proofs.Deleting as deleting
-use Rattle.store_tables.proofs.Deleting.{deletion_of, takes}
-use Rattle.store_tables.proofs.Inserting.{each_table}
 use Rattle.store_schema.proofs.Texts.{claim_terms, entry_terms, schema_sets, claims_copied, entries_copied}
 use Rattle.store_tables.proofs.SomeRow.{has_joined, of_some}
 use Rattle.store_tables.proofs.Updating as updating
-use Rattle.store_tables.proofs.Updating.{update_of, changes}
 
 -- ---- the rows that are copied
 

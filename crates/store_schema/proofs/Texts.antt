@@ -1,23 +1,10 @@
 -- What the statements mean that move the authorizations of schema 1, over the tables of a desk, and that which takes the
 -- old index away before these are made. Each fact is computed.
-use Rattle.std.proofs.Common.{◌≡◌, List, [], ◌∷◌, pos, refl}
+use Rattle.store_schema.proofs.Vocabulary.{◌≡◌, List, [], ◌∷◌, pos, refl, Null, Int, Command, Update, Delete, DropIndex, Term, lit, col, without_index, IsPlain, command_of, SCHEMA, COPY_CLAIMS, COPY_ENTRIES, DELETE_ALL_AUTHS, DROP_HOLDING_INDEX, UPDATE_SCHEMA, old_schema, old_schema_without_index, old_holding_of, meta, auth, deletion_of, update_of, Means}
 use Rattle.sqlite_value.specs.declared.keys.Collation.TheVariants.{Binary}
-use Rattle.sqlite_value.specs.declared.value.Value.TheVariants.{Null, Int}
-use Rattle.sqlite_schema.specs.declared.command.Command.{Command}
-use Rattle.sqlite_schema.specs.declared.command.Command.TheVariants.{Update, Delete, DropIndex}
-use Rattle.sqlite_sql.specs.Term.{Term, lit, col}
-use Rattle.sqlite.specs.Change.{without_index}
 use Rattle.sqlite.specs.Listing.{understood}
-use Rattle.sqlite.proofs.Callers.{IsPlain, command_of}
 use Rattle.sqlite_tied.specs.Compute.{everything}
-use Rattle.store_tables.specs.declared.meta.TheConstants.{SCHEMA}
-use Rattle.store_schema.specs.declared.statements.TheConstants.{COPY_CLAIMS, COPY_ENTRIES, DELETE_ALL_AUTHS, DROP_HOLDING_INDEX, UPDATE_SCHEMA}
-use Rattle.store_schema.specs.OldTables.{old_schema, old_schema_without_index, old_holding_of}
-use Rattle.store_tables.specs.Tables.{meta, auth}
 use Rattle.store_schema.proofs.Copying.{copies}
-use Rattle.store_tables.proofs.Deleting.{deletion_of}
-use Rattle.store_tables.proofs.Updating.{update_of}
-use Rattle.store_tables.proofs.Texts.{Means}
 
 -- the row of a claim out of a row of `auth`, the hidden rowid left to SQLite
 abbrev pub claim_terms : List Term

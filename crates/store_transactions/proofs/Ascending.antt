@@ -1,9 +1,5 @@
 -- Rows of which each is so to every later one.
-use Rattle.std.proofs.Common.{List, [], ◌∷◌, IsPermutation}
-use Rattle.std.specs.List.{AllByRecursion}
-use Rattle.std.proofs.lemmas.List.Sorted.{IsPermutation-refl, IsPermutation-cons, IsPermutation-middle, IsPermutation-trans}
-use Rattle.sqlite_trees.specs.Tree.{IsAscending}
-use Rattle.sqlite_trees.proofs.ListLemmas.{all_both, all-permutation, along_permutation}
+use Rattle.store_transactions.proofs.Vocabulary.{List, [], ◌∷◌, IsPermutation, AllByRecursion, IsPermutation-refl, IsPermutation-cons, IsPermutation-middle, IsPermutation-trans, IsAscending, all_both, all-permutation, along_permutation}
 
 -- a relation of each element and each later one, where it holds of all that are so
 pub ascending_where : {X : Type 0} (P : X → Type 0) (R S : X → X → Type 0) → ((a b : X) → P a → P b → R a b → S a b) → (xs : List X) → AllByRecursion P xs → IsAscending R xs → IsAscending S xs

@@ -1,11 +1,5 @@
 -- Queries outside a transaction, one after the other.
-use Rattle.std.proofs.Common.{◌≡◌, Result, Ok, inl, refl, ◌∙◌, arith, IsErr, IsTrue, false}
-use Rattle.std.proofs.lemmas.Result.{on_ok_weaker}
-use Rattle.sqlite.specs.Held.{Held, state}
-use Rattle.sqlite.specs.Store.{Ghosts}
-use Rattle.sqlite.proofs.Callers.{unchanged_then}
-use Rattle.sqlite.proofs.StateLemmas.{survives_then}
-use Rattle.store_transactions.specs.Queries.{IsAsked, IsClean}
+use Rattle.store_transactions.proofs.Vocabulary.{◌≡◌, Result, Ok, inl, refl, ◌∙◌, arith, IsErr, IsTrue, false, on_ok_weaker, Held, state, Ghosts, unchanged_then, survives_then, IsAsked, IsClean}
 use Rattle.store_transactions.proofs.QueryLemmas.{no_answer}
 
 module _ {S : Type 0} (g : Ghosts S) where

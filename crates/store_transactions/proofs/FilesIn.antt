@@ -1,37 +1,15 @@
 -- Exceptions in the order of their places, file by file.
-use Rattle.std.proofs.Common.{◌≡◌, ◌≢◌, ℕ, zero, suc, ◌+◌, ◌<◌, ◌≤◌, Bool, true, false, if◌then◌else◌, not, List, [], ◌∷◌, ◌++◌, map, filter, length, take, drop, get_or, Ordering, Less, Equal, Greater, refl, inl, inr, sym, ap, subst, ◌∙◌, arith, append_assoc, append-nil}
+use Rattle.store_transactions.proofs.Vocabulary.{◌≡◌, ◌≢◌, ℕ, zero, suc, ◌+◌, ◌<◌, ◌≤◌, Bool, true, false, if◌then◌else◌, not, List, [], ◌∷◌, ◌++◌, map, filter, length, take, drop, get_or, Ordering, Less, Equal, Greater, refl, inl, inr, sym, ap, subst, ◌∙◌, arith, append_assoc, append-nil, slice_cmp, AllAdjacentBelow, filter_map, is_lt, nat_cmp, ordering_reverse, ordering_then, bytes_eq, both_ways, cases_Bool, cases_lt, lt-ltb, nat_cmp_total, nat_list_cmp_total, on_total, then_total, length-append, map-append, All-from_all_within, filter-append, recursion_from_All, IsPermutation-filter_both, length_permutation, is_eq-slice_cmp, IsAscending, all_weaker, ascending-get_or, filter-filter, filter_all, filter_none, IsPermutation-filter, Has, all_has, has_filtered, same_name-same, same_name-true, Exceptions, exceptions_named, has_entries, name_cmp, MOST_ENTRIES, NamedSlurm, Exception, ExceptionRow, kind_number, AreFew, AreFilesIn, RiseByPlace, assertion_if, exceptions_in, filter_if, is_in_file, place_cmp}
 use Rattle.std.specs.Cmp.{IsTotalOrder}
-use Rattle.std.specs.Cmp.Lexicographic.{slice_cmp}
-use Rattle.std.specs.List.{AllAdjacentBelow, filter_map}
 use Rattle.std.specs.List.Sorted.{IsPartitionPoint, IsPartitionedBy, IsStrictlySortedBy}
-use Rattle.std.specs.Ordering.{is_eq, is_lt, nat_cmp, ordering_reverse, ordering_then}
-use Rattle.std.specs.Str.{bytes_eq}
-use Rattle.std.proofs.lemmas.Bool.{both_ways, cases_Bool, cases_lt, lt-ltb}
-use Rattle.std.proofs.lemmas.Cmp.{nat_cmp_total, nat_list_cmp_total, on_total, then_total}
-use Rattle.std.proofs.lemmas.List.{length-append, map-append}
-use Rattle.std.proofs.lemmas.List.Elements.{All-from_all_within, filter-append, recursion_from_All}
+use Rattle.std.specs.Ordering.{is_eq}
 use Rattle.std.proofs.lemmas.List.Filters.{length-filter_both}
 use Rattle.std.proofs.lemmas.List.Kept.{IsStrictlySortedBy-filter}
-use Rattle.std.proofs.lemmas.List.Sorted.{IsPermutation-filter_both, length_permutation}
 use Rattle.std.proofs.lemmas.Map.Keys.{sorted_from_all_adjacent}
-use Rattle.std.proofs.lemmas.Map.Text.{is_eq-slice_cmp}
-use Rattle.sqlite_trees.specs.Tree.{IsAscending}
-use Rattle.sqlite_trees.proofs.ListLemmas.{all_weaker, ascending-get_or, filter-filter, filter_all, filter_none, IsPermutation-filter}
-use Rattle.sqlite_rules.specs.Lists.{Has}
-use Rattle.sqlite_rules.proofs.ListLemmas.{all_has, has_filtered}
 use Rattle.addr.specs.declared.vrp.Vrp.{Vrp}
 use Rattle.addr.proofs.OrderLemmas.{less_is}
-use Rattle.registry.proofs.Names.{same_name-same, same_name-true}
-use Rattle.slurm.specs.Exceptions.{Exceptions}
-use Rattle.slurm.specs.SlurmSets.{exceptions_named, has_entries, name_cmp}
-use Rattle.slurm.specs.declared.exceptions.TheConstants.{MOST_ENTRIES}
 use Rattle.slurm.specs.declared.filter.Filter.{Filter}
-use Rattle.slurm.specs.declared.set.NamedSlurm.{NamedSlurm}
-use Rattle.store_tables.specs.declared.exception.Exception.{Exception}
 use Rattle.store_tables.specs.declared.exception.Exception.TheVariants.{Filter as FilterOf, Assertion}
-use Rattle.store_tables.specs.declared.exception.ExceptionRow.{ExceptionRow}
-use Rattle.store_tables.specs.Cells.{kind_number}
-use Rattle.store_transactions.specs.steps.Files.{AreFew, AreFilesIn, RiseByPlace, assertion_if, exceptions_in, filter_if, is_in_file, place_cmp}
 
 abbrev cmp : List ℕ → List ℕ → Ordering
 cmp = slice_cmp nat_cmp

@@ -1,28 +1,8 @@
 -- The rows of a table that holds SLURM files: each is of one of them, and of each file there is one.
-use Rattle.std.proofs.Common.{◌≡◌, ℕ, ◌+◌, ◌<◌, true, List, [], ◌∷◌, ◌++◌, map, filter, length, refl, inl, sym, ap, subst, ◌∙◌, arith, All, IsTrue}
-use Rattle.std.specs.List.{AllByRecursion}
-use Rattle.std.proofs.lemmas.List.Elements.{All-from_recursion, recursion_from_All}
-use Rattle.sqlite_value.specs.declared.value.Value.{Value}
-use Rattle.sqlite_value.specs.declared.value.Value.TheVariants.{Null, Int, Real, Text, Blob}
-use Rattle.sqlite_value.specs.Order.{Row, column}
-use Rattle.sqlite_trees.proofs.ListLemmas.{all-append, all-map, all-permutation, all_weaker}
-use Rattle.sqlite_rules.specs.Lists.{Has}
-use Rattle.sqlite_rules.proofs.ListLemmas.{all_from, all_has, has_filtered, has_kept}
+use Rattle.store_transactions.proofs.Vocabulary.{◌≡◌, ℕ, ◌+◌, ◌<◌, true, List, [], ◌∷◌, ◌++◌, map, filter, length, refl, inl, sym, ap, subst, ◌∙◌, arith, All, IsTrue, AllByRecursion, All-from_recursion, recursion_from_All, Value, Null, Int, Real, Text, Blob, Row, column, all-append, all-map, all-permutation, all_weaker, Has, all_from, all_has, has_filtered, has_kept, is_name, ExceptionsFit, FileFits, FilesFit, FilterFits, VrpFits, Exceptions, exceptions_named, has_entries, NamedSlurm, Exception, ExceptionRow, exception_row, IsPosition, ExceptionFits, ExceptionRowFits, exception_columns, ArePlaced, HoldsExceptions, HoldsFiles, is_of_file, is_text, name_of-true, name_of_itself, AreFewOfEach}
 use Rattle.sqlite_rules.proofs.ProbeLemmas.{has_mapped, mapped_has}
-use Rattle.addr.specs.Name.{is_name}
-use Rattle.registry.specs.Values.{ExceptionsFit, FileFits, FilesFit, FilterFits, VrpFits}
-use Rattle.slurm.specs.Exceptions.{Exceptions}
-use Rattle.slurm.specs.SlurmSets.{exceptions_named, has_entries}
-use Rattle.slurm.specs.declared.set.NamedSlurm.{NamedSlurm}
-use Rattle.store_tables.specs.declared.exception.Exception.{Exception}
 use Rattle.store_tables.specs.declared.exception.Exception.TheVariants.{Filter as FilterOf, Assertion}
-use Rattle.store_tables.specs.declared.exception.ExceptionRow.{ExceptionRow}
-use Rattle.store_tables.specs.Cells.{exception_row}
-use Rattle.store_tables.specs.Decode.{IsPosition, ExceptionFits, ExceptionRowFits, exception_columns}
-use Rattle.store_tables.specs.TablesHold.{ArePlaced, HoldsExceptions, HoldsFiles, is_of_file, is_text}
 use Rattle.store_tables.proofs.HeldExceptions.{held_number}
-use Rattle.store_tables.proofs.PartLemmas.{name_of-true, name_of_itself}
-use Rattle.store_transactions.specs.Files.{AreFewOfEach}
 use Rattle.store_transactions.proofs.NamedFiles.{named, said, said_fits}
 
 a_text : (v : Value) → is_text v ≡ true → (t : List ℕ) × (v ≡ Text t)

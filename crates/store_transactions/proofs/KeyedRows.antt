@@ -1,19 +1,6 @@
 -- No two rows of a table that has a key show the same in the columns of the key: entries differ in their VRPs, and
 -- claims in their holders or numbers.
-use Rattle.std.proofs.Common.{◌≡◌, ◌≢◌, ℕ, true, false, List, Some, None, drop, slice_get, slice_index_or, refl, inl, inr, sym, is_eq}
-use Rattle.std.proofs.lemmas.Bool.{both_ways}
-use Rattle.sqlite.specs.Effect.{Database, IsDatabase}
-use Rattle.sqlite_value.specs.Keys.{plain}
-use Rattle.sqlite_value.specs.Order.{Row, value_cmp}
-use Rattle.sqlite_trees.specs.Tree.{rowid, IsAscending}
-use Rattle.sqlite_trees.specs.View.{is_int}
-use Rattle.sqlite_trees.proofs.ListLemmas.{ascending-filter, ascending-map, ascending-get_or}
-use Rattle.sqlite_rules.specs.Lists.{Has}
-use Rattle.sqlite_rules.proofs.ListLemmas.{all_has, all_from}
-use Rattle.sqlite_schema.specs.Rules.{agree, are_present}
-use Rattle.sqlite_schema.specs.declared.schema.Table.{Table}
-use Rattle.store_tables.specs.Tables.{desk_tables, rising, claim, entry, contents, IsTree}
-use Rattle.store_transactions.specs.Laws.{payload_columns, number_columns, RowsDiffer, ClaimsDiffer, EntriesDiffer}
+use Rattle.store_transactions.proofs.Vocabulary.{◌≡◌, ◌≢◌, ℕ, true, false, List, Some, None, drop, slice_get, slice_index_or, refl, inl, inr, sym, is_eq, both_ways, Database, IsDatabase, plain, Row, value_cmp, rowid, IsAscending, is_int, ascending-filter, ascending-map, ascending-get_or, Has, all_has, all_from, agree, are_present, Table, desk_tables, rising, claim, entry, contents, IsTree, payload_columns, number_columns, RowsDiffer, ClaimsDiffer, EntriesDiffer}
 use Rattle.store_transactions.proofs.Obeyed.{payload_key, agree_in_payload, number_key, agree_in_number, once_by_key, filled}
 use Rattle.store_transactions.proofs.Ascending.{ascending_moved, ascending_where}
 

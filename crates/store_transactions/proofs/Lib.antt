@@ -10,3 +10,4 @@ pub mod NamedFiles
 pub mod HeldRows
 mod FilesIn
 mod ShownFiles
+pub mod Vocabulary

@@ -1,21 +1,7 @@
 -- SLURM files that rise by name, by what the file of each name says.
-use Rattle.std.proofs.Common.{◌≡◌, ℕ, Bool, true, false, if◌then◌else◌, List, [], ◌∷◌, Ordering, Less, Equal, Greater, is_eq, nat_cmp, inl, inr, refl, sym, ap, subst, ◌∙◌, arith}
-use Rattle.std.specs.Cmp.Lexicographic.{slice_cmp}
-use Rattle.std.specs.List.{AllByRecursion}
+use Rattle.store_transactions.proofs.Vocabulary.{◌≡◌, ℕ, Bool, true, false, if◌then◌else◌, List, [], ◌∷◌, Ordering, Less, Equal, Greater, is_eq, inl, inr, refl, sym, ap, subst, ◌∙◌, arith, slice_cmp, AllByRecursion, ordering_reverse, bytes_eq, both_ways, nat_list_cmp_total, All-nil, recursion_from_All, is_eq-slice_cmp, all_both, Has, ExceptionsFit, FileFits, FilesFit, FilterFits, VrpFits, same_name-same, same_name-true, Exceptions, exceptions_named, has_entries, RiseByName, NamedSlurm}
+use Rattle.std.proofs.Common.{nat_cmp}
 use Rattle.std.specs.List.Sorted.{IsStrictlySortedBy}
-use Rattle.std.specs.Ordering.{ordering_reverse}
-use Rattle.std.specs.Str.{bytes_eq}
-use Rattle.std.proofs.lemmas.Bool.{both_ways}
-use Rattle.std.proofs.lemmas.Cmp.{nat_list_cmp_total}
-use Rattle.std.proofs.lemmas.List.Elements.{All-nil, recursion_from_All}
-use Rattle.std.proofs.lemmas.Map.Text.{is_eq-slice_cmp}
-use Rattle.sqlite_trees.proofs.ListLemmas.{all_both}
-use Rattle.sqlite_rules.specs.Lists.{Has}
-use Rattle.registry.specs.Values.{ExceptionsFit, FileFits, FilesFit, FilterFits, VrpFits}
-use Rattle.registry.proofs.Names.{same_name-same, same_name-true}
-use Rattle.slurm.specs.Exceptions.{Exceptions}
-use Rattle.slurm.specs.SlurmSets.{exceptions_named, has_entries, RiseByName}
-use Rattle.slurm.specs.declared.set.NamedSlurm.{NamedSlurm}
 
 -- ---- names
 

@@ -1,37 +1,19 @@
 -- What the rules of SQLite say of the rows of a desk's tables: how many columns they have, that a holder is
 -- registered, that no holder is registered twice, and that no two exceptions of one kind have one position.
-use Rattle.std.proofs.Common.{◌≡◌, ℕ, zero, suc, ◌+◌, ◌<◌, ◌≤◌, Bool, true, false, not, ◌&&◌, ◌||◌, List, [], ◌∷◌, codes, drop, length, slice_get, slice_index_or, ◌==◌, Some, None, Ordering, Less, Equal, Greater, refl, inl, inr, sym, ap, subst, ◌∙◌, is_eq, arith}
-use Rattle.std.specs.List.{AllByRecursion, list_all}
-use Rattle.std.specs.Ordering.{is_ne}
-use Rattle.std.proofs.lemmas.Bool.{and_parts, and_from, both_ways, not-true, eq-eqb}
-use Rattle.std.proofs.lemmas.Cmp.{tied_itself}
+use Rattle.store_transactions.proofs.Vocabulary.{◌≡◌, ℕ, zero, suc, ◌+◌, ◌<◌, ◌≤◌, Bool, true, false, not, ◌&&◌, ◌||◌, List, [], ◌∷◌, codes, drop, length, slice_get, slice_index_or, ◌==◌, Some, None, Ordering, Less, Equal, Greater, refl, inl, inr, sym, ap, subst, ◌∙◌, is_eq, arith, AllByRecursion, list_all, is_ne, and_parts, and_from, both_ways, not-true, eq-eqb, tied_itself, length-drop, Value, Null, Int, Real, Text, Blob, Row, column, value_cmp, plain, Trees, rowid, is_int, all_weaker, all_both, Table, are_typed, are_present, passes, agree, equal, differ, clashes, guards, parent_key, has_parent, is_held, Has, all_has, test_has, some_has, some_from, desk_tables, holder_reference, required_column, rising, holder, claim, entry, is_name_of, payload_columns, number_columns}
 use Rattle.std.proofs.Math.Bool.{and-true}
-use Rattle.std.proofs.lemmas.List.{length-drop}
-use Rattle.sqlite_value.specs.declared.value.Value.{Value}
-use Rattle.sqlite_value.specs.declared.value.Value.TheVariants.{Null, Int, Real, Text, Blob}
 use Rattle.sqlite_value.specs.declared.keys.Collation.TheVariants.{Binary}
-use Rattle.sqlite_value.specs.Order.{Row, column, value_cmp}
-use Rattle.sqlite_value.specs.Keys.{first_key, joined, plain}
+use Rattle.sqlite_value.specs.Keys.{first_key, joined}
 use Rattle.sqlite_value.proofs.OrderLemmas.{value_cmp-apart, value_cmp_total}
-use Rattle.sqlite_trees.specs.Tree.{Trees, rowid}
-use Rattle.sqlite_trees.specs.View.{is_int}
-use Rattle.sqlite_trees.proofs.ListLemmas.{all_weaker, all_both}
 use Rattle.sqlite_sql.specs.Ops.{is_null, binary, is_true, from_truth}
 use Rattle.sqlite_schema.specs.declared.schema.Column.{Column}
 use Rattle.sqlite_schema.specs.declared.schema.Constraint.{Constraint}
 use Rattle.sqlite_schema.specs.declared.schema.Constraint.TheVariants.{Datatype, NotNull, Unique, ForeignKey}
 use Rattle.sqlite_schema.specs.declared.schema.Schema.{Schema}
-use Rattle.sqlite_schema.specs.declared.schema.Table.{Table}
 use Rattle.sqlite_schema.specs.Names.{same_name}
-use Rattle.sqlite_schema.specs.Rules.{are_typed, are_present, passes, agree, equal, differ, clashes, guards, parent_key, has_parent, is_held}
-use Rattle.sqlite_rules.specs.Lists.{Has}
-use Rattle.sqlite_rules.proofs.ListLemmas.{all_has, test_has, some_has, some_from}
 use Rattle.sqlite_catalog.specs.Listing.{IsSound, IsGuarded, automatic}
 use Rattle.sqlite_schema.specs.declared.schema.Kind.TheVariants.{Integer as OfInteger, Blob as OfBlob, Text as OfText}
-use Rattle.store_tables.specs.Tables.{desk_tables, holder_reference, required_column, rising, holder, claim, entry}
-use Rattle.store_tables.specs.TablesHold.{is_name_of}
 use Rattle.store_tables.proofs.TreeRows.{alike_flip}
-use Rattle.store_transactions.specs.Laws.{payload_columns, number_columns}
 use Rattle.store_tables.proofs.Columns.{column_after}
 
 -- ---- the number of columns

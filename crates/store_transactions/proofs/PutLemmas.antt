@@ -1,12 +1,5 @@
 -- Rows that are put into a table, one after the other.
-use Rattle.std.proofs.Common.{◌≡◌, ℕ, ◌+◌, ◌<◌, List, [], ◌∷◌, ◌++◌, map, take, get_or, length, refl, sym, ap, subst, ◌∙◌, append_assoc, IsPermutation}
-use Rattle.std.proofs.lemmas.List.{map-append}
-use Rattle.std.proofs.lemmas.List.Sorted.{IsPermutation-append_comm, IsPermutation-append_left, IsPermutation-append_right, IsPermutation-refl, IsPermutation-trans}
-use Rattle.sqlite.specs.State.{State}
-use Rattle.sqlite_value.specs.Order.{Row}
-use Rattle.store_tables.specs.Tables.{contents}
-use Rattle.store_transactions.specs.Statements.{IsReady}
-use Rattle.store_transactions.specs.steps.Statements.{PutsRows}
+use Rattle.store_transactions.proofs.Vocabulary.{◌≡◌, ℕ, ◌+◌, ◌<◌, List, [], ◌∷◌, ◌++◌, map, take, get_or, length, refl, sym, ap, subst, ◌∙◌, append_assoc, IsPermutation, map-append, IsPermutation-append_comm, IsPermutation-append_left, IsPermutation-append_right, IsPermutation-refl, IsPermutation-trans, State, Row, contents, IsReady, PutsRows}
 use Rattle.store_transactions.proofs.StatementLemmas.{taken_more}
 
 module _ (tree : ℕ) where

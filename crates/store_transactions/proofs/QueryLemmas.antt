@@ -1,27 +1,9 @@
 -- What a query leaves of a connection.
-use Rattle.std.proofs.Common.{◌≡◌, ◌⊎◌, inl, inr, ℕ, List, Option, Some, None, Result, Ok, Err, IfOk, IfErr, IsErr, OnOk, IsTrue, false, refl, sym, ap, subst, ◌∙◌, arith, IsErrAnd}
-use Rattle.std.proofs.lemmas.Result.{IfOk-weaker, err_from_is_err_and, on_ok_weaker}
-use Rattle.sqlite.specs.declared.error.Error.{Error}
-use Rattle.sqlite.specs.declared.transaction.Transaction.{Transaction}
-use Rattle.sqlite.specs.Effect.{Database, Reads}
-use Rattle.sqlite.specs.Listing.{understood, reads_listing, IsSourceOf}
-use Rattle.sqlite.specs.State.{State, KeepsCommit, IsUnchanged, IsRolledBack, IsNotRun, Shown, ShowsRows, FailsToQuery, FailsToShow, IsTooLate, CommitsShowing, HasCleanDisk, Survives}
+use Rattle.store_transactions.proofs.Vocabulary.{◌≡◌, ◌⊎◌, inl, inr, ℕ, List, Option, Some, None, Result, Ok, Err, IfOk, IfErr, IsErr, OnOk, IsTrue, false, refl, sym, ap, subst, ◌∙◌, arith, IsErrAnd, IfOk-weaker, err_from_is_err_and, on_ok_weaker, Error, Transaction, Database, Reads, understood, reads_listing, IsSourceOf, State, KeepsCommit, IsUnchanged, IsRolledBack, ShowsRows, FailsToShow, IsTooLate, CommitsShowing, HasCleanDisk, Survives, Ghosts, IsPlain, command_of, reads_as, unchanged_then, never_commits, unchanged_keeps, survives_then, Row, Trees, Command, desk_tables, desk_beside, OverDesk, IsAsBefore, IsReady, StaysInside, state_in, IsAskedInside, Means, beside, at_desk, StoreFault, Schema}
+use Rattle.sqlite.specs.State.{IsNotRun, Shown, FailsToQuery}
 use Rattle.sqlite.specs.Clock.{timed}
-use Rattle.sqlite.specs.Store.{Ghosts}
-use Rattle.sqlite.proofs.Callers.{IsPlain, command_of, reads_as, unchanged_then, never_commits}
-use Rattle.sqlite.proofs.InsideLemmas.{unchanged_keeps}
-use Rattle.sqlite.proofs.StateLemmas.{survives_then}
-use Rattle.sqlite_value.specs.Order.{Row}
-use Rattle.sqlite_trees.specs.Tree.{Trees}
-use Rattle.sqlite_schema.specs.declared.command.Command.{Command}
 use Rattle.sqlite_schema.specs.declared.command.Returning.{Returning}
-use Rattle.store_tables.specs.Tables.{desk_tables, desk_beside, OverDesk}
-use Rattle.store_transactions.specs.Statements.{IsAsBefore, IsReady, StaysInside, state_in}
 use Rattle.store_transactions.proofs.StatementLemmas.{stays_then}
-use Rattle.store_transactions.specs.Queries.{IsAskedInside}
-use Rattle.store_tables.proofs.Texts.{Means, beside, at_desk}
-use Rattle.store_transactions.specs.declared.fault.StoreFault.{StoreFault}
-use Rattle.store_transactions.specs.declared.fault.StoreFault.TheVariants.{Schema}
 
 -- a query that answered changed nothing
 pub shown_same : (sql : List ℕ) (params : Row) (old new : State) (rows : List Row) → IsPlain (understood old.now.schema sql) → Shown sql params old new rows → IsUnchanged old new

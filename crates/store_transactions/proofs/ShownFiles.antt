@@ -1,33 +1,6 @@
 -- A table of exceptions in range, each at a place of its own, holds the files of them.
-use Rattle.std.proofs.Common.{◌≡◌, ℕ, ◌+◌, ◌<◌, ◌≤◌, ◌==◌, Bool, true, not, List, [], ◌∷◌, map, filter, length, All, IsTrue, Less, refl, sym, ap, subst, ◌∙◌, arith, IsPermutation, Equal}
-use Rattle.std.specs.Cmp.Lexicographic.{slice_cmp}
-use Rattle.std.specs.List.{AllByRecursion, filter_map}
-use Rattle.std.specs.Ordering.{nat_cmp}
-use Rattle.std.proofs.lemmas.Bool.{eqb-true}
-use Rattle.std.proofs.lemmas.Cmp.{nat_list_cmp_total, nat_cmp_total, tied_itself}
-use Rattle.std.proofs.lemmas.List.{length-map}
-use Rattle.std.proofs.lemmas.List.Elements.{All-from_recursion, recursion_from_All}
-use Rattle.std.proofs.lemmas.List.Sorted.{All-permutation, IsPermutation-filter_both, IsPermutation-map, IsPermutation-sym, IsPermutation-trans, length_permutation}
-use Rattle.sqlite_value.specs.Order.{Row, column}
-use Rattle.sqlite_trees.specs.Tree.{IsAscending}
-use Rattle.sqlite_trees.proofs.ListLemmas.{all_both, all_from_map, all-filter, all-map, all_of, all-permutation, all_weaker, ascending-filter, filter-map, filter_same, IsPermutation-filter}
-use Rattle.sqlite_rules.specs.Lists.{Has}
-use Rattle.sqlite_rules.proofs.ListLemmas.{all_from, all_has, has_filtered}
-use Rattle.addr.specs.Name.{is_name}
-use Rattle.registry.specs.Values.{FileFits, FilesFit, FilterFits, VrpFits}
-use Rattle.registry.proofs.Names.{same_name-true}
-use Rattle.slurm.specs.Exceptions.{Exceptions}
-use Rattle.slurm.specs.declared.exceptions.TheConstants.{MOST_ENTRIES}
-use Rattle.slurm.specs.declared.set.NamedSlurm.{NamedSlurm}
-use Rattle.store_tables.specs.declared.exception.Exception.{Exception}
+use Rattle.store_transactions.proofs.Vocabulary.{◌≡◌, ℕ, ◌+◌, ◌<◌, ◌≤◌, ◌==◌, Bool, true, not, List, [], ◌∷◌, map, filter, length, All, IsTrue, Less, refl, sym, ap, subst, ◌∙◌, arith, IsPermutation, Equal, slice_cmp, AllByRecursion, filter_map, nat_cmp, eqb-true, nat_list_cmp_total, nat_cmp_total, tied_itself, length-map, All-from_recursion, recursion_from_All, All-permutation, IsPermutation-filter_both, IsPermutation-map, IsPermutation-sym, IsPermutation-trans, length_permutation, Row, column, IsAscending, all_both, all_from_map, all-filter, all-map, all_of, all-permutation, all_weaker, ascending-filter, filter-map, filter_same, IsPermutation-filter, Has, all_from, all_has, has_filtered, is_name, FileFits, FilesFit, FilterFits, VrpFits, same_name-true, Exceptions, MOST_ENTRIES, NamedSlurm, Exception, ExceptionRow, exception_row, kind_number, ExceptionFits, ExceptionRowFits, exception_columns, ArePlaced, HoldsExceptions, HoldsFiles, is_of_file, is_text, name_of_text, AreFewOfEach, ShowsExceptions, AreFew, AreFilesIn, RiseByPlace, assertion_if, exceptions_in, filter_if, is_in_file}
 use Rattle.store_tables.specs.declared.exception.Exception.TheVariants.{Filter as FilterOf, Assertion}
-use Rattle.store_tables.specs.declared.exception.ExceptionRow.{ExceptionRow}
-use Rattle.store_tables.specs.Cells.{exception_row, kind_number}
-use Rattle.store_tables.specs.Decode.{ExceptionFits, ExceptionRowFits, exception_columns}
-use Rattle.store_tables.specs.TablesHold.{ArePlaced, HoldsExceptions, HoldsFiles, is_of_file, is_text}
-use Rattle.store_tables.proofs.PartLemmas.{name_of_text}
-use Rattle.store_transactions.specs.Files.{AreFewOfEach, ShowsExceptions}
-use Rattle.store_transactions.specs.steps.Files.{AreFew, AreFilesIn, RiseByPlace, assertion_if, exceptions_in, filter_if, is_in_file}
 use Rattle.store_transactions.proofs.Ascending.{ascending_where}
 use Rattle.store_transactions.proofs.FilesIn.{IsBefore, ascends}
 use Rattle.store_transactions.proofs.NamedFiles.{said}

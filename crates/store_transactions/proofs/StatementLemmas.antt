@@ -1,31 +1,12 @@
 -- What statements mean within a transaction, one and several in turn.
-use Rattle.std.proofs.Common.{◌≡◌, inl, ℕ, Bool, true, false, ◌==◌, List, [], ◌∷◌, None, Some, refl, sym, ap, subst, ◌∙◌, length, ◌/◌, slice_get, ◌++◌, Result, OnOk, arith, ◌+◌, ◌<◌, take, get_or}
-use Rattle.std.proofs.lemmas.Bool.{eqb-true, eq-eqb, both_ways}
-use Rattle.sqlite.specs.Effect.{Database, value_rows}
-use Rattle.sqlite.specs.Listing.{understood}
-use Rattle.sqlite.specs.State.{State, Runs}
-use Rattle.sqlite.proofs.Callers.{runs_as, statement_of}
-use Rattle.sqlite_value.specs.declared.value.Value.TheVariants.{Null}
-use Rattle.sqlite_value.specs.Order.{Row}
-use Rattle.sqlite_schema.specs.declared.command.Command.{Command}
+use Rattle.store_transactions.proofs.Vocabulary.{◌≡◌, inl, ℕ, Bool, true, false, ◌==◌, List, [], ◌∷◌, None, Some, refl, sym, ap, subst, ◌∙◌, length, ◌/◌, slice_get, ◌++◌, Result, OnOk, arith, ◌+◌, ◌<◌, take, get_or, eqb-true, eq-eqb, both_ways, Database, value_rows, understood, State, Runs, runs_as, statement_of, Null, Row, Command, desk_beside, IsTree, AreTrees, as_strict, desk_tables, IsReady, IsExecuted, state_in, OnCleanDisk, IfDone, StaysInside, Means, beside, Table, PutsRows, on_ok_weaker, take_more, keeps_then, survives_then, Transaction, Ghosts}
 use Rattle.sqlite_schema.specs.declared.schema.Schema.{Schema}
-use Rattle.store_tables.specs.Tables.{desk_beside, IsTree, AreTrees, as_strict, desk_tables}
 use Rattle.store_tables.specs.steps.Edits.{Edits}
-use Rattle.store_transactions.specs.Statements.{IsReady, IsExecuted, state_in, OnCleanDisk, IfDone, StaysInside}
-use Rattle.store_tables.proofs.Texts.{Means, beside}
 use Rattle.sqlite_sql.specs.Term.{Term}
 use Rattle.sqlite_schema.specs.declared.command.Command.TheVariants.{Insert}
 use Rattle.sqlite_schema.specs.declared.command.Source.TheVariants.{Values}
-use Rattle.sqlite_schema.specs.declared.schema.Table.{Table}
 use Rattle.sqlite_rules.specs.Cast.{cast_all}
-use Rattle.store_transactions.specs.steps.Statements.{PutsRows}
 use Rattle.store_tables.proofs.Inserting as inserting
-use Rattle.std.proofs.lemmas.Result.{on_ok_weaker}
-use Rattle.std.proofs.lemmas.List.{take_more}
-use Rattle.sqlite.proofs.InsideLemmas.{keeps_then}
-use Rattle.sqlite.proofs.StateLemmas.{survives_then}
-use Rattle.sqlite.specs.declared.transaction.Transaction.{Transaction}
-use Rattle.sqlite.specs.Store.{Ghosts}
 
 module _ {sql : List ℕ} (params : Row) {command : Command} (means : Means sql command) {old new : State} (ready : IsReady old) (ran : IsExecuted sql params old new) where
   pub has_schema : old.now.schema ≡ desk_beside old.now.schema

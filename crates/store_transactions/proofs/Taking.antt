@@ -1,18 +1,5 @@
 -- What is left of a connection once a taker took the rows of an answer.
-use Rattle.std.proofs.Common.{◌≡◌, ◌⊎◌, inl, inr, ℕ, false, List, Result, Ok, Err, IfErr, IfOk, OnOk, OnErr, IsTrue, refl, sym, ap, subst, ◌∙◌, arith}
-use Rattle.std.proofs.lemmas.Result.{IfOk-weaker}
-use Rattle.sqlite.specs.declared.error.Error.{Error}
-use Rattle.sqlite.specs.Effect.{Database}
-use Rattle.sqlite.specs.Listing.{understood, reads_listing}
-use Rattle.sqlite.specs.State.{State, CommitsShowing, FailsToQuery, HasCleanDisk, IsRolledBack, IsUnchanged, Shown, Survives}
-use Rattle.sqlite.proofs.Callers.{IsPlain, never_commits, unchanged_then}
-use Rattle.sqlite.proofs.StateLemmas.{survives_weaker}
-use Rattle.sqlite_value.specs.Order.{Row}
-use Rattle.store_tables.specs.Tables.{desk_tables, OverDesk}
-use Rattle.store_tables.proofs.Texts.{at_desk}
-use Rattle.store_transactions.specs.Statements.{IsAsBefore}
-use Rattle.store_transactions.specs.declared.fault.StoreFault.{StoreFault}
-use Rattle.store_transactions.specs.steps.Statements.{AnswersWith}
+use Rattle.store_transactions.proofs.Vocabulary.{◌≡◌, ◌⊎◌, inl, inr, ℕ, false, List, Result, Ok, Err, IfErr, IfOk, OnOk, OnErr, IsTrue, refl, sym, ap, subst, ◌∙◌, arith, IfOk-weaker, Error, Database, understood, reads_listing, State, CommitsShowing, FailsToQuery, HasCleanDisk, IsRolledBack, IsUnchanged, Shown, Survives, IsPlain, never_commits, unchanged_then, survives_weaker, Row, desk_tables, OverDesk, at_desk, IsAsBefore, StoreFault, AnswersWith}
 use Rattle.store_transactions.proofs.QueryLemmas.{answered, as_before, asked_shown, asked_unchanged, failed_to_query, shown_plain}
 
 pub unchanged_or_undone : (old mid new : State) → IsUnchanged old mid → IsUnchanged mid new ⊎ IsRolledBack mid new → IsUnchanged old new ⊎ IsRolledBack old new

@@ -1,47 +1,10 @@
 -- What the statements that amend an authorization do to those of a holder: its entries are taken, its claim is changed,
 -- and, where there is one, the new entries are put.
-use Rattle.std.proofs.Common.{◌≡◌, ◌≢◌, ℕ, Bool, true, false, cond, not, ◌&&◌, ◌==◌, List, [], ◌∷◌, ◌++◌, map, filter, flat_map, drop, length, Some, IsPermutation, refl, sym, ap, subst, ◌∙◌}
-use Rattle.std.proofs.lemmas.Bool.{eqb-true}
-use Rattle.std.proofs.lemmas.List.{length-map}
-use Rattle.std.proofs.lemmas.List.Sorted.{length_permutation}
-use Rattle.sqlite.specs.State.{State}
-use Rattle.sqlite_value.specs.declared.value.Value.TheVariants.{Text}
-use Rattle.sqlite_value.specs.Order.{Row, column}
-use Rattle.sqlite_trees.proofs.ListLemmas.{IsPermutation-filter, IsPermutation-flat_map, IsPermutation-same, filter-map, map-map}
-use Rattle.sqlite_sql.specs.Term.{eval_all}
+use Rattle.store_write.proofs.Vocabulary.{◌≡◌, ◌≢◌, ℕ, Bool, true, false, cond, not, ◌&&◌, ◌==◌, List, [], ◌∷◌, ◌++◌, map, filter, flat_map, drop, length, Some, IsPermutation, refl, sym, ap, subst, ◌∙◌, eqb-true, length-map, length_permutation, State, Text, Row, column, IsPermutation-filter, IsPermutation-flat_map, IsPermutation-same, filter-map, map-map, eval_all, cast, cast_all, CharterSets, AreEntries, Auth, Amend, Rows, edited, replaced_by, AllRows, claim_of, number_cell, claim_cells, claim_row, claim, entry, contents, desk_beside, HoldsPart, claim_part, part_rows, TablesHold, Claim, UPDATE_CLAIM, DELETE_ENTRIES, Edits, cast_number, is_number_cell, take_entries_is, amend_claim_is, of_number_tests, claim_sets, takes_entries, amends_claim, amends_counted, replaced_have_entries, names, take_local, change_local, picks, filter_twice, changed_if, ClaimsDiffer, IsReady, IsExecuted, PutsRows, column_after, has_schema, wrote, ready_still, sound_still, EditsHolder, IsExecutedOn}
 use Rattle.sqlite_schema.specs.declared.schema.Kind.TheVariants.{Integer, Text as Words}
 use Rattle.sqlite_schema.specs.declared.schema.Schema.{Schema}
-use Rattle.sqlite_rules.specs.Cast.{cast, cast_all}
-use Rattle.registry.specs.CharterSets.{CharterSets}
-use Rattle.registry.specs.RoaPrefixes.{AreEntries}
-use Rattle.registry.specs.declared.authorization.Auth.{Auth}
-use Rattle.registry.specs.declared.change.Edit.TheVariants.{Amend}
-use Rattle.registry.specs.Rows.{Rows, edited, replaced_by}
-use Rattle.registry.specs.RowsOfAll.{AllRows}
-use Rattle.store_tables.specs.Authorizations.{claim_of}
-use Rattle.store_tables.specs.Cells.{number_cell, claim_cells, claim_row}
-use Rattle.store_tables.specs.Tables.{claim, entry, contents, desk_beside}
-use Rattle.store_tables.specs.TablesHold.{HoldsPart, claim_part, part_rows, TablesHold}
-use Rattle.store_tables.specs.declared.claim.Claim.{Claim}
-use Rattle.store_tables.specs.declared.claim.TheConstants.{UPDATE_CLAIM}
-use Rattle.store_tables.specs.declared.entry.TheConstants.{DELETE_ENTRIES}
-use Rattle.store_tables.specs.steps.Edits.{Edits}
-use Rattle.store_tables.proofs.CellLemmas.{cast_number, is_number_cell}
-use Rattle.store_tables.proofs.ClaimTexts.{take_entries_is, amend_claim_is, of_number_tests, claim_sets}
-use Rattle.store_tables.proofs.Claims.{takes_entries, amends_claim, amends_counted}
 use Rattle.store_tables.proofs.Deleting as deleting
-use Rattle.store_tables.proofs.HaveEntries.{replaced_have_entries}
-use Rattle.store_tables.proofs.PartLemmas.{names, take_local, change_local}
-use Rattle.store_tables.proofs.Selecting.{picks}
-use Rattle.store_tables.proofs.TreeRows.{filter_twice}
 use Rattle.store_tables.proofs.Updating as updating
-use Rattle.store_tables.proofs.Updating.{changed_if}
-use Rattle.store_transactions.specs.Laws.{ClaimsDiffer}
-use Rattle.store_transactions.specs.Statements.{IsReady, IsExecuted}
-use Rattle.store_transactions.specs.steps.Statements.{PutsRows}
-use Rattle.store_tables.proofs.Columns.{column_after}
-use Rattle.store_transactions.proofs.StatementLemmas.{has_schema, wrote, ready_still, sound_still}
-use Rattle.store_write.specs.steps.Statements.{EditsHolder, IsExecutedOn}
 use Rattle.store_write.proofs.AuthSteps.{EditsBoth, entries_first, entries_again, auths_turned, both_local, puts_local, entries_named, claim_cells_of, entries_of_auth, rows_of_entries, entries_left, own_claim}
 use Rattle.store_write.proofs.EditSteps.{is_of, of_holder, of_tests, name_kept}
 use Rattle.store_write.proofs.Numbers.{AreNumberedApart, numbered_apart, numbered, none_replaced, one_replaced}

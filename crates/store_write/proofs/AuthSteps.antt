@@ -1,45 +1,9 @@
 -- What the statements that put and take claims and entries do to the authorizations of a holder.
-use Rattle.std.proofs.Common.{◌≡◌, ◌≢◌, ℕ, Bool, true, false, cond, not, ◌==◌, List, [], ◌∷◌, ◌++◌, map, filter, flat_map, Option, Some, None, option_map, IsSome, IsPermutation, refl, sym, ap, subst, ◌∙◌, append-nil}
-use Rattle.std.specs.List.{AllByRecursion}
-use Rattle.std.proofs.lemmas.List.{map-append}
-use Rattle.std.proofs.lemmas.List.Sorted.{IsPermutation-append_comm, IsPermutation-trans}
-use Rattle.std.proofs.lemmas.List.Elements.{filter-append}
-use Rattle.std.proofs.lemmas.Grind.{flat_map-append}
-use Rattle.sqlite.specs.Effect.{Database}
-use Rattle.sqlite.specs.State.{State}
-use Rattle.sqlite_value.specs.declared.value.Value.TheVariants.{Text}
-use Rattle.sqlite_value.specs.Order.{Row, column}
-use Rattle.sqlite_trees.proofs.ListLemmas.{all-append, all-filter, IsPermutation-same}
-use Rattle.registry.specs.CharterSets.{CharterSets}
-use Rattle.registry.specs.RoaPrefixes.{AreEntries}
-use Rattle.registry.specs.declared.authorization.Auth.{Auth}
+use Rattle.store_write.proofs.Vocabulary.{◌≡◌, ◌≢◌, ℕ, Bool, true, false, cond, not, ◌==◌, List, [], ◌∷◌, ◌++◌, map, filter, flat_map, Option, Some, None, option_map, IsSome, IsPermutation, refl, sym, ap, subst, ◌∙◌, append-nil, AllByRecursion, map-append, IsPermutation-append_comm, IsPermutation-trans, filter-append, flat_map-append, Database, State, Text, Row, column, all-append, all-filter, IsPermutation-same, CharterSets, AreEntries, Auth, Withdraw, Rows, edited, AllRows, EachHasEntries, claim_of, entry_rows_of, number_cell, schema_row, operator_row, prefix_cells, claim_row, entry_row, claim, entry, contents, desk_tables, is_table, AreTrees, Part, part_rows, holder_part, holding_part, granted_part, claim_part, entry_part, HoldsPart, HoldsFiles, TablesHold, Claim, INSERT_CLAIM, DELETE_CLAIM, INSERT_ENTRY, DELETE_ENTRIES, Edits, cast_claim, cast_entry, number_of_number, appended, put_claim_is, put_entry_is, take_claim_is, take_entries_is, of_number_tests, entries_taken, takes_entries, takes_claim, edited_have_entries, name_of_itself, IsLocal, turned_at, part_same, part_turned, put_local, take_local, put_terms, IsReady, IsExecuted, PutsRows, puts_then, has_schema, wrote, ready_still, puts_row, sound_still, with_auths, EditsHolder, KeepsExceptions, at_holder}
 use Rattle.addr.specs.declared.roa_prefix.RoaPrefix.{RoaPrefix}
-use Rattle.registry.specs.declared.change.Edit.TheVariants.{Withdraw}
-use Rattle.registry.specs.Rows.{Rows, edited}
-use Rattle.registry.specs.RowsOfAll.{AllRows}
-use Rattle.store_tables.specs.Authorizations.{EachHasEntries, claim_of, entry_rows_of}
-use Rattle.store_tables.specs.Cells.{number_cell, schema_row, operator_row, prefix_cells, claim_row, entry_row}
 use Rattle.store_tables.specs.Groups.{claim_entry}
-use Rattle.store_tables.specs.Tables.{claim, entry, contents, desk_tables, is_table, AreTrees}
-use Rattle.store_tables.specs.TablesHold.{Part, part_rows, holder_part, holding_part, granted_part, claim_part, entry_part, HoldsPart, HoldsFiles, TablesHold}
-use Rattle.store_tables.specs.declared.claim.Claim.{Claim}
-use Rattle.store_tables.specs.declared.claim.TheConstants.{INSERT_CLAIM, DELETE_CLAIM}
 use Rattle.store_tables.specs.declared.entry.EntryRow.{EntryRow}
-use Rattle.store_tables.specs.declared.entry.TheConstants.{INSERT_ENTRY, DELETE_ENTRIES}
-use Rattle.store_tables.specs.steps.Edits.{Edits}
-use Rattle.store_tables.proofs.CellLemmas.{cast_claim, cast_entry, number_of_number, appended}
-use Rattle.store_tables.proofs.ClaimTexts.{put_claim_is, put_entry_is, take_claim_is, take_entries_is, of_number_tests}
-use Rattle.store_tables.proofs.Claims.{entries_taken, takes_entries, takes_claim}
 use Rattle.store_tables.proofs.Deleting as deleting
-use Rattle.store_tables.proofs.HaveEntries.{edited_have_entries}
-use Rattle.store_tables.proofs.PartLemmas.{name_of_itself, IsLocal, turned_at, part_same, part_turned, put_local, take_local}
-use Rattle.store_tables.proofs.Texts.{put_terms}
-use Rattle.store_transactions.specs.Statements.{IsReady, IsExecuted}
-use Rattle.store_transactions.specs.steps.Statements.{PutsRows}
-use Rattle.store_transactions.proofs.PutLemmas.{puts_then}
-use Rattle.store_transactions.proofs.StatementLemmas.{has_schema, wrote, ready_still, puts_row, sound_still}
-use Rattle.store_write.specs.steps.RowEdits.{with_auths}
-use Rattle.store_write.specs.steps.Statements.{EditsHolder, KeepsExceptions, at_holder}
 use Rattle.store_write.proofs.EditSteps.{is_of, of_holder, of_tests, taken}
 
 -- ---- edits of both tables

@@ -1,43 +1,13 @@
 -- What each statement does to the rows of a holder.
-use Rattle.std.proofs.Common.{◌≡◌, inl, inr, ℕ, pos, Bool, true, not, ◌&&◌, ◌==◌, List, [], ◌∷◌, ◌++◌, map, filter, drop, length, ◌/◌, arith, Some, None, refl, sym, ap, ap₂, subst, ◌∙◌}
-use Rattle.std.proofs.lemmas.Bool.{and_parts}
-use Rattle.std.proofs.Math.Bool.{and-true, or-false}
-use Rattle.std.proofs.lemmas.List.Sorted.{IsPermutation-refl}
-use Rattle.sqlite.specs.Effect.{value_rows}
-use Rattle.sqlite.specs.State.{State}
-use Rattle.sqlite_value.specs.declared.value.Value.TheVariants.{Null, Int, Text}
-use Rattle.sqlite_value.specs.Order.{Row, column}
-use Rattle.sqlite_trees.proofs.ListLemmas.{filter-map}
-use Rattle.sqlite_sql.specs.Term.{Term, lit, col}
+use Rattle.store_write.proofs.Vocabulary.{◌≡◌, inl, inr, ℕ, pos, Bool, true, not, ◌&&◌, ◌==◌, List, [], ◌∷◌, ◌++◌, map, filter, drop, length, ◌/◌, arith, Some, None, refl, sym, ap, ap₂, subst, ◌∙◌, and_parts, and-true, or-false, IsPermutation-refl, value_rows, State, Null, Int, Text, Row, column, filter-map, Term, lit, col, cast, span_eq, is_one_of, without_runs, Span, Revoke, Granted, Rows, new_rows, edited, EachHasEntries, holder, holding, granted, number_cell, family_number, address_bytes, role_number, scope_cells, holder_row, holding_row, granted_row, is_name_of, part_rows, holder_part, holding_part, granted_part, claim_part, entry_part, INSERT_HOLDER, UPDATE_CREATED, UPDATE_GRANTED, with_holdings, without_holdings, with_grants, with_granted, with_created, IsReady, IsExecuted, EditsHolder, Registers, picks, cast_number, cast_holder, cast_holding, cast_granted, is_bytes, is_number_cell, number_of_number, same_address, same_family_number, appended, turned_have_entries, names, name_of-true, name_of_itself, put_local, puts_row, equals_text, equals_int, equals_blob, holder_test, column_after}
 use Rattle.sqlite_schema.specs.declared.schema.Kind.TheVariants.{Integer, Text as Words}
-use Rattle.sqlite_rules.specs.Cast.{cast}
 use Rattle.sqlite_typed.proofs.TestLemmas.{last_term}
-use Rattle.addr.specs.Spans.{span_eq, is_one_of, without_runs}
-use Rattle.addr.specs.declared.span.Span.{Span}
-use Rattle.registry.specs.declared.change.Edit.TheVariants.{Revoke}
-use Rattle.registry.specs.declared.grant.Granted.{Granted}
 use Rattle.registry.specs.declared.grant.Scope.{Scope}
 use Rattle.registry.specs.declared.grant.Scope.TheVariants.{All, Only}
-use Rattle.registry.specs.Rows.{Rows, new_rows, edited}
-use Rattle.store_tables.specs.Authorizations.{EachHasEntries}
-use Rattle.store_tables.specs.Tables.{holder, holding, granted}
-use Rattle.store_tables.specs.Cells.{number_cell, family_number, address_bytes, role_number, scope_cells, holder_row, holding_row, granted_row}
-use Rattle.store_tables.specs.TablesHold.{is_name_of, part_rows, holder_part, holding_part, granted_part, claim_part, entry_part}
 use Rattle.store_tables.specs.declared.granted.TheConstants.{DELETE_GRANT, INSERT_GRANT}
-use Rattle.store_tables.specs.declared.holder.TheConstants.{INSERT_HOLDER, UPDATE_CREATED, UPDATE_GRANTED}
 use Rattle.store_tables.specs.declared.holding.TheConstants.{DELETE_HOLDING, INSERT_HOLDING}
-use Rattle.store_write.specs.steps.RowEdits.{with_holdings, without_holdings, with_grants, with_granted, with_created}
-use Rattle.store_transactions.specs.Statements.{IsReady, IsExecuted}
-use Rattle.store_write.specs.steps.Statements.{EditsHolder, Registers}
-use Rattle.store_tables.proofs.Selecting.{picks}
-use Rattle.store_tables.proofs.CellLemmas.{cast_number, cast_holder, cast_holding, cast_granted, is_bytes, is_number_cell, number_of_number, same_address, same_family_number, appended}
-use Rattle.store_tables.proofs.HaveEntries.{turned_have_entries}
-use Rattle.store_tables.proofs.PartLemmas.{names, name_of-true, name_of_itself, put_local}
-use Rattle.store_transactions.proofs.StatementLemmas.{puts_row}
 use Rattle.store_write.proofs.PartSteps.{puts_edit, takes_edit, changes_edit}
-use Rattle.store_tables.proofs.Testing.{equals_text, equals_int, equals_blob, holder_test}
 use Rattle.store_write.proofs.StepLemmas.{turns_rows, in_holder, in_holdings, in_grants}
-use Rattle.store_tables.proofs.Columns.{column_after}
 use Rattle.store_tables.proofs.Texts.{
   put_terms,
   equals,

@@ -1,36 +1,15 @@
 -- What the statements on the table of exceptions do, and what they do together.
-use Rattle.std.proofs.Common.{◌≡◌, ◌≢◌, ℕ, ◌+◌, ◌/◌, ◌<◌, true, not, List, [], ◌∷◌, ◌++◌, map, filter, flat_map, take, get_or, length, All, Result, Ok, Err, OnOk, refl, sym, ap, subst, ◌∙◌, arith, append-nil, IsPermutation}
-use Rattle.std.proofs.lemmas.Grind.{flat_map-append}
-use Rattle.std.proofs.lemmas.List.{length-take, map-append}
-use Rattle.std.proofs.lemmas.List.Elements.{recursion_from_All}
-use Rattle.std.proofs.lemmas.List.Sorted.{IsPermutation-append_right, IsPermutation-trans}
-use Rattle.sqlite.specs.Effect.{Database, value_rows}
-use Rattle.sqlite.specs.State.{State}
-use Rattle.sqlite_value.specs.declared.value.Value.TheVariants.{Null}
-use Rattle.sqlite_value.specs.Order.{Row}
+use Rattle.store_write.proofs.Vocabulary.{◌≡◌, ◌≢◌, ℕ, ◌+◌, ◌/◌, ◌<◌, true, not, List, [], ◌∷◌, ◌++◌, map, filter, flat_map, take, get_or, length, All, Result, Ok, Err, OnOk, refl, sym, ap, subst, ◌∙◌, arith, append-nil, IsPermutation, flat_map-append, length-take, map-append, recursion_from_All, IsPermutation-append_right, IsPermutation-trans, Database, value_rows, State, Null, Row, changed_rows, schema_row, operator_row, prefix_cells, exception_row, slurm, contents, is_table, holder_part, holding_part, granted_part, claim_part, entry_part, HoldsPart, HoldsFromOne, TablesHold, at_positions, file_rows, Edits, IsReady, IsExecuted, PutsRows, TakesRows, entry_rows, IsBounded, MakesChange, RowsBecome, cast_exception, put_terms, put_exception_is, take_exceptions_is, puts_then, has_schema, wrote, ready_still, puts_row, sound_still, taken_more}
 use Rattle.registry.specs.declared.change.Change.TheVariants.{Exceptions as Replace}
-use Rattle.registry.specs.RowsOfAll.{changed_rows}
 use Rattle.slurm.specs.SlurmSets.{RiseByName}
 use Rattle.slurm.specs.declared.filter.Filter.TheVariants.{Under, By, Both}
 use Rattle.slurm.specs.declared.set.NamedSlurm.{NamedSlurm}
 use Rattle.store_tables.specs.declared.exception.Exception.{Exception}
 use Rattle.store_tables.specs.declared.exception.Exception.TheVariants.{Filter as FilterOf, Assertion}
 use Rattle.store_tables.specs.declared.exception.ExceptionRow.{ExceptionRow}
-use Rattle.store_tables.specs.Cells.{schema_row, operator_row, prefix_cells, exception_row}
-use Rattle.store_tables.specs.Tables.{slurm, contents, is_table}
-use Rattle.store_tables.specs.TablesHold.{holder_part, holding_part, granted_part, claim_part, entry_part, HoldsPart, HoldsFromOne, TablesHold, at_positions, file_rows}
-use Rattle.store_tables.specs.steps.Edits.{Edits}
 use Rattle.store_tables.specs.declared.exception.TheConstants.{DELETE_EXCEPTIONS, INSERT_EXCEPTION}
-use Rattle.store_transactions.specs.Statements.{IsReady, IsExecuted}
-use Rattle.store_transactions.specs.steps.Statements.{PutsRows}
-use Rattle.store_write.specs.steps.Statements.{TakesRows, entry_rows, IsBounded}
-use Rattle.store_write.specs.Changes.{MakesChange, RowsBecome}
-use Rattle.store_tables.proofs.CellLemmas.{cast_exception}
 use Rattle.store_tables.proofs.Deleting as deleting
 use Rattle.store_tables.proofs.HeldFiles.{files_held, placed_from}
-use Rattle.store_tables.proofs.Texts.{put_terms, put_exception_is, take_exceptions_is}
-use Rattle.store_transactions.proofs.PutLemmas.{puts_then}
-use Rattle.store_transactions.proofs.StatementLemmas.{has_schema, wrote, ready_still, puts_row, sound_still, taken_more}
 
 -- ---- one statement
 

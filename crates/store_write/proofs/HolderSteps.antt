@@ -1,26 +1,5 @@
 -- Whether a holder is registered, by the rows that its counters have.
-use Rattle.std.proofs.Common.{◌≡◌, ℕ, Bool, not, ◌==◌, List, [], ◌∷◌, map, filter, drop, length, Option, Some, None, is_some, refl, sym, ap, ◌∙◌}
-use Rattle.std.proofs.lemmas.List.{length-map}
-use Rattle.std.proofs.lemmas.List.Sorted.{length_permutation}
-use Rattle.sqlite.specs.Effect.{Database}
-use Rattle.sqlite.specs.State.{State, Shown, IsUnchanged}
-use Rattle.sqlite_value.specs.declared.value.Value.TheVariants.{Null, Text}
-use Rattle.sqlite_value.specs.Order.{Row}
-use Rattle.sqlite_trees.proofs.ListLemmas.{filter-map}
-use Rattle.sqlite_sql.specs.Term.{col}
-use Rattle.registry.specs.CharterSets.{CharterSets}
-use Rattle.registry.specs.Rows.{Rows}
-use Rattle.registry.specs.RowsOfAll.{AllRows}
-use Rattle.store_tables.specs.Tables.{desk_tables}
-use Rattle.store_tables.specs.TablesHold.{part_rows, holder_part, TablesHold}
-use Rattle.store_tables.specs.declared.holder.TheConstants.{SELECT_COUNTERS}
-use Rattle.store_transactions.specs.Statements.{IsReady}
-use Rattle.store_write.specs.steps.Statements.{AnswersWhetherRegistered}
-use Rattle.store_tables.proofs.Testing.{holder_test}
-use Rattle.store_tables.proofs.PartLemmas.{names}
-use Rattle.store_transactions.proofs.QueryLemmas.{shown_open, reads_desk, answered_inside}
-use Rattle.store_tables.proofs.Selecting.{permuted}
-use Rattle.store_tables.proofs.Texts.{equals, counters_is}
+use Rattle.store_write.proofs.Vocabulary.{◌≡◌, ℕ, Bool, not, ◌==◌, List, [], ◌∷◌, map, filter, drop, length, Option, Some, None, is_some, refl, sym, ap, ◌∙◌, length-map, length_permutation, Database, State, Shown, IsUnchanged, Null, Text, Row, filter-map, col, CharterSets, Rows, AllRows, desk_tables, part_rows, holder_part, TablesHold, SELECT_COUNTERS, IsReady, AnswersWhetherRegistered, holder_test, names, shown_open, reads_desk, answered_inside, permuted, equals, counters_is}
 
 module _ (h : List ℕ) (old new : State) (ready : IsReady old) where
   -- as many rows are found as the holder has in its table

@@ -7,3 +7,4 @@ mod AmendSteps
 mod ExceptionSteps
 mod HolderSteps
 mod RowSteps
+pub mod Vocabulary

@@ -1,23 +1,9 @@
 -- No two authorizations of a holder have one number, so at most one is replaced.
-use Rattle.std.proofs.Common.{◌≡◌, ◌≢◌, ℕ, suc, Bool, true, false, cond, not, ◌==◌, List, [], ◌∷◌, map, filter, length, Option, Some, IsPermutation, inl, refl, sym, ap, subst, ◌∙◌, arith}
+use Rattle.store_write.proofs.Vocabulary.{◌≡◌, ◌≢◌, ℕ, suc, Bool, true, false, cond, not, ◌==◌, List, [], ◌∷◌, map, filter, length, Option, Some, IsPermutation, inl, refl, sym, ap, subst, ◌∙◌, arith, eqb-true, IsPermutation-cons, IsPermutation-map, IsPermutation-middle, IsPermutation-sym, IsPermutation-trans, Database, IsDatabase, Text, Row, map-map, IsPermutation-same, Auth, Rows, replaced_by, claim_of, number_cell, claim_row, desk_tables, claim, contents, IsTree, HoldsPart, claim_part, part_rows, names, number_columns, ClaimsDiffer}
 use Rattle.std.specs.Prelude.{AllPairs}
-use Rattle.std.proofs.lemmas.Bool.{eqb-true}
-use Rattle.std.proofs.lemmas.List.Sorted.{IsPermutation-cons, IsPermutation-map, IsPermutation-middle, IsPermutation-sym, IsPermutation-trans}
-use Rattle.sqlite.specs.Effect.{Database, IsDatabase}
-use Rattle.sqlite_value.specs.declared.value.Value.TheVariants.{Text}
-use Rattle.sqlite_value.specs.Order.{Row}
 use Rattle.sqlite_rules.specs.Lists.{Has}
 use Rattle.sqlite_rules.proofs.ListLemmas.{has_filtered}
-use Rattle.sqlite_trees.proofs.ListLemmas.{map-map, IsPermutation-same}
-use Rattle.registry.specs.declared.authorization.Auth.{Auth}
-use Rattle.registry.specs.Rows.{Rows, replaced_by}
-use Rattle.store_tables.specs.Authorizations.{claim_of}
-use Rattle.store_tables.specs.Cells.{number_cell, claim_row}
-use Rattle.store_tables.specs.Tables.{desk_tables, claim, contents, IsTree}
-use Rattle.store_tables.specs.TablesHold.{HoldsPart, claim_part, part_rows}
 use Rattle.store_tables.proofs.Once.{differs}
-use Rattle.store_tables.proofs.PartLemmas.{names}
-use Rattle.store_transactions.specs.Laws.{number_columns, ClaimsDiffer}
 
 module _ (h : List ℕ) where
   -- the holder and the number in the row of a claim

@@ -1,28 +1,10 @@
 -- What a statement on the table of one part does to the rows of a holder, whatever the part.
-use Rattle.std.proofs.Common.{◌≡◌, ℕ, Bool, true, false, not, ◌==◌, List, [], ◌∷◌, map, filter, drop, slice_get, Some, sym, ◌∙◌, IsPermutation}
-use Rattle.sqlite.specs.State.{State}
-use Rattle.sqlite_value.specs.declared.value.Value.TheVariants.{Text}
-use Rattle.sqlite_value.specs.Order.{Row, column}
-use Rattle.sqlite_trees.proofs.ListLemmas.{IsPermutation-same}
-use Rattle.sqlite_sql.specs.Term.{Term, eval_all}
+use Rattle.store_write.proofs.Vocabulary.{◌≡◌, ℕ, Bool, true, false, not, ◌==◌, List, [], ◌∷◌, map, filter, drop, slice_get, Some, sym, ◌∙◌, IsPermutation, State, Text, Row, column, IsPermutation-same, Term, eval_all, cast_all, Rows, EachHasEntries, as_strict, claim, desk_tables, is_table, Part, PutsRows, IsReady, IsExecuted, EditsHolder, changed_if, picks, names, put_local, take_local, change_local, has_schema, wrote, ready_still, Means}
 use Rattle.sqlite_schema.specs.declared.command.Command.TheVariants.{Update, Delete}
 use Rattle.sqlite_schema.specs.declared.schema.Table.{Table}
-use Rattle.sqlite_rules.specs.Cast.{cast_all}
-use Rattle.registry.specs.Rows.{Rows}
-use Rattle.store_tables.specs.Authorizations.{EachHasEntries}
-use Rattle.store_tables.specs.Tables.{as_strict, claim, desk_tables, is_table}
-use Rattle.store_tables.specs.TablesHold.{Part}
-use Rattle.store_transactions.specs.steps.Statements.{PutsRows}
-use Rattle.store_transactions.specs.Statements.{IsReady, IsExecuted}
-use Rattle.store_write.specs.steps.Statements.{EditsHolder}
 use Rattle.store_tables.proofs.Deleting as deleting
 use Rattle.store_tables.proofs.Updating as updating
-use Rattle.store_tables.proofs.Updating.{changed_if}
-use Rattle.store_tables.proofs.Selecting.{picks}
-use Rattle.store_tables.proofs.PartLemmas.{names, put_local, take_local, change_local}
-use Rattle.store_transactions.proofs.StatementLemmas.{has_schema, wrote, ready_still}
 use Rattle.store_write.proofs.StepLemmas.{is_part_tree, AllEdited, edits_rows}
-use Rattle.store_tables.proofs.Texts.{Means}
 
 module _ (at : ℕ) (t : Table) (there : slice_get desk_tables at ≡ Some (as_strict t)) (old new : State) where
   module _ (place : ℕ) (rows : List ℕ → Rows → List Row) (parted : is_part_tree t.tree ≡ true) (h : List ℕ) (edit : Rows → Rows)

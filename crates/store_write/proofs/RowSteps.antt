@@ -1,34 +1,12 @@
 -- Steps of edits of a holder's rows, one after another.
-use Rattle.std.proofs.Common.{◌≡◌, ℕ, Bool, true, false, cond, not, ◌==◌, List, [], ◌∷◌, ◌++◌, filter, Option, Some, None, option_map, is_some, if◌then◌else◌, IsSome, Result, arith, refl, sym, ap, subst, ◌∙◌}
-use Rattle.std.proofs.Math.Bool.{or-false}
-use Rattle.std.proofs.lemmas.Bool.{cond-true, cond-false}
-use Rattle.std.proofs.lemmas.Result.{on_ok_weaker}
+use Rattle.store_write.proofs.Vocabulary.{◌≡◌, ℕ, Bool, true, false, cond, not, ◌==◌, List, [], ◌∷◌, ◌++◌, filter, Option, Some, None, option_map, is_some, if◌then◌else◌, IsSome, Result, arith, refl, sym, ap, subst, ◌∙◌, or-false, cond-true, cond-false, on_ok_weaker, list_any, Database, IsDatabase, State, HasCleanDisk, span_eq, Span, Auth, CharterSets, Register, Hold, Grant, Revoke, Create, Import, Amend, Withdraw, Rows, new_rows, edited, edited_if_any, Holders, HolderChange, AllRows, changed_rows, slurm, TablesHold, without_holdings, without_auths, is_registration, state_in, IfDone, StaysInside, IsReady, RowChange, RowsBecome, MakesChange, at_holder, KeepsExceptions, EditsRows, EditsHolder, AnswersWhetherRegistered, Registers, HoldersBecome, filter_twice, all_kept, neither}
 use Rattle.std.proofs.lemmas.List.Folds.{list_any-append}
-use Rattle.std.specs.List.{list_any}
-use Rattle.sqlite.specs.Effect.{Database, IsDatabase}
 use Rattle.sqlite.specs.declared.transaction.Transaction.{Transaction}
-use Rattle.sqlite.specs.State.{State, HasCleanDisk}
 use Rattle.sqlite.specs.Store.{Ghosts}
 use Rattle.sqlite_trees.specs.Tree.{Trees}
-use Rattle.addr.specs.Spans.{span_eq}
-use Rattle.addr.specs.declared.span.Span.{Span}
-use Rattle.registry.specs.declared.authorization.Auth.{Auth}
-use Rattle.registry.specs.CharterSets.{CharterSets}
 use Rattle.registry.specs.History.{same_name}
 use Rattle.registry.specs.declared.change.Edit.{Edit}
-use Rattle.registry.specs.declared.change.Edit.TheVariants.{Register, Hold, Grant, Revoke, Create, Import, Amend, Withdraw}
-use Rattle.registry.specs.Rows.{Rows, new_rows, edited, edited_if_any}
-use Rattle.registry.specs.declared.change.Change.TheVariants.{Holders}
-use Rattle.registry.specs.declared.change.HolderChange.{HolderChange}
-use Rattle.registry.specs.RowsOfAll.{AllRows, changed_rows}
 use Rattle.registry.proofs.Names.{same_name-true}
-use Rattle.store_tables.specs.Tables.{slurm}
-use Rattle.store_tables.specs.TablesHold.{TablesHold}
-use Rattle.store_write.specs.steps.RowEdits.{without_holdings, without_auths, is_registration}
-use Rattle.store_transactions.specs.Statements.{state_in, IfDone, StaysInside, IsReady}
-use Rattle.store_write.specs.Changes.{RowChange, RowsBecome, MakesChange}
-use Rattle.store_write.specs.steps.Statements.{at_holder, KeepsExceptions, EditsRows, EditsHolder, AnswersWhetherRegistered, Registers, HoldersBecome}
-use Rattle.store_tables.proofs.TreeRows.{filter_twice, all_kept, neither}
 
 -- equal rows of every holder
 pub same_rows : (charter : CharterSets) (rows : AllRows) (other : List ℕ → Option Rows) (trees : Trees) → ((k : List ℕ) → rows.of_holder k ≡ other k)

@@ -1,23 +1,5 @@
 -- What an edit of one table does to the rows of a holder.
-use Rattle.std.proofs.Common.{◌≡◌, ◌⊎◌, inl, inr, ℕ, Bool, true, false, ◌==◌, List, [], ◌∷◌, map, IsPermutation, None, Some, Option, option_map, IsSome, refl, sym, ap, subst}
-use Rattle.std.proofs.lemmas.Bool.{eq-eqb, both_ways}
-use Rattle.std.specs.List.{list_any}
-use Rattle.sqlite.specs.Effect.{Database}
-use Rattle.sqlite_value.specs.Order.{Row}
-use Rattle.addr.specs.declared.span.Span.{Span}
-use Rattle.registry.specs.declared.grant.Granted.{Granted}
-use Rattle.registry.specs.CharterSets.{CharterSets}
-use Rattle.registry.specs.Rows.{Rows}
-use Rattle.registry.specs.RowsOfAll.{AllRows}
-use Rattle.store_tables.specs.Authorizations.{EachHasEntries, HaveEntries}
-use Rattle.store_tables.specs.Tables.{contents, is_table}
-use Rattle.store_tables.specs.Cells.{schema_row, operator_row, prefix_cells}
-use Rattle.store_tables.specs.steps.Edits.{Edits}
-use Rattle.store_tables.specs.TablesHold.{Part, part_rows, holder_part, holding_part, granted_part, claim_part, entry_part, HoldsPart, HoldsCharter, HoldsFiles, TablesHold}
-use Rattle.store_write.specs.steps.Statements.{EditsRows, KeepsExceptions, at_holder}
-use Rattle.store_tables.proofs.HaveEntries.{edited_have_entries}
-use Rattle.store_tables.proofs.PartLemmas.{IsLocal, EditsPart, turned_at, part_same, part_turned}
-use Rattle.store_transactions.proofs.StatementLemmas.{sound_still}
+use Rattle.store_write.proofs.Vocabulary.{◌≡◌, ◌⊎◌, inl, inr, ℕ, Bool, true, false, ◌==◌, List, [], ◌∷◌, map, IsPermutation, None, Some, Option, option_map, IsSome, refl, sym, ap, subst, eq-eqb, both_ways, list_any, Database, Row, Span, Granted, CharterSets, Rows, AllRows, EachHasEntries, HaveEntries, contents, is_table, schema_row, operator_row, prefix_cells, Edits, Part, part_rows, holder_part, holding_part, granted_part, claim_part, entry_part, HoldsPart, HoldsCharter, HoldsFiles, TablesHold, EditsRows, KeepsExceptions, at_holder, edited_have_entries, IsLocal, EditsPart, turned_at, part_same, part_turned, sound_still}
 
 -- the parts have trees of their own
 abbrev pub is_part_tree : ℕ → Bool

@@ -1,10 +1,4 @@
-use Rattle.std.proofs.Common.{rules, ◌≡◌, ap, subst, ◌∙◌}
-use Rattle.sqlite.specs.Effect.{Database}
-use Rattle.sqlite.specs.Held.{Held, state}
-use Rattle.sqlite.specs.Steps.{over_memory}
-use Rattle.sqlite.proofs.Callers.{memory_is_clean}
-use Rattle.sqlite_trees.specs.declared.memory.MemStore.{MemStore}
-use Rattle.store_schema.specs.Moving.{IsOverOld, old_schema_if}
+use Rattle.store_open.proofs.Vocabulary.{rules, ◌≡◌, ap, subst, ◌∙◌, Database, Held, state, over_memory, memory_is_clean, MemStore, IsOverOld, old_schema_if}
 use Rattle.store_open.proofs.found.old_tables_in_memory.Goals as goal
 
 pub returns : goal.returns

@@ -1,10 +1,4 @@
-use Rattle.std.proofs.Common.{rules, ◌≡◌, ap, subst, ◌∙◌}
-use Rattle.sqlite.specs.Effect.{Database}
-use Rattle.sqlite.specs.Held.{Held, state}
-use Rattle.sqlite.specs.Steps.{over_memory}
-use Rattle.sqlite.proofs.Callers.{memory_is_clean}
-use Rattle.sqlite_trees.specs.declared.memory.MemStore.{MemStore}
-use Rattle.store_tables.specs.Tables.{desk_schema}
+use Rattle.store_open.proofs.Vocabulary.{rules, ◌≡◌, ap, subst, ◌∙◌, Database, Held, state, over_memory, memory_is_clean, MemStore, desk_schema}
 use Rattle.store_schema.specs.Making.{IsMadeTo}
 use Rattle.store_open.proofs.found.tables_in_memory.Goals as goal
 

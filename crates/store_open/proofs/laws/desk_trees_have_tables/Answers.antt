@@ -1,7 +1,5 @@
-use Rattle.std.proofs.Common.{ap, ◌∙◌}
-use Rattle.sqlite_catalog.proofs.ReadLemmas.{lists_once}
+use Rattle.store_open.proofs.Vocabulary.{ap, ◌∙◌, lists_once, catalog_tree}
 use Rattle.sqlite_schema.specs.declared.schema.Schema.{Schema}
-use Rattle.sqlite_trees.specs.Objects.{catalog_tree}
 use Rattle.store_open.proofs.laws.desk_trees_have_tables.Goals as goal
 
 pub returns : goal.returns

@@ -1,7 +1,4 @@
-use Rattle.std.proofs.Common.{subst}
-use Rattle.sqlite_catalog.proofs.ReadLemmas.{lists_once}
-use Rattle.sqlite_trees.specs.Objects.{catalog_tree}
-use Rattle.store_schema.specs.OldTables.{IsOldSchema}
+use Rattle.store_open.proofs.Vocabulary.{subst, lists_once, catalog_tree, IsOldSchema}
 use Rattle.store_open.proofs.laws.old_desk_trees_have_schema.Goals as goal
 
 pub returns : goal.returns

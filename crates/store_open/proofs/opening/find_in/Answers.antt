@@ -1,7 +1,5 @@
-use Rattle.std.proofs.Common.{rules, ◌≡◌, true, false, IsTrue, sym, ap, ◌∙◌, not}
+use Rattle.store_open.proofs.Vocabulary.{rules, ◌≡◌, true, false, IsTrue, sym, ap, ◌∙◌, not, state, always}
 use Rattle.std.proofs.Math.Bool.{not-not}
-use Rattle.sqlite.specs.Held.{state}
-use Rattle.store_transactions.proofs.QueryLemmas.{always}
 use Rattle.store_open.proofs.opening.find_in.Goals as goal
 
 pub returns-clause-idle : goal.returns-clause-idle

@@ -1,7 +1,4 @@
-use Rattle.std.proofs.Common.{rules, arith, ◌≡◌, Err}
-use Rattle.sqlite.specs.State.{HasCleanDisk}
-use Rattle.store_transactions.specs.declared.fault.StoreFault.TheVariants.{Schema}
-use Rattle.store_transactions.specs.Statements.{state_in}
+use Rattle.store_open.proofs.Vocabulary.{rules, arith, ◌≡◌, Err, HasCleanDisk, Schema, state_in}
 use Rattle.store_open.proofs.MovingDesk.{if_all, moves_desk, not_moved, not_numbered}
 use Rattle.store_open.proofs.opening.move_desk.Goals as goal
 

@@ -1,8 +1,4 @@
-use Rattle.std.proofs.Common.{rules, ◌≡◌, arith, subst}
-use Rattle.sqlite.specs.Held.{state}
-use Rattle.sqlite.specs.State.{HasCleanDisk}
-use Rattle.store_open.specs.Opening.{LeavesOldOrMoved, OpensDesk}
-use Rattle.store_open.specs.steps.Moving.{MovesDesk}
+use Rattle.store_open.proofs.Vocabulary.{rules, ◌≡◌, arith, subst, state, HasCleanDisk, LeavesOldOrMoved, OpensDesk, MovesDesk}
 use Rattle.store_open.proofs.MovingDesk.{are_moved, left_moved, opens_moved}
 use Rattle.store_open.proofs.opening.open_old.Goals as goal
 

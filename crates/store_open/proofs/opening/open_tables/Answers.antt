@@ -1,7 +1,4 @@
-use Rattle.std.proofs.Common.{subst}
-use Rattle.std.proofs.lemmas.Result.{IfOk-weaker}
-use Rattle.sqlite.specs.Held.{state}
-use Rattle.store_open.specs.Opening.{LeavesOldOrMoved, OpensDesk}
+use Rattle.store_open.proofs.Vocabulary.{subst, IfOk-weaker, state, LeavesOldOrMoved, OpensDesk}
 use Rattle.store_open.specs.steps.Found.{HasFound}
 use Rattle.store_open.proofs.MovingDesk.{if_all}
 use Rattle.store_open.proofs.OpenedDesk.{leaves_unlimited, opens_desk, opens_unlimited}

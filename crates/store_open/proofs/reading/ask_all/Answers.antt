@@ -1,7 +1,4 @@
-use Rattle.std.proofs.Common.{[], refl, arith}
-use Rattle.sqlite.specs.State.{HasCleanDisk}
-use Rattle.store_transactions.specs.Statements.{state_in}
-use Rattle.store_transactions.proofs.QueryLemmas.{answered}
+use Rattle.store_open.proofs.Vocabulary.{[], refl, arith, HasCleanDisk, state_in, answered}
 use Rattle.store_open.proofs.reading.ask_all.Goals as goal
 
 pub returns-clause-answered : goal.returns-clause-answered

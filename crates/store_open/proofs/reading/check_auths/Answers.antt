@@ -1,5 +1,4 @@
-use Rattle.std.proofs.Common.{arith, ap, length, sym, ◌∙◌}
-use Rattle.store_tables.proofs.Grouping.{no_more_than}
+use Rattle.store_open.proofs.Vocabulary.{arith, ap, length, sym, ◌∙◌, no_more_than}
 use Rattle.store_open.proofs.Grouped.{entries_unfit, named_entry_if, no_row_left, row_left, walks_from, walks_on}
 use Rattle.store_open.proofs.reading.check_auths.Goals as goal
 

@@ -1,6 +1,4 @@
-use Rattle.std.proofs.Common.{[]}
-use Rattle.store_tables.specs.Tables.{entry}
-use Rattle.sqlite.specs.Held.{state}
+use Rattle.store_open.proofs.Vocabulary.{[], entry, state}
 use Rattle.store_open.proofs.AllTexts.{selects_entry_rowids}
 use Rattle.store_open.proofs.Collecting.{numbers_ascend}
 use Rattle.store_open.proofs.Rowids.{is_tree}

@@ -1,11 +1,4 @@
-use Rattle.std.proofs.Common.{subst, ◌∙◌, arith}
-use Rattle.std.proofs.lemmas.Result.{on_ok_weaker}
-use Rattle.sqlite.specs.Effect.{Database}
-use Rattle.sqlite.specs.State.{HasCleanDisk}
-use Rattle.store_tables.specs.Tables.{entry, IsTree}
-use Rattle.sqlite.specs.Held.{state}
-use Rattle.store_open.specs.steps.Joining.{MakeOfTable, MakeNoneOfTable}
-use Rattle.store_transactions.proofs.QueryLemmas.{refused_by}
+use Rattle.store_open.proofs.Vocabulary.{subst, ◌∙◌, arith, on_ok_weaker, Database, HasCleanDisk, entry, IsTree, state, MakeOfTable, MakeNoneOfTable, refused_by}
 use Rattle.store_open.proofs.SomeAuths.{auths_made, claims_apart, claims_in, entries_in}
 use Rattle.store_open.proofs.reading.collect_auths.Goals as goal
 

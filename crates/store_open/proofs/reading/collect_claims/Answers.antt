@@ -1,13 +1,4 @@
-use Rattle.std.proofs.Common.{subst, arith, refl}
-use Rattle.sqlite.specs.Effect.{Database}
-use Rattle.sqlite.specs.Held.{state}
-use Rattle.sqlite.specs.State.{HasCleanDisk}
-use Rattle.store_tables.specs.Decode.{ClaimFits, NamedFits}
-use Rattle.store_tables.specs.Tables.{claim}
-use Rattle.store_tables.specs.declared.claim.TheConstants.{SELECT_ALL_CLAIMS}
-use Rattle.store_transactions.specs.steps.Statements.{AnswersSelect}
-use Rattle.store_open.specs.steps.Keys.{AreOfSome, ClaimsRead, show_claim}
-use Rattle.store_open.specs.steps.Opened.{claim_places}
+use Rattle.store_open.proofs.Vocabulary.{subst, arith, refl, Database, state, HasCleanDisk, ClaimFits, NamedFits, claim, SELECT_ALL_CLAIMS, AnswersSelect, AreOfSome, ClaimsRead, show_claim, claim_places}
 use Rattle.store_open.proofs.AllTexts.{counts_claims, selects_claim}
 use Rattle.store_open.proofs.Collecting.{some_untaken, taken_read, taken_rise}
 use Rattle.store_open.proofs.Rowids.{is_tree, shown_of}

@@ -1,8 +1,4 @@
-use Rattle.std.proofs.Common.{◌≡◌, ap, is_lt, rules}
-use Rattle.std.proofs.lemmas.Fn.{always_returns_same}
-use Rattle.std.proofs.lemmas.List.Sorted.{ranks_by}
-use Rattle.sqlite.specs.Held.{state}
-use Rattle.store_open.specs.steps.Keys.{key_cmp}
+use Rattle.store_open.proofs.Vocabulary.{◌≡◌, ap, is_lt, rules, always_returns_same, ranks_by, state, key_cmp}
 use Rattle.store_open.proofs.Keys.{key_total, sorted_claims}
 use Rattle.store_open.proofs.reading.collect_in_order.Goals as goal
 

@@ -1,9 +1,4 @@
-use Rattle.std.proofs.Common.{[], refl, sym, ap, subst, ◌∙◌, List}
-use Rattle.std.specs.Global.{Vec}
-use Rattle.sqlite.specs.Held.{state}
-use Rattle.store_open.specs.declared.key.ClaimKey.{ClaimKey}
-use Rattle.store_open.specs.steps.Joining.{JoinsRows}
-use Rattle.store_open.specs.steps.Keys.{AreOfAll}
+use Rattle.store_open.proofs.Vocabulary.{[], refl, sym, ap, subst, ◌∙◌, List, Vec, state, ClaimKey, JoinsRows, AreOfAll}
 use Rattle.store_open.proofs.EntriesByKey.{entries_by_key_is, joined_in, not_joined_in}
 use Rattle.store_open.proofs.reading.join_entries.Goals as goal
 

@@ -1,14 +1,4 @@
-use Rattle.std.proofs.Common.{subst, sym, ◌∙◌, arith}
-use Rattle.sqlite.specs.Effect.{Database}
-use Rattle.sqlite.specs.State.{HasCleanDisk}
-use Rattle.store_tables.specs.Cells.{claim_cells, entry_cells, named_cells}
-use Rattle.store_tables.specs.Decode.{ClaimFits, EntryRowFits, NamedFits}
-use Rattle.store_tables.specs.Tables.{claim, entry, IsTree}
-use Rattle.store_transactions.specs.Statements.{state_in}
-use Rattle.store_open.specs.TablesRead.{TablesRead}
-use Rattle.store_open.specs.steps.Numbered.{AreRead, shown_in}
-use Rattle.store_open.specs.steps.Opened.{claim_places, entry_places}
-use Rattle.store_transactions.proofs.QueryLemmas.{refused_by}
+use Rattle.store_open.proofs.Vocabulary.{subst, sym, ◌∙◌, arith, Database, HasCleanDisk, claim_cells, entry_cells, named_cells, ClaimFits, EntryRowFits, NamedFits, claim, entry, IsTree, state_in, TablesRead, AreRead, shown_in, claim_places, entry_places, refused_by}
 use Rattle.store_open.proofs.SomeAuths.{auths_made, auths_shown, claims_apart, claims_in, entries_in}
 use Rattle.store_open.proofs.reading.read_auths.Goals as goal
 

@@ -1,14 +1,4 @@
-use Rattle.std.proofs.Common.{[], ◌∷◌, map, subst, sym, arith, IsPermutation}
-use Rattle.std.proofs.lemmas.List.Elements.{recursion_from_All}
-use Rattle.std.proofs.lemmas.List.Sorted.{IsPermutation-sym}
-use Rattle.sqlite.specs.Effect.{Database}
-use Rattle.sqlite.specs.State.{HasCleanDisk}
-use Rattle.store_tables.specs.Cells.{prefix_cells}
-use Rattle.store_transactions.specs.Statements.{state_in}
-use Rattle.store_open.specs.TablesRead.{TablesRead}
-use Rattle.store_open.specs.steps.Numbered.{shown_in}
-use Rattle.store_open.specs.steps.Opened.{ShowsRows}
-use Rattle.store_transactions.proofs.QueryLemmas.{refused_by}
+use Rattle.store_open.proofs.Vocabulary.{[], ◌∷◌, map, subst, sym, arith, IsPermutation, recursion_from_All, IsPermutation-sym, Database, HasCleanDisk, prefix_cells, state_in, TablesRead, shown_in, ShowsRows, refused_by}
 use Rattle.store_open.proofs.Unread.{operators_in, pool_in, charter_shown, some_charter, err_fact}
 use Rattle.store_open.proofs.reading.read_charter.Goals as goal
 

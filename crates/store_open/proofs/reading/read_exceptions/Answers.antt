@@ -1,9 +1,4 @@
-use Rattle.store_tables.specs.Cells.{exception_row}
-use Rattle.store_tables.specs.Decode.{ExceptionRowFits}
-use Rattle.store_tables.specs.Tables.{slurm, contents}
-use Rattle.store_transactions.specs.Statements.{state_in}
-use Rattle.store_transactions.specs.Files.{ShowsExceptions}
-use Rattle.store_transactions.proofs.QueryLemmas.{refused_by}
+use Rattle.store_open.proofs.Vocabulary.{exception_row, ExceptionRowFits, slurm, contents, state_in, ShowsExceptions, refused_by}
 use Rattle.store_open.proofs.Unread.{each_read, exceptions_in}
 use Rattle.store_open.proofs.reading.read_exceptions.Goals as goal
 

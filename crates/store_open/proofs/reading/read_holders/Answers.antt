@@ -1,12 +1,5 @@
-use Rattle.std.proofs.Common.{subst, sym, ◌∙◌, arith}
-use Rattle.sqlite.specs.Effect.{Database}
-use Rattle.sqlite.specs.State.{HasCleanDisk}
-use Rattle.store_transactions.specs.Statements.{state_in}
-use Rattle.store_open.specs.TablesRead.{TablesRead}
-use Rattle.store_open.specs.steps.Opened.{ShowsEach}
-use Rattle.store_transactions.proofs.QueryLemmas.{refused_by}
+use Rattle.store_open.proofs.Vocabulary.{subst, sym, ◌∙◌, arith, Database, HasCleanDisk, state_in, TablesRead, ShowsEach, refused_by, all_weaker}
 use Rattle.store_open.proofs.Unread.{each_read, shows_holder, holders_in, holdings_in, grants_in}
-use Rattle.sqlite_trees.proofs.ListLemmas.{all_weaker}
 use Rattle.store_open.proofs.reading.read_holders.Goals as goal
 
 pub returns-in_err-_holders-clause-schema : goal.returns-in_err-_holders-clause-schema

@@ -1,6 +1,4 @@
-use Rattle.std.proofs.Common.{◌≡◌, ap, is_lt, rules}
-use Rattle.std.proofs.lemmas.Fn.{always_returns_same}
-use Rattle.std.proofs.lemmas.List.Sorted.{All-permutation, IsPermutation-map, IsPermutation-trans, ranks_by}
+use Rattle.store_open.proofs.Vocabulary.{◌≡◌, ap, is_lt, rules, always_returns_same, All-permutation, IsPermutation-map, IsPermutation-trans, ranks_by}
 use Rattle.store_open.proofs.reading.read_in_order.Goals as goal
 
 pub returns-clause-read : goal.returns-clause-read

@@ -1,10 +1,5 @@
-use Rattle.std.proofs.Common.{Ok, subst, ◌∙◌, arith}
-use Rattle.sqlite.specs.State.{HasCleanDisk}
-use Rattle.store_transactions.specs.Statements.{state_in}
-use Rattle.store_transactions.proofs.StatementLemmas.{stays_then}
-use Rattle.store_open.specs.steps.Opened.{ShowsCharter, ShowAuths, ShowExceptions, ShowHolders}
+use Rattle.store_open.proofs.Vocabulary.{Ok, subst, ◌∙◌, arith, HasCleanDisk, state_in, stays_then, ShowsCharter, ShowAuths, ShowExceptions, ShowHolders, asked_then, asked_in_vain}
 use Rattle.store_open.proofs.Opened.{some_rows, tables_read}
-use Rattle.store_transactions.proofs.QueryLemmas.{asked_then, asked_in_vain}
 use Rattle.store_open.proofs.reading.read_inside.Goals as goal
 
 pub returns-in_err-read_auths-clause-asked : goal.returns-in_err-read_auths-clause-asked

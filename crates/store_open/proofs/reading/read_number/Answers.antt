@@ -1,12 +1,5 @@
-use Rattle.std.proofs.Common.{◌≡◌, [], ◌∷◌, map, refl, subst, arith, length, IsPermutation}
-use Rattle.std.proofs.lemmas.List.{length-map}
-use Rattle.std.proofs.lemmas.List.Sorted.{IsPermutation-sym}
-use Rattle.std.proofs.lemmas.Result.{on_ok_weaker}
-use Rattle.store_tables.specs.Decode.{first_columns}
+use Rattle.store_open.proofs.Vocabulary.{◌≡◌, [], ◌∷◌, map, refl, subst, arith, length, IsPermutation, length-map, IsPermutation-sym, on_ok_weaker, first_columns, state_in, shown_in, number_row}
 use Rattle.store_tables.proofs.SomeRow.{has_permuted}
-use Rattle.store_transactions.specs.Statements.{state_in}
-use Rattle.store_open.specs.steps.Numbered.{shown_in}
-use Rattle.store_open.specs.steps.Opened.{number_row}
 use Rattle.store_open.proofs.AllTexts.{selects_meta}
 use Rattle.store_open.proofs.Rowids.{is_tree, shown_of}
 use Rattle.store_open.proofs.Unread.{has_some, some_from_has, only_one, number_in}

@@ -1,11 +1,4 @@
-use Rattle.std.proofs.Common.{◌≡◌, [], Ok, subst, ◌∙◌, arith}
-use Rattle.sqlite.specs.Effect.{Database}
-use Rattle.sqlite.specs.State.{HasCleanDisk}
-use Rattle.store_transactions.specs.Statements.{state_in}
-use Rattle.store_transactions.proofs.StatementLemmas.{stays_then}
-use Rattle.store_tables.specs.Tables.{auth}
-use Rattle.store_open.specs.steps.Opened.{ShowsCharter, ShowExceptions, ShowHolders}
-use Rattle.store_transactions.proofs.QueryLemmas.{asked_then, asked_in_vain}
+use Rattle.store_open.proofs.Vocabulary.{◌≡◌, [], Ok, subst, ◌∙◌, arith, Database, HasCleanDisk, state_in, stays_then, auth, ShowsCharter, ShowExceptions, ShowHolders, asked_then, asked_in_vain}
 use Rattle.store_open.proofs.reading.read_others.Goals as goal
 
 pub returns-in_err-read_unused-clause-asked : goal.returns-in_err-read_unused-clause-asked

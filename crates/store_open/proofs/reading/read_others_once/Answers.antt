@@ -1,9 +1,4 @@
-use Rattle.std.proofs.Common.{◌≡◌, [], IsTrue, rules, arith, ap, not, ◌∙◌}
-use Rattle.sqlite.specs.Held.{state}
-use Rattle.sqlite.specs.State.{HasCleanDisk, KeepsCommit, IsNotRun, Survives}
-use Rattle.store_tables.specs.declared.meta.TheConstants.{SELECT_SCHEMA}
-use Rattle.store_transactions.specs.Statements.{state_in}
-use Rattle.store_transactions.proofs.QueryLemmas.{no_answer, not_run_after, undone_as_before}
+use Rattle.store_open.proofs.Vocabulary.{◌≡◌, [], IsTrue, rules, arith, ap, not, ◌∙◌, state, HasCleanDisk, KeepsCommit, IsNotRun, Survives, SELECT_SCHEMA, state_in, no_answer, not_run_after, undone_as_before}
 use Rattle.store_open.proofs.reading.read_others_once.Goals as goal
 
 pub returns-in_err-prepare-clause-asked : goal.returns-in_err-prepare-clause-asked

@@ -1,4 +1,4 @@
-use Rattle.store_transactions.specs.Statements.{state_in}
+use Rattle.store_open.proofs.Vocabulary.{state_in}
 use Rattle.store_open.proofs.Rowids.{is_tree, shown_of, values_read, some_unread, ok_with}
 use Rattle.store_open.proofs.reading.read_table.Goals as goal
 

@@ -1,7 +1,4 @@
-use Rattle.std.proofs.Common.{subst, arith}
-use Rattle.sqlite.specs.Held.{state}
-use Rattle.sqlite.specs.State.{HasCleanDisk}
-use Rattle.store_open.specs.steps.Opened.{ShowAuths}
+use Rattle.store_open.proofs.Vocabulary.{subst, arith, state, HasCleanDisk, ShowAuths}
 use Rattle.store_open.proofs.Opened.{some_rows, tables_read}
 use Rattle.store_open.proofs.reading.read_tables.Goals as goal
 

@@ -1,7 +1,4 @@
-use Rattle.std.proofs.Common.{◌≡◌, ℕ, Bool, true, ◌==◌, List, [], ◌∷◌, length, sym, ap, ◌∙◌, arith, refl}
-use Rattle.std.proofs.lemmas.Bool.{both_ways, eqb-true, eq-eqb}
-use Rattle.sqlite_value.specs.Order.{Row}
-use Rattle.store_transactions.specs.Statements.{state_in}
+use Rattle.store_open.proofs.Vocabulary.{◌≡◌, ℕ, Bool, true, ◌==◌, List, [], ◌∷◌, length, sym, ap, ◌∙◌, arith, refl, both_ways, eqb-true, eq-eqb, Row, state_in}
 use Rattle.store_open.proofs.AllTexts.{selects_auth}
 use Rattle.store_open.proofs.Unread.{no_rows_in, rows_of_none}
 use Rattle.store_open.proofs.reading.read_unused.Goals as goal

@@ -1,7 +1,4 @@
-use Rattle.std.proofs.Common.{sym, rules}
-use Rattle.std.proofs.lemmas.Fn.{always_returns_same}
-use Rattle.store_open.specs.steps.Numbered.{last_value, is_integer_below}
-use Rattle.sqlite_value.specs.Order.{Row}
+use Rattle.store_open.proofs.Vocabulary.{sym, rules, always_returns_same, last_value, is_integer_below, Row}
 use Rattle.store_open.proofs.rise.are_below_the_next.Goals as goal
 
 pub returns : goal.returns

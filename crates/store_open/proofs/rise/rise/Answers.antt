@@ -1,4 +1,4 @@
-use Rattle.std.proofs.lemmas.List.Elements.{recursion_from_All}
+use Rattle.store_open.proofs.Vocabulary.{recursion_from_All}
 use Rattle.store_open.proofs.Rowids.{rows_rise}
 use Rattle.store_open.proofs.rise.rise.Goals as goal
 

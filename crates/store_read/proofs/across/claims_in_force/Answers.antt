@@ -1,5 +1,4 @@
-use Rattle.sqlite.specs.Held.{state}
-use Rattle.store_tables.proofs.ClaimTexts.{claims_in_force_is}
+use Rattle.store_read.proofs.Vocabulary.{state, claims_in_force_is}
 use Rattle.store_read.proofs.InForce.{claims_rise, finds_claims}
 use Rattle.store_read.proofs.across.claims_in_force.Goals as goal
 

@@ -1,6 +1,5 @@
-use Rattle.std.proofs.Common.{rules, ◌∙◌}
+use Rattle.store_read.proofs.Vocabulary.{rules, ◌∙◌, key_cells, payload_key, key_order}
 use Rattle.std.proofs.lemmas.Fn.{always_returns_same}
-use Rattle.store_read.specs.steps.InForce.{key_cells, payload_key, key_order}
 use Rattle.store_read.proofs.Claimed.{searched}
 use Rattle.store_read.proofs.across.is_claimed.Goals as goal
 

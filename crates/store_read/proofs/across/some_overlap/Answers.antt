@@ -1,9 +1,5 @@
-use Rattle.std.proofs.Common.{[], ◌∷◌, ap, ◌∙◌}
-use Rattle.sqlite.specs.Held.{state}
-use Rattle.sqlite_value.specs.declared.value.Value.TheVariants.{Blob}
-use Rattle.store_tables.specs.Cells.{address_bytes, number_cell, family_number}
+use Rattle.store_read.proofs.Vocabulary.{[], ◌∷◌, ap, ◌∙◌, state, Blob, address_bytes, number_cell, family_number, overlap_is}
 use Rattle.store_read.proofs.Overlapping.{overlap-iff}
-use Rattle.store_tables.proofs.Texts.{overlap_is}
 use Rattle.store_read.proofs.InTurn.{earlier}
 use Rattle.store_read.proofs.across.some_overlap.Goals as goal
 

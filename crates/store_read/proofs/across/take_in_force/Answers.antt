@@ -1,13 +1,4 @@
-use Rattle.std.proofs.Common.{List, sym, ap, subst}
-use Rattle.std.proofs.lemmas.Result.{IfOk-weaker}
-use Rattle.std.specs.Global.{Vec}
-use Rattle.sqlite.specs.Effect.{Database}
-use Rattle.sqlite.specs.Held.{state}
-use Rattle.store_tables.specs.declared.entry.TheConstants.{SELECT_PAYLOADS}
-use Rattle.store_tables.proofs.ClaimTexts.{payloads_is}
-use Rattle.store_transactions.specs.steps.Statements.{AnswersSelect}
-use Rattle.store_read.specs.declared.across.ClaimKey.{ClaimKey}
-use Rattle.store_read.specs.steps.InForce.{of_claims, ClaimsRise, ShowVrps}
+use Rattle.store_read.proofs.Vocabulary.{List, sym, ap, subst, IfOk-weaker, Vec, Database, state, SELECT_PAYLOADS, payloads_is, AnswersSelect, ClaimKey, of_claims, ClaimsRise, ShowVrps}
 use Rattle.store_read.proofs.InForce.{taken_found}
 use Rattle.store_read.proofs.InTurn.{earlier}
 use Rattle.store_read.proofs.across.take_in_force.Goals as goal

@@ -1,9 +1,4 @@
-use Rattle.std.proofs.Common.{arith, refl, sym, subst, ◌∙◌}
-use Rattle.std.proofs.lemmas.Bool.{false≢true}
-use Rattle.std.proofs.lemmas.List.{drop_all}
-use Rattle.store_tables.specs.TablesHold.{items_if_any}
-use Rattle.store_read.specs.Loads.{AreHeld}
-use Rattle.store_transactions.proofs.Asking.{asked_then}
+use Rattle.store_read.proofs.Vocabulary.{arith, refl, sym, subst, ◌∙◌, false≢true, drop_all, items_if_any, AreHeld, asked_then}
 use Rattle.store_read.proofs.HeldEntries.{held_from, none_to_hold}
 use Rattle.store_read.proofs.InTurn.{earlier, later}
 use Rattle.store_read.proofs.answers.are_held.Goals as goal

@@ -1,10 +1,5 @@
-use Rattle.std.proofs.Common.{◌↔◌, Ok, drop}
-use Rattle.std.specs.Prelude.{⊤}
+use Rattle.store_read.proofs.Vocabulary.{◌↔◌, Ok, drop, ⊤, state, items_if_any, IsAsked, IsClean, AreHeld, EachRowsOf}
 use Rattle.sqlite.specs.declared.error.Error.{Error}
-use Rattle.sqlite.specs.Held.{state}
-use Rattle.store_tables.specs.TablesHold.{items_if_any}
-use Rattle.store_transactions.specs.Queries.{IsAsked, IsClean}
-use Rattle.store_read.specs.Loads.{AreHeld, EachRowsOf}
 use Rattle.store_read.proofs.answers.are_held.Given as goal
 
 abbrev pub invariant-loop-entry : goal.invariant-loop-entry

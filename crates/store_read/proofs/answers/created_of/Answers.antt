@@ -1,5 +1,4 @@
-use Rattle.std.proofs.Common.{option_copied, subst}
-use Rattle.store_read.specs.Loads.{AreCounted}
+use Rattle.store_read.proofs.Vocabulary.{option_copied, subst, AreCounted}
 use Rattle.store_read.proofs.GivenAuths.{created_shown, none_created}
 use Rattle.store_read.proofs.answers.created_of.Goals as goal
 

@@ -1,6 +1,4 @@
-use Rattle.std.proofs.Common.{◌∙◌}
-use Rattle.store_transactions.proofs.QueryLemmas.{refused_by}
-use Rattle.store_read.specs.Loads.{is_other}
+use Rattle.store_read.proofs.Vocabulary.{◌∙◌, refused_by, is_other}
 use Rattle.store_read.proofs.GivenAuths.{gives_out_of}
 use Rattle.store_read.proofs.answers.is_given.Goals as goal
 

@@ -1,7 +1,4 @@
-use Rattle.std.proofs.Common.{arith, length, sym, ◌∙◌}
-use Rattle.std.proofs.lemmas.Bool.{false≢true}
-use Rattle.store_transactions.proofs.QueryLemmas.{refused_by}
-use Rattle.store_read.specs.Loads.{auths_held, created_if_any}
+use Rattle.store_read.proofs.Vocabulary.{arith, length, sym, ◌∙◌, false≢true, refused_by, auths_held, created_if_any}
 use Rattle.store_read.proofs.GivenAuths.{enough_made, few_made}
 use Rattle.store_read.proofs.InTurn.{earlier, later, unfit_later}
 use Rattle.store_read.proofs.answers.load_answers.Goals.{then-answers-via-then-answers, then-answers-via-else-answers+then-created-lt-MOST_AUTHORIZATIONS}

@@ -1,11 +1,4 @@
-use Rattle.std.proofs.Common.{[], ◌∷◌, ◌∙◌, ap}
-use Rattle.sqlite.specs.Held.{state}
-use Rattle.sqlite_value.specs.declared.value.Value.TheVariants.{Blob, Text}
-use Rattle.store_tables.specs.Cells.{address_bytes, family_number, number_cell}
-use Rattle.store_tables.specs.Decode.{EntryRowFits}
-use Rattle.store_tables.proofs.ClaimTexts.{entries_up_to_is}
-use Rattle.store_tables.proofs.GroupCells.{by_entry}
-use Rattle.store_read.specs.Loads.{begins_up_to, entries_up_to}
+use Rattle.store_read.proofs.Vocabulary.{[], ◌∷◌, ◌∙◌, ap, state, Blob, Text, address_bytes, family_number, number_cell, EntryRowFits, entries_up_to_is, by_entry, begins_up_to, entries_up_to}
 use Rattle.store_read.proofs.Finding.{selects_up_to, up_to_params}
 use Rattle.store_read.proofs.GivenAuths.{tested_fit}
 use Rattle.store_read.proofs.Loading.{never_fit}

@@ -1,7 +1,4 @@
-use Rattle.std.proofs.Common.{Some, Option, None, ◌∙◌, ap}
-use Rattle.std.specs.Prelude.{IfSome}
-use Rattle.registry.specs.Verdict.{auth_of_number}
-use Rattle.store_transactions.proofs.QueryLemmas.{refused_by}
+use Rattle.store_read.proofs.Vocabulary.{Some, Option, None, ◌∙◌, ap, IfSome, auth_of_number, refused_by}
 use Rattle.store_read.proofs.InTurn.{earlier, later, unfit_later}
 use Rattle.store_read.proofs.answers.load_for_amend.Goals as goal
 

@@ -1,4 +1,4 @@
-use Rattle.store_transactions.proofs.QueryLemmas.{refused_by}
+use Rattle.store_read.proofs.Vocabulary.{refused_by}
 use Rattle.store_read.proofs.InTurn.{earlier, later}
 use Rattle.store_read.proofs.answers.load_for_create.Goals as goal
 

@@ -1,5 +1,4 @@
-use Rattle.std.proofs.Common.{ap, nat_le}
-use Rattle.registry.specs.declared.limits.TheConstants.{MOST_AUTHORIZATIONS}
+use Rattle.store_read.proofs.Vocabulary.{ap, nat_le, MOST_AUTHORIZATIONS}
 use Rattle.store_read.proofs.answers.load_full.Goals as goal
 
 pub returns-clause-found : goal.returns-clause-found

@@ -1,8 +1,4 @@
-use Rattle.sqlite.specs.Held.{state}
-use Rattle.store_tables.specs.Decode.{EntryRowFits}
-use Rattle.store_tables.proofs.ClaimTexts.{given_entries_is}
-use Rattle.store_tables.proofs.GroupCells.{by_entry}
-use Rattle.store_read.specs.Loads.{entries_given, gives_entry}
+use Rattle.store_read.proofs.Vocabulary.{state, EntryRowFits, given_entries_is, by_entry, entries_given, gives_entry}
 use Rattle.store_read.proofs.Finding.{given_params, selects_given}
 use Rattle.store_read.proofs.GivenAuths.{tested_fit}
 use Rattle.store_read.proofs.Loading.{never_fit}

@@ -1,5 +1,4 @@
-use Rattle.std.proofs.Common.{refl, sym, ◌∙◌}
-use Rattle.store_transactions.proofs.QueryLemmas.{refused_by}
+use Rattle.store_read.proofs.Vocabulary.{refl, sym, ◌∙◌, refused_by}
 use Rattle.store_read.proofs.InTurn.{earlier, later, unfit_later}
 use Rattle.store_read.proofs.Loading.{none_counted, some_counted}
 use Rattle.store_read.proofs.answers.load_grants_counted.Goals as goal

@@ -1,12 +1,4 @@
-use Rattle.std.proofs.Common.{◌≡◌, Some, true, sym, subst, ap, ap₂, ◌∙◌}
-use Rattle.std.specs.Prelude.{IfSome, option_copied}
-use Rattle.std.proofs.lemmas.Result.{IfOk-weaker}
-use Rattle.sqlite.specs.Held.{state}
-use Rattle.registry.specs.declared.authorization.Auth.{Auth}
-use Rattle.registry.specs.RoaPrefixes.{with_maxes}
-use Rattle.registry.specs.Terms.{with_terms}
-use Rattle.registry.specs.Verdict.{maxes_fit}
-use Rattle.store_read.specs.Loads.{EachRowsOf, auths_held, some_gives}
+use Rattle.store_read.proofs.Vocabulary.{◌≡◌, Some, true, sym, subst, ap, ap₂, ◌∙◌, IfSome, option_copied, IfOk-weaker, state, Auth, with_maxes, with_terms, maxes_fit, EachRowsOf, auths_held, some_gives}
 use Rattle.store_read.proofs.answers.load_shared.Goals as goal
 
 pub returns-in_ok-amended-in-Some-clause-found : goal.returns-in_ok-amended-in-Some-clause-found

@@ -1,8 +1,4 @@
-use Rattle.std.proofs.Common.{◌+◌, ◌||◌, drop, arith, ap, sym, ◌∙◌}
-use Rattle.std.proofs.lemmas.List.{drop_all}
-use Rattle.store_transactions.proofs.QueryLemmas.{refused_by}
-use Rattle.store_read.specs.Loads.{auths_held, is_other, some_gives}
-use Rattle.store_transactions.proofs.Asking.{asked_then}
+use Rattle.store_read.proofs.Vocabulary.{◌+◌, ◌||◌, drop, arith, ap, sym, ◌∙◌, drop_all, refused_by, auths_held, is_other, some_gives, asked_then}
 use Rattle.store_read.proofs.GivenAuths.{gives_from, gives_none}
 use Rattle.store_read.proofs.InTurn.{earlier, later, unfit_later}
 use Rattle.store_read.proofs.answers.some_given.Goals as goal

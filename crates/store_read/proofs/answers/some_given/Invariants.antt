@@ -1,9 +1,4 @@
-use Rattle.std.proofs.Common.{◌≡◌, Ok, drop}
-use Rattle.std.specs.Prelude.{⊤}
-use Rattle.sqlite.specs.Held.{state}
-use Rattle.store_transactions.specs.declared.fault.StoreFault.{StoreFault}
-use Rattle.store_transactions.specs.Queries.{IsAsked, IsClean}
-use Rattle.store_read.specs.Loads.{EachRowsOf, auths_held, some_gives}
+use Rattle.store_read.proofs.Vocabulary.{◌≡◌, Ok, drop, ⊤, state, StoreFault, IsAsked, IsClean, EachRowsOf, auths_held, some_gives}
 use Rattle.store_read.proofs.answers.some_given.Given as goal
 
 abbrev pub invariant-loop-entry : goal.invariant-loop-entry

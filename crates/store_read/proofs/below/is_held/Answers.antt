@@ -1,6 +1,4 @@
-use Rattle.std.proofs.Common.{◌≤◌, ◌↔◌, IsTrue, sym, subst, ◌∙◌}
-use Rattle.std.proofs.lemmas.Bool.{false≢true}
-use Rattle.store_read.specs.steps.Below.{IsRunBelow}
+use Rattle.store_read.proofs.Vocabulary.{◌≤◌, ◌↔◌, IsTrue, sym, subst, ◌∙◌, false≢true, IsRunBelow}
 use Rattle.store_read.proofs.RunsApart.{held_by_last, held_within, none_held}
 use Rattle.store_read.proofs.below.is_held.Goals as goal
 use Rattle.store_read.proofs.below.is_held.Goals.{then-is_of, else-is_of}

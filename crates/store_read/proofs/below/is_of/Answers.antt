@@ -1,7 +1,4 @@
-use Rattle.std.proofs.Common.{◌≡◌, sym, ap, ap₂, ◌∙◌, is_eq}
-use Rattle.sqlite_value.specs.declared.value.Value.TheVariants.{Text}
-use Rattle.sqlite_value.specs.Order.{column, value_cmp}
-use Rattle.store_tables.specs.TablesHold.{is_name_of}
+use Rattle.store_read.proofs.Vocabulary.{◌≡◌, sym, ap, ap₂, ◌∙◌, is_eq, Text, column, value_cmp, is_name_of}
 use Rattle.store_read.proofs.RunsBelow.{holder_told}
 use Rattle.store_read.proofs.below.is_of.Goals as goal
 

@@ -1,6 +1,4 @@
-use Rattle.std.proofs.Common.{Some, None, subst}
-use Rattle.std.proofs.lemmas.Bool.{false≢true}
-use Rattle.store_read.specs.steps.Below.{IsRowBelow}
+use Rattle.store_read.proofs.Vocabulary.{Some, None, subst, false≢true, IsRowBelow}
 use Rattle.store_read.proofs.RunsApart.{met_by_last, none_met}
 use Rattle.store_read.proofs.below.is_taken.Goals as goal
 

@@ -1,8 +1,4 @@
-use Rattle.std.proofs.Common.{◌≡◌, ◌<◌, ◌^◌, sym, ap, ap₂, ◌∙◌, arith}
-use Rattle.std.specs.Ordering.{is_ge}
-use Rattle.sqlite_value.specs.declared.value.Value.TheVariants.{Blob}
-use Rattle.sqlite_value.specs.Order.{column, value_cmp}
-use Rattle.store_tables.specs.Cells.{address_bytes}
+use Rattle.store_read.proofs.Vocabulary.{◌≡◌, ◌<◌, ◌^◌, sym, ap, ap₂, ◌∙◌, arith, is_ge, Blob, column, value_cmp, address_bytes}
 use Rattle.store_read.proofs.RunsBelow.{end_told}
 use Rattle.store_read.proofs.below.reaches.Goals as goal
 

@@ -1,8 +1,4 @@
-use Rattle.std.proofs.Common.{◌<◌, ◌^◌, [], ◌∷◌, ◌∙◌, arith}
-use Rattle.sqlite.specs.Held.{state}
-use Rattle.sqlite_value.specs.declared.value.Value.TheVariants.{Blob}
-use Rattle.store_tables.specs.Cells.{number_cell, family_number}
-use Rattle.store_tables.proofs.Texts.{run_below_is}
+use Rattle.store_read.proofs.Vocabulary.{◌<◌, ◌^◌, [], ◌∷◌, ◌∙◌, arith, state, Blob, number_cell, family_number, run_below_is}
 use Rattle.store_read.proofs.InTurn.{earlier}
 use Rattle.store_read.proofs.RunsBelow.{found_below}
 use Rattle.store_read.proofs.below.run_below.Goals as goal

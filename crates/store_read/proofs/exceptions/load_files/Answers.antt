@@ -1,20 +1,6 @@
-use Rattle.std.proofs.Common.{refl, sym, subst, map, ap, ◌∙◌, ◌≡◌, [], List, Any, IsPermutation}
-use Rattle.std.specs.List.{AllByRecursion}
-use Rattle.std.proofs.lemmas.Result.{IfOk-weaker}
-use Rattle.sqlite.specs.Held.{state}
-use Rattle.sqlite_value.specs.Order.{Row}
-use Rattle.sqlite_trees.proofs.ListLemmas.{all-permutation}
-use Rattle.sqlite_rules.proofs.ListLemmas.{all_has, any_has}
-use Rattle.slurm.specs.declared.set.NamedSlurm.{NamedSlurm}
-use Rattle.store_tables.specs.Cells.{exception_row}
-use Rattle.store_tables.specs.Decode.{ExceptionRowFits, ShowsNone, exception_columns}
-use Rattle.store_tables.specs.Tables.{contents, slurm}
-use Rattle.store_tables.specs.declared.exception.TheConstants.{SELECT_ALL_EXCEPTIONS}
-use Rattle.store_tables.specs.declared.exception.ExceptionRow.{ExceptionRow}
-use Rattle.store_tables.proofs.ExceptionTexts.{all_exceptions_is}
+use Rattle.store_read.proofs.Vocabulary.{refl, sym, subst, map, ap, ◌∙◌, ◌≡◌, [], List, Any, IsPermutation, AllByRecursion, IfOk-weaker, state, Row, all-permutation, all_has, any_has, NamedSlurm, exception_row, ExceptionRowFits, ShowsNone, exception_columns, contents, slurm, SELECT_ALL_EXCEPTIONS, ExceptionRow, all_exceptions_is, answered, refused_by}
 use Rattle.store_transactions.specs.Files.{ShowsExceptions}
 use Rattle.store_transactions.proofs.HeldRows.{files_few, files_read}
-use Rattle.store_transactions.proofs.QueryLemmas.{answered, refused_by}
 use Rattle.store_read.proofs.ExceptionsFound.{exceptions_found}
 use Rattle.store_read.proofs.HeldAlike.{held_alike}
 use Rattle.store_read.proofs.InTurn.{earlier}

@@ -1,6 +1,4 @@
-use Rattle.std.proofs.Common.{ap, slice_get, sym, ◌∙◌}
-use Rattle.sqlite.specs.Held.{state}
-use Rattle.store_tables.proofs.ClaimTexts.{count_claims_is}
+use Rattle.store_read.proofs.Vocabulary.{ap, slice_get, sym, ◌∙◌, state, count_claims_is}
 use Rattle.store_read.proofs.ClaimCount.{if-read, number-read, row-is}
 use Rattle.store_read.proofs.InTurn.{earlier}
 use Rattle.store_read.proofs.load.count_auths.Goals as goal

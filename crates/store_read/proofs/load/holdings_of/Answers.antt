@@ -1,4 +1,4 @@
-use Rattle.std.proofs.Common.{arith}
+use Rattle.store_read.proofs.Vocabulary.{arith}
 use Rattle.store_read.proofs.Loading.{one_run_more}
 use Rattle.store_read.proofs.load.holdings_of.Goals as goal
 

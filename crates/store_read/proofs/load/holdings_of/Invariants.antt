@@ -1,5 +1,4 @@
-use Rattle.std.proofs.Common.{take}
-use Rattle.store_read.specs.Loads.{HaveSame}
+use Rattle.store_read.proofs.Vocabulary.{take, HaveSame}
 use Rattle.store_read.proofs.load.holdings_of.Given as goal
 
 abbrev pub invariant-loop-span : goal.invariant-loop-span

@@ -1,6 +1,4 @@
-use Rattle.std.proofs.Common.{ap, ◌∙◌}
-use Rattle.std.specs.Prelude.{is_some}
-use Rattle.store_transactions.proofs.QueryLemmas.{refused_by}
+use Rattle.store_read.proofs.Vocabulary.{ap, ◌∙◌, is_some, refused_by}
 use Rattle.store_read.proofs.Loading.{counted}
 use Rattle.store_read.proofs.load.is_registered.Goals as goal
 

@@ -1,13 +1,6 @@
-use Rattle.std.proofs.Common.{sym, ◌∙◌}
-use Rattle.sqlite.specs.Held.{state}
-use Rattle.store_transactions.specs.declared.fault.StoreFault.TheVariants.{Schema}
-use Rattle.registry.specs.declared.authorization.Auth.{Auth}
-use Rattle.store_tables.specs.Decode.{ClaimFits, EntryRowFits}
-use Rattle.store_tables.specs.TablesHold.{items_if_any}
-use Rattle.store_read.specs.Loads.{AreInOrder, EachRowsOf}
+use Rattle.store_read.proofs.Vocabulary.{sym, ◌∙◌, state, Schema, Auth, ClaimFits, EntryRowFits, items_if_any, AreInOrder, EachRowsOf, refused_by}
 use Rattle.store_read.proofs.AuthsFound.{auths_found, if_made, never_none, only_refused}
 use Rattle.store_read.proofs.Loading.{claims_fit, entries_fit, never_fit}
-use Rattle.store_transactions.proofs.QueryLemmas.{refused_by}
 use Rattle.store_read.proofs.InTurn.{earlier, later, unfit_later}
 use Rattle.store_read.proofs.load.load_auths.Goals as goal
 

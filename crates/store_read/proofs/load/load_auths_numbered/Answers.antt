@@ -1,19 +1,8 @@
-use Rattle.std.proofs.Common.{[], ◌∷◌, filter, sym, ◌∙◌}
-use Rattle.sqlite.specs.Held.{state}
-use Rattle.sqlite_value.specs.declared.value.Value.TheVariants.{Text}
-use Rattle.store_transactions.specs.declared.fault.StoreFault.TheVariants.{Schema}
-use Rattle.registry.specs.declared.authorization.Auth.{Auth}
-use Rattle.store_tables.specs.Cells.{number_cell}
-use Rattle.store_tables.specs.Decode.{ClaimFits, EntryRowFits}
-use Rattle.store_tables.proofs.ClaimTexts.{numbered_claim_is, numbered_entries_is}
-use Rattle.store_tables.proofs.GroupCells.{by_entry}
-use Rattle.store_read.specs.Loads.{AreInOrder, EachRowsOf, auths_held}
-use Rattle.store_read.specs.steps.Queries.{by_column}
+use Rattle.store_read.proofs.Vocabulary.{[], ◌∷◌, filter, sym, ◌∙◌, state, Text, Schema, Auth, number_cell, ClaimFits, EntryRowFits, numbered_claim_is, numbered_entries_is, by_entry, AreInOrder, EachRowsOf, auths_held, by_column, refused_by}
 use Rattle.store_read.proofs.AuthsFound.{if_made, only_refused}
 use Rattle.store_read.proofs.Finding.{claims_numbered, entries_numbered, has_number, selects_claim, selects_entries}
 use Rattle.store_read.proofs.Loading.{never_fit}
 use Rattle.store_read.proofs.NumberFound.{never_no_number, number_found, numbered_claims_fit, numbered_entries_fit}
-use Rattle.store_transactions.proofs.QueryLemmas.{refused_by}
 use Rattle.store_read.proofs.InTurn.{earlier, later, unfit_later}
 use Rattle.store_read.proofs.load.load_auths_numbered.Goals as goal
 

@@ -1,6 +1,4 @@
-use Rattle.std.proofs.Common.{◌≡◌, slice_get, ◌∙◌}
-use Rattle.sqlite.specs.Held.{state}
-use Rattle.store_transactions.proofs.QueryLemmas.{refused_by}
+use Rattle.store_read.proofs.Vocabulary.{◌≡◌, slice_get, ◌∙◌, state, refused_by}
 use Rattle.store_read.proofs.Loading.{CountersFit, counters_fit, first_counters, never_fit}
 use Rattle.store_read.proofs.load.load_counters.Goals as goal
 

@@ -1,5 +1,4 @@
-use Rattle.sqlite.specs.Held.{state}
-use Rattle.registry.specs.Values.{GrantFits}
+use Rattle.store_read.proofs.Vocabulary.{state, GrantFits}
 use Rattle.store_read.proofs.Loading.{grants_by_number, grants_fit, never_fit}
 use Rattle.store_read.proofs.load.load_grants.Goals as goal
 

@@ -1,5 +1,4 @@
-use Rattle.std.proofs.Common.{sym, ◌∙◌}
-use Rattle.store_transactions.proofs.QueryLemmas.{refused_by}
+use Rattle.store_read.proofs.Vocabulary.{sym, ◌∙◌, refused_by}
 use Rattle.store_read.proofs.InTurn.{earlier, later, unfit_later}
 use Rattle.store_read.proofs.load.load_holdings.Goals as goal
 

@@ -1,4 +1,4 @@
-use Rattle.store_transactions.proofs.QueryLemmas.{refused_by}
+use Rattle.store_read.proofs.Vocabulary.{refused_by}
 use Rattle.store_read.proofs.InTurn.{earlier, later, unfit_later}
 use Rattle.store_read.proofs.load.load_listed.Goals as goal
 

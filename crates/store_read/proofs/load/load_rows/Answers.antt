@@ -1,6 +1,5 @@
-use Rattle.std.proofs.Common.{refl, sym, ◌∙◌}
+use Rattle.store_read.proofs.Vocabulary.{refl, sym, ◌∙◌, refused_by}
 use Rattle.store_read.proofs.Loading.{none_loaded, all_loaded}
-use Rattle.store_transactions.proofs.QueryLemmas.{refused_by}
 use Rattle.store_read.proofs.InTurn.{earlier, later, unfit_later}
 use Rattle.store_read.proofs.load.load_rows.Goals as goal
 

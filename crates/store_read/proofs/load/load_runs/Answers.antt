@@ -1,7 +1,4 @@
-use Rattle.std.proofs.Common.{◌∙◌}
-use Rattle.std.specs.Prelude.{⊤}
-use Rattle.sqlite.specs.Held.{state}
-use Rattle.store_transactions.proofs.QueryLemmas.{refused_by}
+use Rattle.store_read.proofs.Vocabulary.{◌∙◌, ⊤, state, refused_by}
 use Rattle.store_read.proofs.Loading.{all_spans_fit, never_fit, same-permuted}
 use Rattle.store_read.proofs.load.load_runs.Goals as goal
 

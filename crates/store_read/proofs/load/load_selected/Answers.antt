@@ -1,11 +1,4 @@
-use Rattle.std.proofs.Common.{sym, subst, ◌∙◌}
-use Rattle.std.proofs.lemmas.Result.{IfOk-weaker}
-use Rattle.std.specs.Prelude.{IsSorted}
-use Rattle.sqlite.specs.Held.{state}
-use Rattle.store_tables.specs.TablesHold.{items_if_any}
-use Rattle.store_tables.proofs.CellsOnce.{values_shown}
-use Rattle.store_tables.proofs.ReadLemmas.{all_show}
-use Rattle.store_transactions.proofs.QueryLemmas.{answered}
+use Rattle.store_read.proofs.Vocabulary.{sym, subst, ◌∙◌, IfOk-weaker, IsSorted, state, items_if_any, values_shown, all_show, answered}
 use Rattle.store_read.proofs.InTurn.{earlier}
 use Rattle.store_read.proofs.load.load_selected.Goals as goal
 

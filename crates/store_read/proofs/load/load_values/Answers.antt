@@ -1,5 +1,4 @@
-use Rattle.std.proofs.Common.{[], ◌∷◌}
-use Rattle.sqlite_value.specs.declared.value.Value.TheVariants.{Text}
+use Rattle.store_read.proofs.Vocabulary.{[], ◌∷◌, Text}
 use Rattle.store_read.proofs.load.load_values.Goals as goal
 
 pub load_selected-requires-clause-plain : goal.load_selected-requires-clause-plain

@@ -1,7 +1,4 @@
-use Rattle.std.proofs.Common.{refl}
-use Rattle.sqlite.specs.Held.{state}
-use Rattle.store_tables.specs.Tables.{entry}
-use Rattle.store_read.specs.steps.InForce.{is_claimed_on}
+use Rattle.store_read.proofs.Vocabulary.{refl, state, entry, is_claimed_on}
 use Rattle.store_read.proofs.Giving.{each_given, given_once, given_read}
 use Rattle.store_read.proofs.InForce.{each_payload}
 use Rattle.store_read.proofs.InTurn.{earlier}

@@ -1,7 +1,5 @@
-use Rattle.std.proofs.Common.{arith}
-use Rattle.std.proofs.lemmas.Result.{on_ok_weaker}
+use Rattle.store_schema.proofs.Vocabulary.{arith, on_ok_weaker, stays_then}
 use Rattle.store_schema.proofs.CharterSteps.{has_charter}
-use Rattle.store_transactions.proofs.StatementLemmas.{stays_then}
 use Rattle.store_schema.proofs.charter.put_charter.Goals as goal
 
 pub returns-in_err-put_operators-clause-inside : goal.returns-in_err-put_operators-clause-inside

@@ -1,5 +1,5 @@
 use Rattle.store_schema.proofs.CharterSteps.{puts_operator}
-use Rattle.store_transactions.proofs.StatementLemmas.{means}
+use Rattle.store_schema.proofs.Vocabulary.{means}
 use Rattle.store_schema.proofs.charter.put_operator.Goals as goal
 
 pub returns-clause-put : goal.returns-clause-put

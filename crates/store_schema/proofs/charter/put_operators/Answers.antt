@@ -1,7 +1,4 @@
-use Rattle.std.proofs.Common.{arith}
-use Rattle.store_tables.specs.Cells.{operator_row}
-use Rattle.store_transactions.proofs.PutLemmas.{puts_none, puts_along}
-use Rattle.store_transactions.proofs.StatementLemmas.{stays, stays_then}
+use Rattle.store_schema.proofs.Vocabulary.{arith, operator_row, puts_none, puts_along, stays, stays_then}
 use Rattle.store_schema.proofs.charter.put_operators.Goals as goal
 
 pub loop-name-init : goal.loop-name-init

@@ -1,9 +1,4 @@
-use Rattle.std.proofs.Common.{map, take}
-use Rattle.sqlite.specs.State.{HasCleanDisk}
-use Rattle.store_tables.specs.Tables.{operator}
-use Rattle.store_tables.specs.Cells.{operator_row}
-use Rattle.store_transactions.specs.steps.Statements.{PutsRows}
-use Rattle.store_transactions.specs.Statements.{state_in, StaysInside}
+use Rattle.store_schema.proofs.Vocabulary.{map, take, HasCleanDisk, operator, operator_row, PutsRows, state_in, StaysInside}
 use Rattle.store_schema.proofs.charter.put_operators.Given as goal
 
 abbrev pub invariant-loop-name : goal.invariant-loop-name

@@ -1,9 +1,4 @@
-use Rattle.std.proofs.Common.{map, take}
-use Rattle.sqlite.specs.State.{HasCleanDisk}
-use Rattle.store_tables.specs.Tables.{pool}
-use Rattle.store_tables.specs.Cells.{prefix_cells}
-use Rattle.store_transactions.specs.steps.Statements.{PutsRows}
-use Rattle.store_transactions.specs.Statements.{state_in, StaysInside}
+use Rattle.store_schema.proofs.Vocabulary.{map, take, HasCleanDisk, pool, prefix_cells, PutsRows, state_in, StaysInside}
 use Rattle.store_schema.proofs.charter.put_pool.Given as goal
 
 abbrev pub invariant-loop-prefix : goal.invariant-loop-prefix

@@ -1,6 +1,5 @@
-use Rattle.std.proofs.Common.{refl}
+use Rattle.store_schema.proofs.Vocabulary.{refl, means}
 use Rattle.store_schema.proofs.CharterSteps.{puts_schema}
-use Rattle.store_transactions.proofs.StatementLemmas.{means}
 use Rattle.store_schema.proofs.charter.put_schema.Goals as goal
 
 pub returns-clause-put : goal.returns-clause-put

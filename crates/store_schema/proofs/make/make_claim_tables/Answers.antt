@@ -1,12 +1,6 @@
-use Rattle.std.proofs.Common.{arith}
-use Rattle.std.proofs.lemmas.Result.{on_ok_weaker}
-use Rattle.store_tables.specs.Tables.{claim, entry}
-use Rattle.store_tables.specs.declared.claim.TheConstants.{CREATE_CLAIM}
-use Rattle.store_tables.specs.declared.entry.TheConstants.{CREATE_ENTRY}
-use Rattle.store_schema.specs.Making.{schema_so_far}
+use Rattle.store_schema.proofs.Vocabulary.{arith, on_ok_weaker, claim, entry, CREATE_CLAIM, CREATE_ENTRY, schema_so_far, stays_then}
 use Rattle.store_schema.proofs.MakingSteps.{makes_table, makes_claim_tables}
 use Rattle.store_schema.proofs.Creates.{claim_defined, entry_defined}
-use Rattle.store_transactions.proofs.StatementLemmas.{stays_then}
 use Rattle.store_schema.proofs.make.make_claim_tables.Goals as goal
 
 pub returns-clause-made : goal.returns-clause-made

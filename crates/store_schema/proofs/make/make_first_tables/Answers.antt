@@ -1,13 +1,6 @@
-use Rattle.std.proofs.Common.{arith, refl}
-use Rattle.std.proofs.lemmas.Result.{on_ok_weaker}
-use Rattle.store_tables.specs.Tables.{meta, operator, pool, holder}
-use Rattle.store_tables.specs.declared.holder.TheConstants.{CREATE_HOLDER}
-use Rattle.store_tables.specs.declared.meta.TheConstants.{CREATE_META}
-use Rattle.store_tables.specs.declared.operator.TheConstants.{CREATE_OPERATOR}
-use Rattle.store_tables.specs.declared.pool.TheConstants.{CREATE_POOL}
+use Rattle.store_schema.proofs.Vocabulary.{arith, refl, on_ok_weaker, meta, operator, pool, holder, CREATE_HOLDER, CREATE_META, CREATE_OPERATOR, CREATE_POOL, stays_then}
 use Rattle.store_schema.proofs.MakingSteps.{makes}
 use Rattle.store_schema.proofs.Creates.{meta_defined, operator_defined, pool_defined, holder_defined}
-use Rattle.store_transactions.proofs.StatementLemmas.{stays_then}
 use Rattle.store_schema.proofs.make.make_first_tables.Goals as goal
 
 pub returns-in_err-execute-2-clause-inside : goal.returns-in_err-execute-2-clause-inside

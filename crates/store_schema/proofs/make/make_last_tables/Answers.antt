@@ -1,7 +1,5 @@
-use Rattle.std.proofs.Common.{arith}
-use Rattle.std.proofs.lemmas.Result.{on_ok_weaker}
+use Rattle.store_schema.proofs.Vocabulary.{arith, on_ok_weaker, stays_then}
 use Rattle.store_schema.proofs.MakingSteps.{makes_last}
-use Rattle.store_transactions.proofs.StatementLemmas.{stays_then}
 use Rattle.store_schema.proofs.make.make_last_tables.Goals as goal
 
 pub returns-clause-made : goal.returns-clause-made

@@ -1,4 +1,4 @@
-use Rattle.std.proofs.Common.{arith}
+use Rattle.store_schema.proofs.Vocabulary.{arith}
 use Rattle.store_schema.proofs.MakingSteps.{makes_old_index}
 use Rattle.store_schema.proofs.make.make_old_index.Goals as goal
 

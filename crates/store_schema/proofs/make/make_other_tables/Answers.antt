@@ -1,13 +1,6 @@
-use Rattle.std.proofs.Common.{arith, refl}
-use Rattle.std.proofs.lemmas.Result.{on_ok_weaker}
-use Rattle.store_tables.specs.Tables.{holding, granted, auth, slurm}
-use Rattle.store_tables.specs.declared.auth.TheConstants.{CREATE_AUTH}
-use Rattle.store_tables.specs.declared.exception.TheConstants.{CREATE_SLURM}
-use Rattle.store_tables.specs.declared.granted.TheConstants.{CREATE_GRANTED}
-use Rattle.store_tables.specs.declared.holding.TheConstants.{CREATE_HOLDING}
+use Rattle.store_schema.proofs.Vocabulary.{arith, refl, on_ok_weaker, holding, granted, auth, slurm, CREATE_AUTH, CREATE_SLURM, CREATE_GRANTED, CREATE_HOLDING, stays_then}
 use Rattle.store_schema.proofs.MakingSteps.{makes}
 use Rattle.store_schema.proofs.Creates.{holding_defined, granted_defined, auth_defined, slurm_defined}
-use Rattle.store_transactions.proofs.StatementLemmas.{stays_then}
 use Rattle.store_schema.proofs.make.make_other_tables.Goals as goal
 
 pub returns-in_err-execute-2-clause-inside : goal.returns-in_err-execute-2-clause-inside

@@ -1,4 +1,4 @@
-use Rattle.store_transactions.proofs.StatementLemmas.{stays_then}
+use Rattle.store_schema.proofs.Vocabulary.{stays_then}
 use Rattle.store_schema.proofs.make.make_schema.Goals as goal
 
 pub returns-in_err-make_other_tables-clause-inside : goal.returns-in_err-make_other_tables-clause-inside

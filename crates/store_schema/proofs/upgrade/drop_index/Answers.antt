@@ -1,4 +1,4 @@
-use Rattle.std.proofs.Common.{arith}
+use Rattle.store_schema.proofs.Vocabulary.{arith}
 use Rattle.store_schema.proofs.MovingSteps.{drops_index}
 use Rattle.store_schema.proofs.upgrade.drop_index.Goals as goal
 

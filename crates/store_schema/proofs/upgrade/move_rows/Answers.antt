@@ -1,7 +1,5 @@
-use Rattle.std.proofs.Common.{arith}
-use Rattle.std.proofs.lemmas.Result.{on_ok_weaker}
+use Rattle.store_schema.proofs.Vocabulary.{arith, on_ok_weaker, stays_then}
 use Rattle.store_schema.proofs.MovingSteps.{moves_rows}
-use Rattle.store_transactions.proofs.StatementLemmas.{stays_then}
 use Rattle.store_schema.proofs.upgrade.move_rows.Goals as goal
 
 pub returns-clause-moved : goal.returns-clause-moved

@@ -1,7 +1,5 @@
-use Rattle.std.proofs.Common.{arith}
-use Rattle.std.proofs.lemmas.Result.{on_ok_weaker}
+use Rattle.store_schema.proofs.Vocabulary.{arith, on_ok_weaker, stays_then}
 use Rattle.store_schema.proofs.MovingSteps.{widens}
-use Rattle.store_transactions.proofs.StatementLemmas.{stays_then}
 use Rattle.store_schema.proofs.upgrade.widen_tables.Goals as goal
 
 pub returns-clause-widened : goal.returns-clause-widened

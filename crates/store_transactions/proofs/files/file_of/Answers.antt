@@ -1,6 +1,4 @@
-use Rattle.std.proofs.Common.{◌≡◌, ◌≤◌, ◌+◌, ℕ, Err, OnOk, length, ap, subst, arith}
-use Rattle.slurm.specs.declared.exceptions.TheConstants.{MOST_ENTRIES}
-use Rattle.store_transactions.specs.declared.fault.StoreFault.TheVariants.{Schema}
+use Rattle.store_transactions.proofs.Vocabulary.{◌≡◌, ◌≤◌, ◌+◌, ℕ, Err, OnOk, length, ap, subst, arith, MOST_ENTRIES, Schema}
 use Rattle.store_transactions.proofs.FilesIn.{said_number}
 use Rattle.store_transactions.proofs.files.file_of.Goals as goal
 

@@ -1,8 +1,4 @@
-use Rattle.std.proofs.Common.{◌≤◌, ◌++◌, [], ◌∷◌, List, length, ap, subst, ◌∙◌}
-use Rattle.slurm.specs.Exceptions.{Exceptions}
-use Rattle.slurm.specs.declared.exceptions.TheConstants.{MOST_ENTRIES}
-use Rattle.store_tables.specs.declared.exception.ExceptionRow.{ExceptionRow}
-use Rattle.store_transactions.specs.steps.Files.{exceptions_in}
+use Rattle.store_transactions.proofs.Vocabulary.{◌≤◌, ◌++◌, [], ◌∷◌, List, length, ap, subst, ◌∙◌, Exceptions, MOST_ENTRIES, ExceptionRow, exceptions_in}
 use Rattle.store_transactions.proofs.FilesIn.{fewer_left, parted_at, walked_all, walked_none, walked_past}
 use Rattle.store_transactions.proofs.files.files_in.Goals as goal
 

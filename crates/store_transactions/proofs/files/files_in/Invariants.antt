@@ -1,4 +1,4 @@
-use Rattle.std.proofs.Common.{length}
+use Rattle.store_transactions.proofs.Vocabulary.{length}
 use Rattle.store_transactions.proofs.FilesIn.{Walked}
 use Rattle.store_transactions.proofs.files.files_in.Given as goal
 

@@ -1,4 +1,4 @@
-use Rattle.std.proofs.lemmas.Result.{IfOk-weaker}
+use Rattle.store_transactions.proofs.Vocabulary.{IfOk-weaker}
 use Rattle.store_transactions.proofs.ShownFiles.{few_shown, files_fit, files_shown, shown_moved}
 use Rattle.store_transactions.proofs.files.group_files.Goals as goal
 

@@ -1,7 +1,6 @@
-use Rattle.std.proofs.Common.{is_lt, rules}
+use Rattle.store_transactions.proofs.Vocabulary.{rules, ExceptionRow, place_cmp}
+use Rattle.std.proofs.Common.{is_lt}
 use Rattle.std.proofs.lemmas.Fn.{always_returns_same}
-use Rattle.store_tables.specs.declared.exception.ExceptionRow.{ExceptionRow}
-use Rattle.store_transactions.specs.steps.Files.{place_cmp}
 use Rattle.store_transactions.proofs.FilesIn.{rise_from_next}
 use Rattle.store_transactions.proofs.files.rise.Goals as goal
 

@@ -1,6 +1,4 @@
-use Rattle.std.proofs.Common.{rules, ◌∙◌}
-use Rattle.std.proofs.lemmas.List.Sorted.{IsPartitionPoint-from_clause}
-use Rattle.store_transactions.specs.steps.Files.{is_in_file}
+use Rattle.store_transactions.proofs.Vocabulary.{rules, ◌∙◌, IsPartitionPoint-from_clause, is_in_file}
 use Rattle.store_transactions.proofs.FilesIn.{front_is}
 use Rattle.store_transactions.proofs.files.split_file.Goals as goal
 

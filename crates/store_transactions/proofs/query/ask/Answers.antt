@@ -1,7 +1,4 @@
-use Rattle.std.proofs.Common.{ap, ◌∙◌, not, arith}
-use Rattle.sqlite.specs.Held.{state}
-use Rattle.sqlite.specs.State.{HasCleanDisk}
-use Rattle.sqlite.specs.Values.{bound}
+use Rattle.store_transactions.proofs.Vocabulary.{ap, ◌∙◌, not, arith, state, HasCleanDisk, bound}
 use Rattle.store_transactions.proofs.QueryLemmas.{not_run, no_answer, as_before, answer_shown, answer_unchanged, answer_kept, answer_survives}
 use Rattle.store_transactions.proofs.query.ask.Goals as goal
 

@@ -1,7 +1,4 @@
-use Rattle.std.proofs.Common.{arith}
-use Rattle.sqlite.specs.State.{HasCleanDisk}
-use Rattle.sqlite.specs.Values.{bound}
-use Rattle.store_transactions.specs.Statements.{state_in, IsReady}
+use Rattle.store_transactions.proofs.Vocabulary.{arith, HasCleanDisk, bound, state_in, IsReady}
 use Rattle.store_transactions.proofs.QueryLemmas.{inside_unchanged, inside_ready, inside_kept}
 use Rattle.store_transactions.proofs.query.ask_inside.Goals as goal
 

@@ -1,9 +1,4 @@
-use Rattle.std.proofs.Common.{List, ap, ◌∙◌, not, arith}
-use Rattle.sqlite.specs.Held.{state}
-use Rattle.sqlite.specs.State.{HasCleanDisk}
-use Rattle.sqlite.specs.Values.{bound}
-use Rattle.sqlite_value.specs.Order.{Row}
-use Rattle.sqlite.proofs.StateLemmas.{survives_then}
+use Rattle.store_transactions.proofs.Vocabulary.{List, ap, ◌∙◌, not, arith, state, HasCleanDisk, bound, Row, survives_then}
 use Rattle.store_transactions.proofs.QueryLemmas.{as_before, no_answer, not_run}
 use Rattle.store_transactions.proofs.Taking.{plain_after, taken_kept, taken_rows, taken_same}
 use Rattle.store_transactions.proofs.query.take_each.Goals as goal

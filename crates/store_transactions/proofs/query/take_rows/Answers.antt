@@ -1,8 +1,4 @@
-use Rattle.std.proofs.Common.{List, rules, arith}
-use Rattle.sqlite.specs.Held.{state}
-use Rattle.sqlite.specs.State.{HasCleanDisk, Shown}
-use Rattle.sqlite.specs.Values.{bound}
-use Rattle.sqlite_value.specs.Order.{Row}
+use Rattle.store_transactions.proofs.Vocabulary.{List, rules, arith, state, HasCleanDisk, Shown, bound, Row}
 use Rattle.store_transactions.proofs.Taking.{always_on_err, commits_nothing, fact_on_err, refused_err, shown_from_start}
 use Rattle.store_transactions.proofs.query.take_rows.Goals as goal
 

@@ -1,9 +1,5 @@
-use Rattle.std.proofs.Common.{◌≡◌, false, List}
-use Rattle.sqlite.specs.State.{HasCleanDisk, IsUnchanged, Survives}
-use Rattle.sqlite.specs.Held.{state}
+use Rattle.store_transactions.proofs.Vocabulary.{◌≡◌, false, List, HasCleanDisk, IsUnchanged, Survives, state, bound, Row}
 use Rattle.sqlite.specs.Given.{HasGiven}
-use Rattle.sqlite.specs.Values.{bound}
-use Rattle.sqlite_value.specs.Order.{Row}
 use Rattle.store_transactions.proofs.query.take_rows.Given as goal
 
 abbrev pub invariant-rows : goal.invariant-rows

@@ -1,12 +1,7 @@
-use Rattle.std.proofs.Common.{◌≡◌, ◌↔◌, ◌∙◌, List, Option, Some, None, Result, Err, Any, map, sym, subst, IsPermutation}
-use Rattle.std.proofs.lemmas.List.Sorted.{IsPermutation-refl}
+use Rattle.store_transactions.proofs.Vocabulary.{◌≡◌, ◌↔◌, ◌∙◌, List, Option, Some, None, Result, Err, Any, map, sym, subst, IsPermutation, IsPermutation-refl, Row, ShowsNone, DecodesAll, first_columns, StoreFault, Schema}
 use Rattle.std.specs.Global.{Vec}
 use Rattle.std.specs.Option.{ok_or}
-use Rattle.sqlite_value.specs.Order.{Row}
-use Rattle.store_tables.specs.Decode.{ShowsNone, DecodesAll, first_columns}
 use Rattle.store_tables.proofs.ReadLemmas.{all_show}
-use Rattle.store_transactions.specs.declared.fault.StoreFault.{StoreFault}
-use Rattle.store_transactions.specs.declared.fault.StoreFault.TheVariants.{Schema}
 use Rattle.store_transactions.proofs.values.read_within.Goals as goal
 
 refused_iff :

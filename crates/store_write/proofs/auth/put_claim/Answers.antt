@@ -1,5 +1,5 @@
 use Rattle.store_write.proofs.AuthSteps.{puts_claim}
-use Rattle.store_transactions.proofs.StatementLemmas.{means}
+use Rattle.store_write.proofs.Vocabulary.{means}
 use Rattle.store_write.proofs.auth.put_claim.Goals as goal
 
 pub returns-clause-done : goal.returns-clause-done

@@ -1,6 +1,5 @@
-use Rattle.std.proofs.Common.{arith, take, ◌+◌}
+use Rattle.store_write.proofs.Vocabulary.{arith, take, ◌+◌, taken_more, stays_then}
 use Rattle.store_write.proofs.AuthSteps.{puts_more}
-use Rattle.store_transactions.proofs.StatementLemmas.{taken_more, stays_then}
 use Rattle.store_write.proofs.auth.put_entries.Goals as goal
 
 pub loop-entry-preserved : goal.loop-entry-preserved

@@ -1,8 +1,4 @@
-use Rattle.std.proofs.Common.{take}
-use Rattle.sqlite.specs.State.{HasCleanDisk}
-use Rattle.store_tables.specs.TablesHold.{entry_part}
-use Rattle.store_transactions.specs.Statements.{state_in, StaysInside}
-use Rattle.store_transactions.specs.steps.Statements.{PutsRows}
+use Rattle.store_write.proofs.Vocabulary.{take, HasCleanDisk, entry_part, state_in, StaysInside, PutsRows}
 use Rattle.store_write.proofs.AuthSteps.{rows_of_entries}
 use Rattle.store_write.proofs.auth.put_entries.Given as goal
 

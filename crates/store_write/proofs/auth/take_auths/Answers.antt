@@ -1,11 +1,5 @@
-use Rattle.std.proofs.Common.{arith, ap, sym, ◌∙◌, [], take, get_or, ◌+◌}
-use Rattle.std.proofs.lemmas.List.{take_more}
-use Rattle.registry.specs.declared.change.Edit.TheVariants.{Withdraw}
-use Rattle.registry.specs.Rows.{edited}
-use Rattle.store_write.specs.steps.RowEdits.{without_auths}
-use Rattle.store_transactions.specs.Statements.{state_in}
+use Rattle.store_write.proofs.Vocabulary.{arith, ap, sym, ◌∙◌, [], take, get_or, ◌+◌, take_more, Withdraw, edited, without_auths, state_in, stays, stays_then}
 use Rattle.store_write.proofs.RowSteps.{one_auth_less, no_auths, done_none, done_then}
-use Rattle.store_transactions.proofs.StatementLemmas.{stays, stays_then}
 use Rattle.store_write.proofs.auth.take_auths.Goals as goal
 
 pub loop-number-init : goal.loop-number-init

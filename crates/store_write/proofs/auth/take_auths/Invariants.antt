@@ -1,8 +1,4 @@
-use Rattle.std.proofs.Common.{take}
-use Rattle.sqlite.specs.State.{HasCleanDisk}
-use Rattle.store_write.specs.steps.RowEdits.{without_auths}
-use Rattle.store_transactions.specs.Statements.{state_in, StaysInside}
-use Rattle.store_write.specs.steps.Statements.{EditsHolder}
+use Rattle.store_write.proofs.Vocabulary.{take, HasCleanDisk, without_auths, state_in, StaysInside, EditsHolder}
 use Rattle.store_write.proofs.auth.take_auths.Given as goal
 
 abbrev pub invariant-loop-number : goal.invariant-loop-number

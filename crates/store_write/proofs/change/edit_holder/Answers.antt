@@ -1,8 +1,5 @@
-use Rattle.std.proofs.Common.{arith, sym, ◌∙◌}
-use Rattle.std.proofs.lemmas.Result.{on_ok_weaker}
-use Rattle.store_transactions.specs.Statements.{state_in}
+use Rattle.store_write.proofs.Vocabulary.{arith, sym, ◌∙◌, on_ok_weaker, state_in, stays_then}
 use Rattle.store_write.proofs.RowSteps.{turned_registered, turned_new, turned_none}
-use Rattle.store_transactions.proofs.StatementLemmas.{stays_then}
 use Rattle.store_write.proofs.change.edit_holder.Goals as goal
 
 pub returns-then-branch-clause-done : goal.returns-then-branch-clause-done

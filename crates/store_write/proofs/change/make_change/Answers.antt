@@ -1,13 +1,6 @@
-use Rattle.std.proofs.Common.{arith, sym, subst, Option, Some, None}
+use Rattle.store_write.proofs.Vocabulary.{arith, sym, subst, Option, Some, None, Holders, HolderChange, changed_by_one, state_in, each_holder, RowsBecome, MakesChange, stays_then}
 use Rattle.registry.specs.declared.change.Change.{Change}
-use Rattle.registry.specs.declared.change.Change.TheVariants.{Holders}
-use Rattle.registry.specs.declared.change.HolderChange.{HolderChange}
-use Rattle.registry.specs.Rows.{changed_by_one}
-use Rattle.store_transactions.specs.Statements.{state_in}
-use Rattle.store_write.specs.steps.Statements.{each_holder}
-use Rattle.store_write.specs.Changes.{RowsBecome, MakesChange}
 use Rattle.store_write.proofs.RowSteps.{turned_then, holders_changed}
-use Rattle.store_transactions.proofs.StatementLemmas.{stays_then}
 use Rattle.store_write.proofs.change.make_change.Goals as goal
 
 pub returns-in_ok-edit_holder-in-Holders-2-clause-done : goal.returns-in_ok-edit_holder-in-Holders-2-clause-done

@@ -1,7 +1,5 @@
-use Rattle.std.proofs.Common.{refl}
-use Rattle.store_write.specs.steps.RowEdits.{with_auths, with_created, with_new_auths}
+use Rattle.store_write.proofs.Vocabulary.{refl, with_auths, with_created, with_new_auths, stays_then}
 use Rattle.store_write.proofs.RowSteps.{done_after}
-use Rattle.store_transactions.proofs.StatementLemmas.{stays_then}
 use Rattle.store_write.proofs.change.put_new_auths.Goals as goal
 
 pub returns-clause-done : goal.returns-clause-done

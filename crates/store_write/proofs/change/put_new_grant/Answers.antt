@@ -1,9 +1,5 @@
-use Rattle.std.proofs.Common.{[], ◌∷◌, refl}
-use Rattle.registry.specs.declared.change.Edit.TheVariants.{Grant}
-use Rattle.registry.specs.Rows.{edited}
-use Rattle.store_write.specs.steps.RowEdits.{with_grants, with_granted}
+use Rattle.store_write.proofs.Vocabulary.{[], ◌∷◌, refl, Grant, edited, with_grants, with_granted, stays_then}
 use Rattle.store_write.proofs.RowSteps.{done_after}
-use Rattle.store_transactions.proofs.StatementLemmas.{stays_then}
 use Rattle.store_write.proofs.change.put_new_grant.Goals as goal
 
 pub returns-clause-done : goal.returns-clause-done

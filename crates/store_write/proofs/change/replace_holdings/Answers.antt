@@ -1,8 +1,5 @@
-use Rattle.std.proofs.Common.{arith, refl}
-use Rattle.registry.specs.Rows.{Rows}
-use Rattle.store_write.specs.steps.RowEdits.{with_holdings, without_holdings, without_auths, with_replaced_holdings}
+use Rattle.store_write.proofs.Vocabulary.{arith, refl, Rows, with_holdings, without_holdings, without_auths, with_replaced_holdings, stays_then}
 use Rattle.store_write.proofs.RowSteps.{done_then, done_after}
-use Rattle.store_transactions.proofs.StatementLemmas.{stays_then}
 use Rattle.store_write.proofs.change.replace_holdings.Goals as goal
 
 pub returns-in_err-put_rows-clause-inside : goal.returns-in_err-put_rows-clause-inside

@@ -1,6 +1,5 @@
-use Rattle.std.proofs.Common.{arith, ap, ◌+◌}
+use Rattle.store_write.proofs.Vocabulary.{arith, ap, ◌+◌, stays_then}
 use Rattle.store_write.proofs.ExceptionSteps.{puts_entry}
-use Rattle.store_transactions.proofs.StatementLemmas.{stays_then}
 use Rattle.store_write.proofs.exceptions.put_entries.Goals as goal
 
 pub loop-entry-preserved : goal.loop-entry-preserved

@@ -1,9 +1,4 @@
-use Rattle.std.proofs.Common.{◌≡◌, take}
-use Rattle.sqlite.specs.State.{HasCleanDisk}
-use Rattle.store_tables.specs.Tables.{slurm}
-use Rattle.store_transactions.specs.Statements.{state_in, StaysInside}
-use Rattle.store_transactions.specs.steps.Statements.{PutsRows}
-use Rattle.store_write.specs.steps.Statements.{entry_rows}
+use Rattle.store_write.proofs.Vocabulary.{◌≡◌, take, HasCleanDisk, slurm, state_in, StaysInside, PutsRows, entry_rows}
 use Rattle.store_write.proofs.exceptions.put_entries.Given as goal
 
 abbrev pub invariant-loop-entry : goal.invariant-loop-entry

@@ -1,5 +1,5 @@
 use Rattle.store_write.proofs.ExceptionSteps.{puts_exception}
-use Rattle.store_transactions.proofs.StatementLemmas.{means}
+use Rattle.store_write.proofs.Vocabulary.{means}
 use Rattle.store_write.proofs.exceptions.put_exception.Goals as goal
 
 pub returns-clause-done : goal.returns-clause-done

@@ -1,7 +1,5 @@
-use Rattle.std.proofs.Common.{arith}
-use Rattle.std.proofs.lemmas.Result.{on_ok_weaker}
+use Rattle.store_write.proofs.Vocabulary.{arith, on_ok_weaker, stays_then}
 use Rattle.store_write.proofs.ExceptionSteps.{puts_file}
-use Rattle.store_transactions.proofs.StatementLemmas.{stays_then}
 use Rattle.store_write.proofs.exceptions.put_file.Goals as goal
 
 pub returns-clause-done : goal.returns-clause-done

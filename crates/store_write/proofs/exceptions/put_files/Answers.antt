@@ -1,8 +1,5 @@
-use Rattle.std.proofs.Common.{arith, subst}
-use Rattle.std.proofs.lemmas.List.Elements.{All-more}
-use Rattle.store_write.specs.steps.Statements.{IsBounded}
+use Rattle.store_write.proofs.Vocabulary.{arith, subst, All-more, IsBounded, stays_then}
 use Rattle.store_write.proofs.ExceptionSteps.{puts_next}
-use Rattle.store_transactions.proofs.StatementLemmas.{stays_then}
 use Rattle.store_write.proofs.exceptions.put_files.Goals as goal
 
 pub loop-named-preserved : goal.loop-named-preserved

@@ -1,11 +1,4 @@
-use Rattle.std.proofs.Common.{All, map, flat_map, take}
-use Rattle.sqlite.specs.State.{HasCleanDisk}
-use Rattle.store_tables.specs.Cells.{exception_row}
-use Rattle.store_tables.specs.Tables.{slurm}
-use Rattle.store_tables.specs.TablesHold.{file_rows}
-use Rattle.store_transactions.specs.Statements.{state_in, StaysInside}
-use Rattle.store_transactions.specs.steps.Statements.{PutsRows}
-use Rattle.store_write.specs.steps.Statements.{IsBounded}
+use Rattle.store_write.proofs.Vocabulary.{All, map, flat_map, take, HasCleanDisk, exception_row, slurm, file_rows, state_in, StaysInside, PutsRows, IsBounded}
 use Rattle.store_write.proofs.exceptions.put_files.Given as goal
 
 abbrev pub invariant-loop-named : goal.invariant-loop-named

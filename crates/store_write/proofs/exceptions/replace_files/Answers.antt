@@ -1,7 +1,5 @@
-use Rattle.std.proofs.Common.{arith}
-use Rattle.store_transactions.specs.Statements.{state_in}
+use Rattle.store_write.proofs.Vocabulary.{arith, state_in, stays_then}
 use Rattle.store_write.proofs.ExceptionSteps.{replaced}
-use Rattle.store_transactions.proofs.StatementLemmas.{stays_then}
 use Rattle.store_write.proofs.exceptions.replace_files.Goals as goal
 
 pub returns-clause-done : goal.returns-clause-done

@@ -1,6 +1,5 @@
-use Rattle.std.proofs.Common.{refl}
+use Rattle.store_write.proofs.Vocabulary.{refl, means}
 use Rattle.store_write.proofs.ExceptionSteps.{takes_exceptions}
-use Rattle.store_transactions.proofs.StatementLemmas.{means}
 use Rattle.store_write.proofs.exceptions.take_exceptions.Goals as goal
 
 pub returns-clause-done : goal.returns-clause-done

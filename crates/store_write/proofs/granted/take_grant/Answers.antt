@@ -1,5 +1,5 @@
 use Rattle.store_write.proofs.EditSteps.{takes_grant}
-use Rattle.store_transactions.proofs.StatementLemmas.{means}
+use Rattle.store_write.proofs.Vocabulary.{means}
 use Rattle.store_write.proofs.granted.take_grant.Goals as goal
 
 pub returns-clause-done : goal.returns-clause-done

@@ -1,8 +1,6 @@
-use Rattle.std.proofs.Common.{arith, inl}
+use Rattle.store_write.proofs.Vocabulary.{arith, inl, state_in, kept_inside}
 use Rattle.sqlite.proofs.InsideLemmas.{unchanged_keeps}
-use Rattle.store_transactions.specs.Statements.{state_in}
 use Rattle.store_write.proofs.HolderSteps.{asked, registered_if_found}
-use Rattle.store_transactions.proofs.QueryLemmas.{kept_inside}
 use Rattle.store_write.proofs.holder.is_registered.Goals as goal
 
 pub returns-in_err-found-clause-inside : goal.returns-in_err-found-clause-inside

@@ -1,8 +1,5 @@
-use Rattle.std.proofs.Common.{arith, ap, sym, ◌∙◌, [], ◌∷◌, take, ◌+◌}
-use Rattle.store_write.specs.steps.RowEdits.{without_holdings}
-use Rattle.store_transactions.specs.Statements.{state_in}
+use Rattle.store_write.proofs.Vocabulary.{arith, ap, sym, ◌∙◌, [], ◌∷◌, take, ◌+◌, without_holdings, state_in, taken_more, stays, stays_then}
 use Rattle.store_write.proofs.RowSteps.{none_taken, one_holding_less, done_none, done_then}
-use Rattle.store_transactions.proofs.StatementLemmas.{taken_more, stays, stays_then}
 use Rattle.store_write.proofs.holding.take_holdings.Goals as goal
 
 pub loop-span-init : goal.loop-span-init

@@ -1,8 +1,4 @@
-use Rattle.std.proofs.Common.{take}
-use Rattle.sqlite.specs.State.{HasCleanDisk}
-use Rattle.store_write.specs.steps.RowEdits.{without_holdings}
-use Rattle.store_transactions.specs.Statements.{state_in, StaysInside}
-use Rattle.store_write.specs.steps.Statements.{EditsHolder}
+use Rattle.store_write.proofs.Vocabulary.{take, HasCleanDisk, without_holdings, state_in, StaysInside, EditsHolder}
 use Rattle.store_write.proofs.holding.take_holdings.Given as goal
 
 abbrev pub invariant-loop-span : goal.invariant-loop-span

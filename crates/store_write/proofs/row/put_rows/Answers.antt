@@ -1,7 +1,5 @@
-use Rattle.std.proofs.Common.{arith, ap, sym, ◌∙◌, [], ◌∷◌, take, ◌+◌}
-use Rattle.store_transactions.specs.Statements.{state_in}
+use Rattle.store_write.proofs.Vocabulary.{arith, ap, sym, ◌∙◌, [], ◌∷◌, take, ◌+◌, state_in, taken_more, stays, stays_then}
 use Rattle.store_write.proofs.RowSteps.{done_none, done_then}
-use Rattle.store_transactions.proofs.StatementLemmas.{taken_more, stays, stays_then}
 use Rattle.store_write.proofs.row.put_rows.Goals as goal
 
 pub loop-row-init : goal.loop-row-init

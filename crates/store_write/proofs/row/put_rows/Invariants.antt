@@ -1,7 +1,4 @@
-use Rattle.std.proofs.Common.{take}
-use Rattle.sqlite.specs.State.{HasCleanDisk}
-use Rattle.store_transactions.specs.Statements.{state_in, StaysInside}
-use Rattle.store_write.specs.steps.Statements.{EditsHolder}
+use Rattle.store_write.proofs.Vocabulary.{take, HasCleanDisk, state_in, StaysInside, EditsHolder}
 use Rattle.store_write.proofs.row.put_rows.Given as goal
 
 abbrev pub invariant-loop-row : goal.invariant-loop-row

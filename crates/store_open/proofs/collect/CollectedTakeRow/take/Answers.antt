@@ -1,12 +1,6 @@
-use Rattle.std.proofs.Common.{◌≡◌, ℤ, true, List, [], ◌∷◌, ◌++◌, Some, Result, Ok, Err, IfOk, IfSome, MatchBool, SFits, w64, rules}
-use Rattle.std.proofs.lemmas.Int.{to_z-of_z}
+use Rattle.store_open.proofs.Vocabulary.{◌≡◌, ℤ, true, List, [], ◌∷◌, ◌++◌, Some, Result, Ok, Err, IfOk, IfSome, MatchBool, SFits, w64, rules, to_z-of_z, Int, Row, StoreFault, Collects, ShowsKey, ShowsNoClaim, last_value}
 use Rattle.std.specs.Ordering.{is_lt, int_cmp}
-use Rattle.sqlite_value.specs.declared.value.Value.TheVariants.{Int}
-use Rattle.sqlite_value.specs.Order.{Row}
-use Rattle.store_transactions.specs.declared.fault.StoreFault.{StoreFault}
 use Rattle.store_open.specs.declared.collect.Collected.{Collected}
-use Rattle.store_open.specs.steps.Keys.{Collects, ShowsKey, ShowsNoClaim}
-use Rattle.store_open.specs.steps.Numbered.{last_value}
 use Rattle.store_open.proofs.Keys.{collects_more, collects_no_more}
 use Rattle.store_open.proofs.collect.CollectedTakeRow.take.Goals as goal
 

@@ -1,5 +1,4 @@
-use Rattle.std.proofs.Common.{SFits, w64, rules}
-use Rattle.std.proofs.lemmas.Int.{to_z-of_z}
+use Rattle.store_open.proofs.Vocabulary.{SFits, w64, rules, to_z-of_z}
 use Rattle.store_open.proofs.Collecting.{end_apart_more}
 use Rattle.store_open.proofs.collect.RowidsTakeRow.take.Goals as goal
 

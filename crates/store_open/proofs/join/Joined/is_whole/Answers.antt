@@ -1,6 +1,4 @@
-use Rattle.std.proofs.Common.{◌<◌, ◌+◌, arith, length, nat_le, subst}
-use Rattle.std.proofs.lemmas.Bool.{leb-false, leb-true}
-use Rattle.registry.specs.RoaPrefixes.{AreEntries}
+use Rattle.store_open.proofs.Vocabulary.{◌<◌, ◌+◌, arith, length, nat_le, subst, leb-false, leb-true, AreEntries}
 use Rattle.store_open.proofs.Joining.{by_test, joined_last, joined_never, joined_none_left, joined_too_few, joined_unfit}
 use Rattle.store_open.proofs.Keys.{as_many}
 use Rattle.store_open.proofs.join.Joined.is_whole.Goals as goal

@@ -1,13 +1,4 @@
-use Rattle.std.proofs.Common.{◌≡◌, true, Some, None, Result, Ok, Err, IfOk, List, ap, sym, ◌∙◌, ◌+◌, drop, arith, subst, ◌++◌, ◌∷◌, []}
-use Rattle.addr.specs.declared.roa_prefix.RoaPrefix.{RoaPrefix}
-use Rattle.registry.specs.RoaPrefixes.{AreEntries}
-use Rattle.store_tables.specs.declared.claim.Claim.{Claim}
-use Rattle.store_tables.specs.declared.entry.EntryRow.{EntryRow}
-use Rattle.store_tables.specs.declared.groups.OfHolder.{OfHolder}
-use Rattle.store_transactions.specs.declared.fault.StoreFault.{StoreFault}
-use Rattle.store_open.specs.declared.join.Joined.{Joined}
-use Rattle.store_open.specs.steps.Joining.{WalkGoesOn, WalkStands}
-use Rattle.store_open.specs.steps.Keys.{AreOfAll, first_key_entry}
+use Rattle.store_open.proofs.Vocabulary.{◌≡◌, true, Some, None, Result, Ok, Err, IfOk, List, ap, sym, ◌∙◌, ◌+◌, drop, arith, subst, ◌++◌, ◌∷◌, [], RoaPrefix, AreEntries, Claim, EntryRow, OfHolder, StoreFault, Joined, WalkGoesOn, WalkStands, AreOfAll, first_key_entry}
 use Rattle.store_open.proofs.Joining.{of_next_claim, of_no_claim, one_entry, others_unfit, too_many, walk_ends, walk_goes_on}
 use Rattle.store_open.proofs.Keys.{as_many, entry_by_key}
 use Rattle.store_open.proofs.join.Joined.pass.Goals as goal

@@ -1,5 +1,4 @@
-use Rattle.std.proofs.Common.{[], sym, subst, true}
-use Rattle.store_open.specs.steps.Joining.{JoinsRows}
+use Rattle.store_open.proofs.Vocabulary.{[], sym, subst, true, JoinsRows}
 use Rattle.store_open.proofs.Joining.{joins_none}
 use Rattle.store_open.proofs.join.Joined.start.Goals as goal
 

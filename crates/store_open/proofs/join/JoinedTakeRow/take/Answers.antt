@@ -1,16 +1,4 @@
-use Rattle.std.proofs.Common.{◌≡◌, true, List, [], ◌∷◌, ◌++◌, drop, Result, Ok, Err, IfOk, sym, ap, ◌∙◌}
-use Rattle.std.proofs.lemmas.Bool.{not-true, not-false}
-use Rattle.std.specs.Global.{Vec}
-use Rattle.sqlite_value.specs.Order.{Row}
-use Rattle.store_tables.specs.declared.entry.EntryRow.{EntryRow}
-use Rattle.store_tables.specs.declared.groups.OfHolder.{OfHolder}
-use Rattle.store_tables.specs.Cells.{entry_cells, named_cells}
-use Rattle.store_tables.specs.Decode.{EntryRowFits, NamedFits, first_columns}
-use Rattle.store_transactions.specs.declared.fault.StoreFault.{StoreFault}
-use Rattle.store_open.specs.declared.join.Joined.{Joined}
-use Rattle.store_open.specs.declared.key.ClaimKey.{ClaimKey}
-use Rattle.store_open.specs.steps.Joining.{JoinsRows, WalkStands, WalkGoesOn}
-use Rattle.store_open.specs.steps.Keys.{AreOfAll}
+use Rattle.store_open.proofs.Vocabulary.{◌≡◌, true, List, [], ◌∷◌, ◌++◌, drop, Result, Ok, Err, IfOk, sym, ap, ◌∙◌, not-true, not-false, Vec, Row, EntryRow, OfHolder, entry_cells, named_cells, EntryRowFits, NamedFits, first_columns, StoreFault, Joined, ClaimKey, JoinsRows, WalkStands, WalkGoesOn, AreOfAll}
 use Rattle.store_open.proofs.Joining.{joins_no_more, joins_on, joins_unread}
 use Rattle.store_open.proofs.join.JoinedTakeRow.take.Goals as goal
 

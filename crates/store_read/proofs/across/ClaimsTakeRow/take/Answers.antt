@@ -1,4 +1,4 @@
-use Rattle.std.proofs.Common.{rules}
+use Rattle.store_read.proofs.Vocabulary.{rules}
 use Rattle.store_read.proofs.InForce.{one_key_more}
 use Rattle.store_read.proofs.across.ClaimsTakeRow.take.Goals as goal
 

@@ -1,13 +1,5 @@
-use Rattle.std.proofs.Common.{◌≡◌, true, false, List, [], ◌∷◌, ◌++◌, map, Result, Ok, Err, IfOk, MatchBool, refl, sym, ap, ◌∙◌}
-use Rattle.std.specs.Global.{Vec}
-use Rattle.sqlite_value.specs.Order.{Row}
-use Rattle.registry.specs.Values.{VrpFits}
-use Rattle.store_tables.specs.Cells.{vrp_cells}
-use Rattle.store_tables.specs.Decode.{ShowsNone}
-use Rattle.store_transactions.specs.declared.fault.StoreFault.{StoreFault}
+use Rattle.store_read.proofs.Vocabulary.{◌≡◌, true, false, List, [], ◌∷◌, ◌++◌, map, Result, Ok, Err, IfOk, MatchBool, refl, sym, ap, ◌∙◌, Vec, Row, VrpFits, vrp_cells, ShowsNone, StoreFault, ClaimKey, key_cells, payload_of, is_claimed, of_claims, ClaimsRise, ShowVrps}
 use Rattle.store_read.specs.declared.across.InForce.{InForce}
-use Rattle.store_read.specs.declared.across.ClaimKey.{ClaimKey}
-use Rattle.store_read.specs.steps.InForce.{key_cells, payload_of, is_claimed, of_claims, ClaimsRise, ShowVrps}
 use Rattle.store_read.proofs.Claimed.{shows_more, shows_no_more, shows_the_same, told}
 use Rattle.store_read.proofs.across.InForceTakeRow.take.Goals.{then-not-self-via-then-not-self, then-not-self-via-else-not-self+then-not-is_claimed}
 use Rattle.store_read.proofs.across.InForceTakeRow.take.Goals as goal

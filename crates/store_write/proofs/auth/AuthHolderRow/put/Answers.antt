@@ -1,6 +1,4 @@
-use Rattle.std.proofs.Common.{arith}
-use Rattle.std.proofs.lemmas.Result.{on_ok_weaker}
-use Rattle.store_transactions.proofs.StatementLemmas.{stays_then}
+use Rattle.store_write.proofs.Vocabulary.{arith, on_ok_weaker, stays_then}
 use Rattle.store_write.proofs.AuthSteps.{puts_auth}
 use Rattle.store_write.proofs.auth.AuthHolderRow.put.Goals as goal
 

@@ -1,5 +1,5 @@
 use Rattle.store_write.proofs.EditSteps.{puts_holding}
-use Rattle.store_transactions.proofs.StatementLemmas.{means}
+use Rattle.store_write.proofs.Vocabulary.{means}
 use Rattle.store_write.proofs.holding.SpanHolderRow.put.Goals as goal
 
 pub returns-clause-done : goal.returns-clause-done
