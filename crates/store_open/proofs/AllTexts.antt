@@ -32,54 +32,33 @@ selects_all tree places titles sql means = record { counted = refl; plain = mean
         subst (λ l. IsPermutation l rows) (λ i. map (λ r. shown_numbered places r i) (every i))
         (permuted tree [] (shown_at places ++ col 1 0 ∷ []) (upwards 0 ∷ []) db.trees [] rows answer)
 
-all_meta_is : Means SELECT_SCHEMA.now (all_of_table 0 (0 ∷ 1 ∷ []) (codes "name" ∷ codes "value" ∷ codes "rowid" ∷ []))
-unfolding understood everything
-all_meta_is = record { is = λ s. refl; plain = λ s. (refl, refl); unlisted = λ s. refl }
-
 pub selects_meta : SelectsAll 2 0 (0 ∷ 1 ∷ []) SELECT_SCHEMA.now
-selects_meta = selects_all 0 (0 ∷ 1 ∷ []) _ SELECT_SCHEMA.now all_meta_is
-
-all_operator_is : Means SELECT_ALL_OPERATORS.now (all_of_table 2 (0 ∷ []) (codes "name" ∷ codes "rowid" ∷ []))
 unfolding understood everything
-all_operator_is = record { is = λ s. refl; plain = λ s. (refl, refl); unlisted = λ s. refl }
+selects_meta = selects_all 0 (0 ∷ 1 ∷ []) (codes "name" ∷ codes "value" ∷ codes "rowid" ∷ []) SELECT_SCHEMA.now (record { is = λ s. refl; plain = λ s. (refl, refl); unlisted = λ s. refl })
 
 pub selects_operator : SelectsAll 1 2 (0 ∷ []) SELECT_ALL_OPERATORS.now
-selects_operator = selects_all 2 (0 ∷ []) _ SELECT_ALL_OPERATORS.now all_operator_is
-
-all_pool_is : Means SELECT_ALL_PREFIXES.now (all_of_table 4 (0 ∷ 1 ∷ 2 ∷ []) (codes "family" ∷ codes "lo" ∷ codes "len" ∷ codes "rowid" ∷ []))
 unfolding understood everything
-all_pool_is = record { is = λ s. refl; plain = λ s. (refl, refl); unlisted = λ s. refl }
+selects_operator = selects_all 2 (0 ∷ []) (codes "name" ∷ codes "rowid" ∷ []) SELECT_ALL_OPERATORS.now (record { is = λ s. refl; plain = λ s. (refl, refl); unlisted = λ s. refl })
 
 pub selects_pool : SelectsAll 3 4 (0 ∷ 1 ∷ 2 ∷ []) SELECT_ALL_PREFIXES.now
-selects_pool = selects_all 4 (0 ∷ 1 ∷ 2 ∷ []) _ SELECT_ALL_PREFIXES.now all_pool_is
-
-all_holder_is : Means SELECT_ALL_HOLDERS.now (all_of_table 6 (0 ∷ 1 ∷ 2 ∷ []) (codes "name" ∷ codes "grants" ∷ codes "auths" ∷ codes "rowid" ∷ []))
 unfolding understood everything
-all_holder_is = record { is = λ s. refl; plain = λ s. (refl, refl); unlisted = λ s. refl }
+selects_pool = selects_all 4 (0 ∷ 1 ∷ 2 ∷ []) (codes "family" ∷ codes "lo" ∷ codes "len" ∷ codes "rowid" ∷ []) SELECT_ALL_PREFIXES.now (record { is = λ s. refl; plain = λ s. (refl, refl); unlisted = λ s. refl })
 
 pub selects_holder : SelectsAll 3 6 (0 ∷ 1 ∷ 2 ∷ []) SELECT_ALL_HOLDERS.now
-selects_holder = selects_all 6 (0 ∷ 1 ∷ 2 ∷ []) _ SELECT_ALL_HOLDERS.now all_holder_is
-
-all_holding_is : Means SELECT_ALL_SPANS.now (all_of_table 8 (0 ∷ 1 ∷ 2 ∷ []) (codes "family" ∷ codes "lo" ∷ codes "hi" ∷ codes "rowid" ∷ []))
 unfolding understood everything
-all_holding_is = record { is = λ s. refl; plain = λ s. (refl, refl); unlisted = λ s. refl }
+selects_holder = selects_all 6 (0 ∷ 1 ∷ 2 ∷ []) (codes "name" ∷ codes "grants" ∷ codes "auths" ∷ codes "rowid" ∷ []) SELECT_ALL_HOLDERS.now (record { is = λ s. refl; plain = λ s. (refl, refl); unlisted = λ s. refl })
 
 pub selects_holding : SelectsAll 3 8 (0 ∷ 1 ∷ 2 ∷ []) SELECT_ALL_SPANS.now
-selects_holding = selects_all 8 (0 ∷ 1 ∷ 2 ∷ []) _ SELECT_ALL_SPANS.now all_holding_is
-
-all_granted_is : Means SELECT_ALL_GRANTS.now (all_of_table 10 (1 ∷ 2 ∷ 3 ∷ 4 ∷ 5 ∷ 6 ∷ 7 ∷ []) (codes "number" ∷ codes "caller" ∷ codes "role" ∷ codes "family" ∷ codes "lo" ∷ codes "len" ∷ codes "until" ∷ codes "rowid" ∷ []))
 unfolding understood everything
-all_granted_is = record { is = λ s. refl; plain = λ s. (refl, refl); unlisted = λ s. refl }
+selects_holding = selects_all 8 (0 ∷ 1 ∷ 2 ∷ []) (codes "family" ∷ codes "lo" ∷ codes "hi" ∷ codes "rowid" ∷ []) SELECT_ALL_SPANS.now (record { is = λ s. refl; plain = λ s. (refl, refl); unlisted = λ s. refl })
 
 pub selects_granted : SelectsAll 7 10 (1 ∷ 2 ∷ 3 ∷ 4 ∷ 5 ∷ 6 ∷ 7 ∷ []) SELECT_ALL_GRANTS.now
-selects_granted = selects_all 10 (1 ∷ 2 ∷ 3 ∷ 4 ∷ 5 ∷ 6 ∷ 7 ∷ []) _ SELECT_ALL_GRANTS.now all_granted_is
-
-all_auth_is : Means SELECT_ALL_AUTHS.now (all_of_table 12 (1 ∷ 2 ∷ 3 ∷ 4 ∷ 5 ∷ 6 ∷ 7 ∷ 8 ∷ []) (codes "number" ∷ codes "asn" ∷ codes "family" ∷ codes "lo" ∷ codes "len" ∷ codes "max" ∷ codes "opens" ∷ codes "ends" ∷ codes "rowid" ∷ []))
 unfolding understood everything
-all_auth_is = record { is = λ s. refl; plain = λ s. (refl, refl); unlisted = λ s. refl }
+selects_granted = selects_all 10 (1 ∷ 2 ∷ 3 ∷ 4 ∷ 5 ∷ 6 ∷ 7 ∷ []) (codes "number" ∷ codes "caller" ∷ codes "role" ∷ codes "family" ∷ codes "lo" ∷ codes "len" ∷ codes "until" ∷ codes "rowid" ∷ []) SELECT_ALL_GRANTS.now (record { is = λ s. refl; plain = λ s. (refl, refl); unlisted = λ s. refl })
 
 pub selects_auth : SelectsAll 8 12 (1 ∷ 2 ∷ 3 ∷ 4 ∷ 5 ∷ 6 ∷ 7 ∷ 8 ∷ []) SELECT_ALL_AUTHS.now
-selects_auth = selects_all 12 (1 ∷ 2 ∷ 3 ∷ 4 ∷ 5 ∷ 6 ∷ 7 ∷ 8 ∷ []) _ SELECT_ALL_AUTHS.now all_auth_is
+unfolding understood everything
+selects_auth = selects_all 12 (1 ∷ 2 ∷ 3 ∷ 4 ∷ 5 ∷ 6 ∷ 7 ∷ 8 ∷ []) (codes "number" ∷ codes "asn" ∷ codes "family" ∷ codes "lo" ∷ codes "len" ∷ codes "max" ∷ codes "opens" ∷ codes "ends" ∷ codes "rowid" ∷ []) SELECT_ALL_AUTHS.now (record { is = λ s. refl; plain = λ s. (refl, refl); unlisted = λ s. refl })
 
 pub selects_slurm : SelectsAll 8 15 (0 ∷ 1 ∷ 2 ∷ 3 ∷ 4 ∷ 5 ∷ 6 ∷ 7 ∷ []) SELECT_ALL_EXCEPTIONS.now
 selects_slurm = selects_all 15 (0 ∷ 1 ∷ 2 ∷ 3 ∷ 4 ∷ 5 ∷ 6 ∷ 7 ∷ []) _ SELECT_ALL_EXCEPTIONS.now all_exceptions_is
@@ -94,9 +73,6 @@ pub counts_claims : OverDesk (λ s. IsPlain (understood s COUNT_CLAIMS.now))
 unfolding understood everything
 counts_claims = λ s. (refl, refl)
 
-entry_rowids_is : Means SELECT_ENTRY_ROWIDS.now (all_of_table 19 [] (codes "rowid" ∷ []))
-unfolding understood everything
-entry_rowids_is = record { is = λ s. refl; plain = λ s. (refl, refl); unlisted = λ s. refl }
-
 pub selects_entry_rowids : SelectsAll 0 19 [] SELECT_ENTRY_ROWIDS.now
-selects_entry_rowids = selects_all 19 [] _ SELECT_ENTRY_ROWIDS.now entry_rowids_is
+unfolding understood everything
+selects_entry_rowids = selects_all 19 [] (codes "rowid" ∷ []) SELECT_ENTRY_ROWIDS.now (record { is = λ s. refl; plain = λ s. (refl, refl); unlisted = λ s. refl })

@@ -1,6 +1,6 @@
 -- Values that are taken from rows, one row at a time.
-use Rattle.store_open.proofs.Vocabulary.{◌≡◌, ℕ, ℤ, true, false, List, [], ◌∷◌, ◌++◌, map, Option, Some, None, IfSome, sym, ap, ap₂, subst, ◌∙◌, is_eq, is_lt, int_cmp, arith, IsPermutation, AllByRecursion, ints, map-append, All-from_recursion, Int, Row, value_cmp, is_int, all_weaker, all-permutation, ascending-append, Has, all_has, mapped_has, ShowsNone, first_columns, ShowsSome, last_value, is_integer_below, AreRead, AreTaken, EndApart, EndsUpTo, AscendByNumber}
-use Rattle.store_open.proofs.Rowids.{below_apart}
+use Rattle.store_open.proofs.Vocabulary.{◌≡◌, ℕ, ℤ, true, false, List, [], ◌∷◌, ◌++◌, map, Option, Some, None, IfSome, sym, ap, ap₂, subst, ◌∙◌, is_lt, int_cmp, arith, IsPermutation, AllByRecursion, ints, map-append, All-from_recursion, Int, Row, is_int, all_weaker, all-permutation, ascending-append, Has, all_has, mapped_has, ShowsNone, first_columns, ShowsSome, last_value, is_integer_below, AreRead, AreTaken, EndApart, EndsUpTo, AscendByNumber}
+use Rattle.store_open.proofs.Rowids.{below_apart, AreApart}
 
 -- ---- integers that rise
 
@@ -12,9 +12,6 @@ low_still l m n low above = grind (arith, ints)
 
 not_below_itself : (n : ℤ) → is_lt (int_cmp n n) ≡ false
 not_below_itself n = grind (arith, ints)
-
-abbrev AreApart : Row → Row → Type 0
-AreApart a b = is_eq (value_cmp (last_value a) (last_value b)) ≡ false
 
 apart_from : (last : Option ℤ) (n : ℤ) (b : Row) → last_value b ≡ Int n → IfSome last (λ l. is_lt (int_cmp l n) ≡ true) → (a : Row) → EndsUpTo last a → AreApart a b
 apart_from None n b is above a ends = absurd ends

@@ -1,5 +1,5 @@
 -- The query of all entries in the order of their key.
-use Rattle.store_open.proofs.Vocabulary.{◌≡◌, ℕ, ◌+◌, ◌<◌, ◌^◌, true, List, [], ◌∷◌, map, filter, length, codes, drop, get_or, Equal, refl, sym, ap, ap₂, subst, ◌∙◌, arith, is_lt, Ordering, IsPermutation, IsSorted, ordering_then, get_or-map, length-map, All-from_recursion, IsPermutation-map, Database, Reads, Null, Row, column, value_cmp, then-Equal, value_cmp-Text, all_of, all-permutation, filter_all, map-map, Term, Command, Select, EntryRow, SELECT_ENTRIES_BY_KEY, Claim, OfHolder, entry_cells, named_cells, first_columns, columns, contents, entry, shown_at, shown_columns, entry_row_cmp, of_holder_cmp, from_table, no_limit, permuted, picks, sorted, Means, upwards, AnswersSelect, MakeOfTable, MakeNoneOfTable, EntriesRead, MakeNoneOfRows, MakeOfRows, ShowEntries, shown_entries, entry_places}
+use Rattle.store_open.proofs.Vocabulary.{◌≡◌, ℕ, ◌+◌, ◌<◌, ◌^◌, true, List, [], ◌∷◌, map, filter, length, codes, drop, get_or, Equal, refl, sym, ap, ap₂, subst, ◌∙◌, arith, is_lt, Ordering, IsPermutation, IsSorted, ordering_then, get_or-map, length-map, All-from_recursion, IsPermutation-map, Database, Reads, Null, Row, column, value_cmp, then-Equal, value_cmp-Text, all_of, all-permutation, filter_all, map-map, Term, Command, Select, EntryRow, SELECT_ENTRIES_BY_KEY, Claim, OfHolder, first_columns, columns, contents, entry, shown_at, shown_columns, entry_row_cmp, of_holder_cmp, from_table, no_limit, permuted, picks, sorted, Means, upwards, AnswersSelect, MakeOfTable, MakeNoneOfTable, EntriesRead, MakeNoneOfRows, MakeOfRows, ShowEntries, shown_entries, entry_places, show_entry}
 use Rattle.sqlite.specs.Listing.{understood}
 use Rattle.sqlite_value.specs.declared.keys.Key.{Key}
 use Rattle.sqlite_tied.specs.Compute.{everything}
@@ -17,9 +17,6 @@ unfolding understood everything
 entries_by_key_is = record { is = λ s. refl; plain = λ s. (refl, refl); unlisted = λ s. refl }
 
 -- ---- the order of the rows is that of the entries
-
-abbrev show_entry : OfHolder EntryRow → Row
-show_entry = named_cells entry_cells
 
 abbrev by_key : Row → Row → Ordering
 by_key x y = ordering_then (value_cmp (column x 6) (column y 6)) (by_entry x y)

@@ -14,7 +14,7 @@ found_named = holder_entry_found claim_entry entry_if entry_found
 pub only_named : (c : OfHolder Claim) (r : OfHolder EntryRow) (e : RoaPrefix) → named_entry_if c r ≡ Some e → r ≡ named_row c e
 only_named = only_found_of_holder claim_entry entry_if only_found
 
-no_row : (rows : List (OfHolder EntryRow)) → (length rows == 0) ≡ true → rows ≡ []
+pub no_row : {X : Type 0} (rows : List X) → (length rows == 0) ≡ true → rows ≡ []
 no_row [] is = refl
 no_row (r ∷ rows) is = let none = eqb-true (length (r ∷ rows)) 0 is in absurd (omega (arith, none))
 

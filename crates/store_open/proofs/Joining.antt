@@ -1,5 +1,5 @@
 -- The walk along claims while the rows of entries come one at a time.
-use Rattle.store_open.proofs.Vocabulary.{◌≡◌, ◌≤◌, ◌<◌, ◌+◌, ℕ, Bool, true, false, MatchBool, List, [], ◌∷◌, ◌++◌, Some, None, map, drop, length, get_or, refl, sym, ap, ap₂, subst, ◌∙◌, arith, map-append, drop_of_length-le, Row, AreEntries, RoaPrefix, Claim, EntryRow, Group, OfHolder, entry_cells, named_cells, EntryRowFits, NamedFits, ShowsNone, first_columns, AllApart, AreGroups, first_entries, with_entry, Walked, after_all, first_of, rows_left, unfit_entries, walked_all, walked_more, walked_none, AreOfFirst, EachShowsEntry, JoinsRows, MakeNoneOfRows, MakeOfRows, NeverMake, ShowEntries, WalkStands, WalkGoesOn, first_claim_entry, MakeAuths}
+use Rattle.store_open.proofs.Vocabulary.{◌≡◌, ◌≤◌, ◌<◌, ◌+◌, ℕ, Bool, true, false, MatchBool, List, [], ◌∷◌, ◌++◌, Some, None, map, drop, length, get_or, refl, sym, ap, ap₂, subst, ◌∙◌, arith, map-append, drop_of_length-le, Row, AreEntries, RoaPrefix, Claim, EntryRow, Group, OfHolder, EntryRowFits, NamedFits, ShowsNone, first_columns, AllApart, AreGroups, first_entries, with_entry, Walked, after_all, first_of, rows_left, unfit_entries, walked_all, walked_more, walked_none, AreOfFirst, EachShowsEntry, JoinsRows, MakeNoneOfRows, MakeOfRows, NeverMake, ShowEntries, WalkStands, WalkGoesOn, first_claim_entry, MakeAuths, show_entry}
 use Rattle.store_tables.proofs.Vocabulary.{append-nil, append_assoc, drop_more}
 use Rattle.store_open.proofs.Collecting.{all_and_one}
 use Rattle.store_open.proofs.SomeAuths.{one_named_entry}
@@ -168,9 +168,6 @@ pub walk_goes_on : (claims : Claims) (entries : Entries) (passed : ℕ) (found n
 walk_goes_on claims entries passed found now same stands = record { so_far = λ is. subst (WalkStands claims entries (drop passed claims)) (sym same) stands; never = λ is. absurd cc }
 
 -- ---- the entries that rows show
-
-abbrev show_entry : OfHolder EntryRow → Row
-show_entry = named_cells entry_cells
 
 abbrev EntryFits : OfHolder EntryRow → Type 0
 EntryFits = NamedFits EntryRowFits

@@ -1,4 +1,5 @@
 pub mod SameCharter
+mod InTurn
 mod Rowids
 mod Collecting
 mod Keys

@@ -1,5 +1,5 @@
 -- From what the queries of all rows show to what the tables hold.
-use Rattle.store_open.proofs.Vocabulary.{◌≡◌, ℕ, ◌+◌, ◌<◌, true, false, List, [], ◌∷◌, ◌++◌, map, filter, drop, length, codes, slice_get, Some, None, refl, inl, inr, sym, ap, subst, ◌∙◌, is_eq, arith, IsPermutation, ⊤, AllByRecursion, both_ways, length-map, Contains-permutation, IsPermutation-sym, Database, Value, Text, Row, column, value_cmp, rowid, IsAscending, is_int, all_weaker, all_both, all-map, all-permutation, all_from_map, ascending-filter, filter-map, Has, all_has, contains_had, has_filtered, mapped_has, IsSound, Span, CharterSets, IsCharter, Auth, Granted, GrantFits, schema_row, operator_row, prefix_cells, span_cells, grant_cells, holder_row, holding_row, granted_row, first_columns, desk_tables, holder_reference, required_column, meta, operator, pool, holder, holding, granted, slurm, claim, entry, contents, columns, IsTree, AreTrees, names, name_of-true, name_of_itself, all_columns, first_of_all, OfHolder, ShowsSome, ShowsHolder, ShowsOfHolder, HoldSomeRows, TablesRead, HasSomeAuths, row_of_claim, shown_in, ShowsNumber, ShowsCharter, ShowExceptions, ShowHolders, ShowAuths, all_whole, all_referred, once, equal_texts, at_claim, column_after}
+use Rattle.store_open.proofs.Vocabulary.{◌≡◌, ℕ, ◌+◌, ◌<◌, true, false, List, [], ◌∷◌, ◌++◌, map, filter, drop, length, codes, slice_get, Some, None, refl, inl, inr, sym, ap, subst, ◌∙◌, is_eq, arith, IsPermutation, ⊤, AllByRecursion, both_ways, length-map, Contains-permutation, IsPermutation-sym, Database, Value, Text, Row, column, value_cmp, rowid, IsAscending, is_int, all_weaker, all_both, all-map, all-permutation, all_from_map, ascending-filter, filter-map, Has, all_has, contains_had, has_filtered, mapped_has, IsSound, Span, CharterSets, IsCharter, Auth, Granted, GrantFits, schema_row, operator_row, prefix_cells, span_cells, grant_cells, holder_row, holding_row, granted_row, first_columns, desk_tables, holder_reference, required_column, meta, operator, pool, holder, holding, granted, slurm, claim, entry, contents, columns, IsTree, AreTrees, names, name_of-true, name_of_itself, all_columns, first_of_all, OfHolder, ShowsSome, ShowsHolder, ShowsOfHolder, HoldSomeRows, TablesRead, HasSomeAuths, row_of_claim, shown_in, ShowsNumber, ShowsCharter, ShowExceptions, ShowHolders, ShowAuths, all_whole, all_referred, once, equal_texts, at_claim, column_after, ReadAndHold, ShowsOthers}
 use Rattle.sqlite_value.specs.declared.keys.Collation.TheVariants.{Binary}
 use Rattle.sqlite_schema.specs.declared.schema.Column.{Column}
 use Rattle.sqlite_schema.specs.declared.schema.Kind.TheVariants.{Integer, Text as OfText}
@@ -7,7 +7,7 @@ use Rattle.sqlite_schema.specs.declared.schema.Table.{Table}
 use Rattle.sqlite_schema.specs.Rules.{equal}
 use Rattle.store_tables.proofs.Inserting.{each_table}
 use Rattle.store_open.proofs.SomeAuths.{auths_read}
-use Rattle.store_open.proofs.SomeRows.{IsPartRow, have_entries, holds_parts, rows_in}
+use Rattle.store_open.proofs.SomeRows.{IsPartRow, holds_parts}
 use Rattle.store_transactions.proofs.HeldRows.{files_few}
 
 module _ (db : Database) (tables : db.schema.tables ≡ desk_tables) (sound : IsSound db.schema db.trees) where
@@ -164,10 +164,7 @@ module _ (db : Database) (tables : db.schema.tables ≡ desk_tables) (sound : Is
                     shown.holdings.whole,
                     (
                       shown.grants.whole,
-                      (
-                        subst IsTree (sym authorized.unused) (tt, tt),
-                        (excepted.rows.whole, (authorized.claims_whole, (authorized.entries_whole, tt))),
-                      ),
+                      (subst IsTree (sym authorized.unused) (tt, tt), (excepted.rows.whole, (authorized.claims_whole, (authorized.entries_whole, tt)))),
                     ),
                   ),
                 ),
@@ -184,7 +181,7 @@ module _ (db : Database) (tables : db.schema.tables ≡ desk_tables) (sound : Is
       pool_only : IsPermutation (map prefix_cells charter.pool) (contents (db.trees pool.tree))
       pool_only = subst (IsPermutation _) (all_shown pool 2 (required_column (codes "len") Integer) (inr (inr (inl refl))) refl refl refl refl) chartered.pool.shown
 
-      pub tables_read : IsCharter charter → TablesRead db.trees
+      tables_read : IsCharter charter → TablesRead db.trees
       tables_read sets = record {
         schema = Contains-permutation (schema_row ∷ []) (contents (db.trees meta.tree)) schema_row schema_only (contains_had (schema_row ∷ []) schema_row (inl refl));
         charter = record {
@@ -205,16 +202,11 @@ module _ (db : Database) (tables : db.schema.tables ≡ desk_tables) (sound : Is
         exceptions_number = files_few excepted.files.0 (contents (db.trees slurm.tree)) excepted.files.1 excepted.files.2;
       }
 
-      pub some_rows : HoldSomeRows charter db.trees
+      some_rows : HoldSomeRows charter db.trees
       some_rows =
           let auths = have_auths authorized in
-          let parts = holds_parts holders made one_counter (contents (db.trees holding.tree)) (contents (db.trees granted.tree)) (contents (db.trees claim.tree)) (contents (db.trees entry.tree)) held given auths.auths (registered authorized) auths.claims_shown auths.entries_shown in
-          let files = excepted.files in
-          let of_holder = rows_in holders made one_counter (contents (db.trees holding.tree)) (contents (db.trees granted.tree)) (contents (db.trees claim.tree)) (contents (db.trees entry.tree)) held given auths.auths (registered authorized) auths.claims_shown auths.entries_shown in (
-            record {
-              of_holder = of_holder;
-              files = files.0;
-            },
+          let parts = holds_parts holders made one_counter (contents (db.trees holding.tree)) (contents (db.trees granted.tree)) (contents (db.trees claim.tree)) (contents (db.trees entry.tree)) held given auths.auths (registered authorized) auths.claims_shown auths.entries_shown in (
+            record { of_holder = parts.rows; files = excepted.files.0 },
             record {
               charter_kept = record {
                 schema = schema_only;
@@ -226,10 +218,14 @@ module _ (db : Database) (tables : db.schema.tables ≡ desk_tables) (sound : Is
               grants = parts.grants_held;
               claims = parts.claims_held;
               entries = parts.entries_held;
-              have_entries = have_entries holders made one_counter (contents (db.trees holding.tree)) (contents (db.trees granted.tree)) (contents (db.trees claim.tree)) (contents (db.trees entry.tree)) held given auths.auths (registered authorized) auths.claims_shown auths.entries_shown (all_weaker _ _ (λ x fits. fits.1.entries) auths.auths auths.fit);
+              have_entries = parts.entries_had (all_weaker _ _ (λ x fits. fits.1.entries) auths.auths auths.fit);
               unused = auths.unused;
-              files = files.1;
+              files = excepted.files.1;
               whole = trees_whole;
             },
-            files.2,
+            excepted.files.2,
           )
+
+  pub read_and_hold : (charter : CharterSets) → ShowsOthers charter db → ShowAuths db → ReadAndHold charter db
+  read_and_hold charter others authorized =
+      (some_rows others.holders authorized charter others.numbered others.chartered others.excepted, tables_read others.holders authorized charter others.numbered others.chartered others.excepted others.valid)

@@ -1,5 +1,5 @@
 -- Rows that end in their rowids, and the trees that they are of.
-use Rattle.store_open.proofs.Vocabulary.{◌≡◌, ℕ, suc, ◌+◌, ◌-◌, true, false, List, [], ◌∷◌, ◌++◌, map, drop, length, get_or, All, Result, Ok, Err, IfOk, OnOk, refl, sym, ap, subst, ◌∙◌, is_eq, is_lt, int_cmp, Ordering, Less, Equal, Greater, arith, IsPermutation, AllAdjacentBelow, AllByRecursion, ints, Any, Vec, length-append, length-map, IsPermutation-map, IsPermutation-sym, Value, Null, Int, Row, column, value_cmp, value_cmp-Int, rowid, IsAscending, is_int, map-map, all_weaker, all_from_map, all-permutation, ascending_from_map, ascending_weaker, all_has, any_has, ShowsNone, first_columns, columns, contents, IsTree, StoreFault, ShowsSome, ascending_moved, last_value, is_integer_below, AscendByNumber, columns_and_rowid, AreRead}
+use Rattle.store_open.proofs.Vocabulary.{◌≡◌, ℕ, suc, ◌+◌, ◌-◌, true, false, List, [], ◌∷◌, ◌++◌, map, drop, length, get_or, All, Result, Ok, Err, IfOk, refl, sym, ap, subst, ◌∙◌, is_eq, is_lt, int_cmp, Ordering, Less, Equal, Greater, arith, IsPermutation, AllAdjacentBelow, AllByRecursion, ints, Any, Vec, length-append, length-map, IsPermutation-map, IsPermutation-sym, Value, Null, Int, Row, column, value_cmp, value_cmp-Int, rowid, IsAscending, is_int, map-map, all_weaker, all_from_map, all-permutation, ascending_from_map, ascending_weaker, all_has, any_has, ShowsNone, first_columns, columns, contents, IsTree, StoreFault, ShowsSome, ascending_moved, last_value, is_integer_below, AscendByNumber, columns_and_rowid, AreRead}
 use Rattle.std.proofs.lemmas.List.FromFn.{fill_by_all}
 use lib.ListN.{get_or-append}
 use lib.Seq.{get_or-append_seam}
@@ -37,7 +37,7 @@ rows_rise rows next ints = (ascending_weaker AreBelow _ (λ a b. below_apart (la
 
 -- ---- rows in another order
 
-abbrev AreApart : Row → Row → Type 0
+abbrev pub AreApart : Row → Row → Type 0
 AreApart a b = is_eq (value_cmp (last_value a) (last_value b)) ≡ false
 
 stay_apart : (xs ys : List Row) → IsPermutation xs ys → IsAscending AreApart xs → IsAscending AreApart ys
@@ -86,7 +86,3 @@ module _ {X : Type 0} (cells : X → Row) (fits : X → Type 0) (shown found : L
       let it = any_has (ShowsNone cells fits) found none in
       let shows = all_has (ShowsSome cells fits) found it.0 (all-permutation (ShowsSome cells fits) shown found same all) it.1 in
       it.2 shows.0 shows.1 (sym shows.2)
-
-pub ok_with : {Y F : Type 0} (P : Type 0) (s : Result Y F) → P → OnOk s P
-ok_with P (Ok y) holds = holds
-ok_with P (Err f) holds = tt

@@ -45,11 +45,11 @@ module _ {X : Type 0} (cmp : X → X → Ordering) (order : IsOrder cmp) (same :
 -- ---- charters
 
 -- lists of values whose rows are those of one table
-same_members : {X : Type 0} (cells : X → Row) → ((x y : X) → cells x ≡ cells y → x ≡ y) → (xs ys : List X) (rows : List Row)
+pub same_members : {X : Type 0} (cells : X → Row) → ((x y : X) → cells x ≡ cells y → x ≡ y) → (xs ys : List X) (rows : List Row)
     → IsPermutation (map cells xs) rows → IsPermutation (map cells ys) rows → IsPermutation xs ys
 same_members cells once xs ys rows first second = values_shown cells once xs ys (map cells ys) (IsPermutation-trans _ _ _ first (IsPermutation-sym _ _ second)) refl
 
-one_operator : (m n : List ℕ) → operator_row m ≡ operator_row n → m ≡ n
+pub one_operator : (m n : List ℕ) → operator_row m ≡ operator_row n → m ≡ n
 one_operator m n is = cc
 
 name_itself : (name : List ℕ) → pointwise nat_eq name name ≡ true

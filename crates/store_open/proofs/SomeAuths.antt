@@ -1,5 +1,5 @@
 -- The authorizations that the rows of claims and of entries make, and that tables that read show them.
-use Rattle.store_open.proofs.Vocabulary.{codes, ◌≡◌, ◌≢◌, ℕ, true, false, List, [], ◌∷◌, ◌++◌, map, flat_map, length, take, drop, refl, sym, ap, subst, ◌∙◌, arith, is_eq, nat_cmp, Ordering, Less, Equal, Greater, IsPermutation, IsSorted, IsTrue, Result, OnOk, slice_cmp, AllByRecursion, ordering_then, and_parts, and_from, false_from_ne_true, le-leb, recursion_from_All, IsPermutation-sym, IsPermutation-trans, IsPermutation-map, on_ok_weaker, Database, Text, Row, column, IsAscending, all_weaker, all_both, all-map, all-flat_map, all_from_map, all-permutation, ascending-map, ascending_from_map, ascending_weaker, map-map, map-flat_map, flat_map_same_on, Integer, IsSound, FitsMaxLength, fits_max_length, is_name, AuthFits, AreEntries, Auth, RoaPrefix, Claim, EntryRow, Group, OfHolder, claim_of, entry_rows_of, claim_cells, claim_row, entry_cells, entry_row, named_cells, ClaimFits, EntryRowFits, NamedFits, AllApart, claim_entry, group_rows, desk_tables, auth, claim, entry, required_column, contents, columns, IsTree, one_claim, one_entry_row, values_shown, claim_cmp, claim_orders, entry_row_cmp, groups_in_order, holder_orders, of_holder_cmp, rising_apart, AreOrders, HaveInOrder, all_columns, ShowsSome, HasSomeAuths, row_of_claim, rows_of_entries, shown_in, AreRead, MakeAuths, ShowAuths, claim_places, entry_places, named_claim, named_entries, all_claims_differ, at_claim, at_entry, ascending_moved, all_whole}
+use Rattle.store_open.proofs.Vocabulary.{codes, ◌≡◌, ◌≢◌, ℕ, true, false, List, [], ◌∷◌, ◌++◌, map, flat_map, length, take, drop, refl, sym, ap, subst, ◌∙◌, arith, is_eq, nat_cmp, Ordering, Less, Equal, Greater, IsPermutation, IsSorted, IsTrue, Result, OnOk, slice_cmp, AllByRecursion, ordering_then, and_parts, and_from, false_from_ne_true, le-leb, recursion_from_All, IsPermutation-sym, IsPermutation-trans, IsPermutation-map, on_ok_weaker, Database, Text, Row, column, IsAscending, all_weaker, all_both, all-map, all-flat_map, all_from_map, all-permutation, ascending-map, ascending_from_map, ascending_weaker, map-map, map-flat_map, flat_map_same_on, Integer, IsSound, FitsMaxLength, fits_max_length, is_name, AuthFits, AreEntries, Auth, RoaPrefix, Claim, EntryRow, Group, OfHolder, claim_of, entry_rows_of, claim_row, entry_row, ClaimFits, EntryRowFits, NamedFits, AllApart, claim_entry, group_rows, desk_tables, auth, claim, entry, required_column, contents, columns, IsTree, one_claim, one_entry_row, values_shown, claim_cmp, claim_orders, entry_row_cmp, groups_in_order, holder_orders, of_holder_cmp, rising_apart, AreOrders, HaveInOrder, all_columns, ShowsSome, HasSomeAuths, row_of_claim, rows_of_entries, shown_in, AreRead, MakeAuths, ShowAuths, claim_places, entry_places, named_claim, named_entries, all_claims_differ, at_claim, at_entry, ascending_moved, all_whole, show_claim, show_entry}
 use Rattle.std.proofs.lemmas.Bool.Decides.{nat_tests}
 use Rattle.std.proofs.lemmas.Map.Text.{is_eq-slice_cmp}
 use Rattle.registry.specs.Verdict.{fit_lengths}
@@ -57,12 +57,6 @@ rows_fit x fits =
     (all_weaker _ _ (λ e range. record { number = fits.number; asn = fits.asn; max = range }) x.entries (lengths_in_range x.entries fits.lengths))
 
 -- ---- what tables that read show
-
-abbrev show_claim : OfHolder Claim → Row
-show_claim = named_cells claim_cells
-
-abbrev show_entry : OfHolder EntryRow → Row
-show_entry = named_cells entry_cells
 
 -- the rows of the entries of an authorization, and what the query of entries shows of them
 entries_of_shown : (x : OfHolder Auth) → map (columns entry_places) (rows_of_entries x) ≡ map show_entry (named_entries x)
@@ -155,15 +149,19 @@ module _ (db : Database) (sound : IsSound db.schema db.trees) (tables : db.schem
       (all-map _ group_of read.auths (all_weaker _ _ (λ x fits. fits.1.entries) read.auths read.fit)) same_claims claims_sorted same_entries entries_sorted
 
   -- no row is that of an entry of two claims
-  pub claims_apart : AllApart named_row claims
+  claims_apart : AllApart named_row claims
   claims_apart =
       let have = in_order in
       let less : OfHolder Claim → OfHolder Claim → Type 0 = λ c d. of_holder_cmp claim_cmp c d ≡ Less in
       rising_apart named_row (of_holder_cmp claim_cmp) (of_holder_cmp entry_row_cmp) orders claims
       (subst (IsAscending less) have.are.same_claims (ascending-map less (λ (g : Group (OfHolder Claim)). g.claim) have.groups have.rise))
 
-  pub auths_made : MakeAuths claims entries
+  auths_made : MakeAuths claims entries
   auths_made = let have = in_order in makes claims entries have.groups have.are
+
+  -- so they are not such that, if apart, they make no authorizations
+  pub not_unmade : ¬ (AllApart named_row claims → ¬ MakeAuths claims entries)
+  not_unmade unmade = unmade claims_apart auths_made
 
 -- ---- the rows of what was read
 

@@ -128,7 +128,7 @@ module _ (holders : List Row) (made : AllByRecursion (λ c. (h : List ℕ) × (n
     rows_with h (n ∷ more) = Some (record { holdings = (spans h).0; grants = (given h).0; auths = auths_of h auths; granted = n.0; created = n.1 })
 
     -- the rows of a holder, from those of the tables that have its name
-    abbrev pub rows_in : List ℕ → Option Rows
+    abbrev rows_in : List ℕ → Option Rows
     rows_in h = rows_with h (counters h).0
 
     holds_holders : HoldsPart holder_part rows_in holders
@@ -194,25 +194,30 @@ module _ (holders : List Row) (made : AllByRecursion (λ c. (h : List ℕ) × (n
         (all_of _ (λ x. all-map (λ c. is_text (column c 0) ≡ true) (entry_row x.holder) (entry_rows_of x.row) (all_of _ (λ r. refl) (entry_rows_of x.row))) auths))
 
     -- where all authorizations have entries, those of each holder have them
-    pub have_entries : AllByRecursion (λ (x : OfHolder Auth). AreEntries x.row.entries) auths → HaveEntries rows_in
+    have_entries : AllByRecursion (λ (x : OfHolder Auth). AreEntries x.row.entries) auths → HaveEntries rows_in
     have_entries each h r of = subst EachHasEntries (ap auths_if_any of) (go (counters h).0)
       where
         go : (xs : List (ℕ × ℕ)) → EachHasEntries (auths_if_any (rows_with h xs))
         go [] = tt
         go (n ∷ more) = all-map (λ (x : Auth). AreEntries x.entries) (λ (x : OfHolder Auth). x.row) (filter (is_of h) auths) (all-filter _ (is_of h) auths each)
 
+    -- the rows of every holder, of which each part is in its table
     pub record HoldsParts : Type 0 where
-      pub holders_held : HoldsPart holder_part rows_in holders
-      pub holdings_held : HoldsPart holding_part rows_in holdings
-      pub grants_held : HoldsPart granted_part rows_in grants
-      pub claims_held : HoldsPart claim_part rows_in claims
-      pub entries_held : HoldsPart entry_part rows_in entries
+      pub rows : List ℕ → Option Rows
+      pub holders_held : HoldsPart holder_part rows holders
+      pub holdings_held : HoldsPart holding_part rows holdings
+      pub grants_held : HoldsPart granted_part rows grants
+      pub claims_held : HoldsPart claim_part rows claims
+      pub entries_held : HoldsPart entry_part rows entries
+      pub entries_had : AllByRecursion (λ (x : OfHolder Auth). AreEntries x.row.entries) auths → HaveEntries rows
 
     pub holds_parts : HoldsParts
     holds_parts = record {
+      rows = rows_in;
       holders_held = holds_holders;
       holdings_held = holds_part holding_part holdings (all_named 3 holding_row (λ h s. refl) holdings held) (of_nobody 3 holding_row (λ h s. refl) holdings held) (λ h n more. IsPermutation-same _ _ (spans h).1);
       grants_held = holds_part granted_part grants (all_named 0 granted_row (λ h g. refl) grants granted) (of_nobody 0 granted_row (λ h g. refl) grants granted) (λ h n more. IsPermutation-same _ _ (given h).1);
       claims_held = holds_part claim_part claims claims_named no_claims (λ h n more. claims_in_table h);
       entries_held = holds_part entry_part entries entries_texts no_entries (λ h n more. entries_in_table h);
+      entries_had = have_entries;
     }

@@ -1,7 +1,8 @@
 -- Tables that read show values of the types that each query asks for.
-use Rattle.store_open.proofs.Vocabulary.{◌≡◌, inl, inr, ℕ, Bool, true, false, ◌||◌, List, [], ◌∷◌, map, drop, length, Result, Ok, Err, IfOk, OnErr, nat_eq, refl, sym, ap, subst, ◌∙◌, arith, IsPermutation, IsTrue, ⊤, Any, pointwise, AllByRecursion, both_ways, nat_list_eq_equiv, length-map, recursion_from_All, IsPermutation-sym, IsPermutation-trans, IsPermutation-map, length_permutation, Database, Text, Row, map-map, all_of, all_weaker, all-map, all-permutation, Has, has_contained, contains_had, any_has, mapped_has, has_mapped, prefix_eq, is_name, AreAllowedCounts, CharterSets, has_repeat, IsCount, GrantFits, schema_row, operator_row, prefix_cells, span_cells, grant_cells, holder_row, holding_row, granted_row, exception_row, ExceptionRowFits, meta, operator, pool, holder, holding, granted, slurm, contents, columns, one_prefix, values_shown, StoreFault, Schema, ShowsSome, ShowsHolder, ShowsOfHolder, TablesRead, columns_and_rowid, shown_in, AreRead, old_schema_row, HasNumber, number_row, ShowsRows, ShowsCharter, grant_shown, exception_places}
+use Rattle.store_open.proofs.Vocabulary.{◌≡◌, inl, inr, ℕ, Bool, true, false, ◌||◌, List, [], ◌∷◌, map, drop, length, Result, Ok, Err, IfOk, nat_eq, refl, sym, ap, subst, ◌∙◌, arith, IsPermutation, IsTrue, ⊤, Any, pointwise, AllByRecursion, both_ways, nat_list_eq_equiv, length-map, recursion_from_All, IsPermutation-sym, IsPermutation-trans, IsPermutation-map, length_permutation, Database, Text, Row, map-map, all_of, all_weaker, all-map, all-permutation, Has, has_contained, contains_had, any_has, mapped_has, has_mapped, prefix_eq, is_name, AreAllowedCounts, CharterSets, has_repeat, IsCount, GrantFits, schema_row, operator_row, prefix_cells, span_cells, grant_cells, holder_row, holding_row, granted_row, exception_row, ExceptionRowFits, meta, operator, pool, holder, holding, granted, slurm, contents, columns, one_prefix, StoreFault, ShowsSome, ShowsHolder, ShowsOfHolder, TablesRead, columns_and_rowid, shown_in, AreRead, old_schema_row, HasNumber, number_row, ShowsCharter, grant_shown, exception_places, HasTree}
 use Rattle.addr.specs.declared.prefix.Prefix.{Prefix}
 use Rattle.registry.proofs.Repeats.{has_repeat-moved, prefix_eq-flips}
+use Rattle.store_open.proofs.SameCharter.{one_operator, same_members}
 use Rattle.store_tables.specs.declared.holder.Registered.{Registered}
 
 -- ---- what was read
@@ -109,36 +110,27 @@ module _ (db : Database) (read : TablesRead db.trees) where
 
 -- ---- charters
 
-pub charter_shown :
-    (r : Result CharterSets StoreFault) (names : List (List ℕ)) (prefixes : List Prefix) (db : Database)
-    → AllByRecursion (λ name. IsTrue (is_name name)) names → ShowsRows operator.tree (0 ∷ []) (map operator_row names) db → ShowsRows pool.tree (0 ∷ 1 ∷ 2 ∷ []) (map prefix_cells prefixes) db
-    → IfOk r (λ charter. IsPermutation names charter.operators) → IfOk r (λ charter. IsPermutation prefixes charter.pool) → IfOk r (λ charter. ShowsCharter charter db)
-charter_shown (Ok charter) names prefixes db named one other operators prefixed = record {
-  named = all-permutation _ names charter.operators operators named;
-  operators = record { whole = one.whole; shown = IsPermutation-trans _ _ _ (IsPermutation-map operator_row _ _ (IsPermutation-sym _ _ operators)) one.shown };
-  pool = record { whole = other.whole; shown = IsPermutation-trans _ _ _ (IsPermutation-map prefix_cells _ _ (IsPermutation-sym _ _ prefixed)) other.shown };
-}
-charter_shown (Err e) names prefixes db named one other operators prefixed = tt
+-- the tables of operators and of the pool read as these
+module _ (db : Database) (names : List (List ℕ)) (prefixes : List Prefix)
+    (named : AreRead operator_row (λ name. IsTrue (is_name name)) (shown_in operator.tree (0 ∷ []) db) names) (pooled : AreRead prefix_cells (λ _. ⊤) (shown_in pool.tree (0 ∷ 1 ∷ 2 ∷ []) db) prefixes) where
+  pub charter_shown : (r : Result CharterSets StoreFault) → HasTree operator.tree db → HasTree pool.tree db
+      → IfOk r (λ charter. IsPermutation names charter.operators) → IfOk r (λ charter. IsPermutation prefixes charter.pool) → IfOk r (λ charter. ShowsCharter charter db)
+  charter_shown (Ok charter) one other operators prefixed = record {
+    named = all-permutation _ names charter.operators operators (recursion_from_All _ _ named.fit);
+    operators = record { whole = one; shown = IsPermutation-sym _ _ (IsPermutation-trans _ _ _ named.same (IsPermutation-map operator_row _ _ operators)) };
+    pool = record { whole = other; shown = IsPermutation-sym _ _ (IsPermutation-trans _ _ _ pooled.same (IsPermutation-map prefix_cells _ _ prefixed)) };
+  }
+  charter_shown (Err e) one other operators prefixed = tt
 
-one_operator : (m n : List ℕ) → operator_row m ≡ operator_row n → m ≡ n
-one_operator m n is = cc
-
--- what is no charter is not read from tables that read
-pub some_charter :
-    (db : Database) → TablesRead db.trees → (names : List (List ℕ)) (prefixes : List Prefix)
-    → IsPermutation (map operator_row names) (shown_in operator.tree (0 ∷ []) db) → IsPermutation (map prefix_cells prefixes) (shown_in pool.tree (0 ∷ 1 ∷ 2 ∷ []) db)
-    → ¬ (AreAllowedCounts names prefixes → (has_repeat (pointwise nat_eq) names || has_repeat prefix_eq prefixes) ≡ true)
-some_charter db read names prefixes named pooled refused =
-    let kept = read.charter in
-    let operators = values_shown operator_row one_operator kept.operators names (map operator_row names) (IsPermutation-trans _ _ _ (operators_read db read) (IsPermutation-sym _ _ named)) refl in
-    let pool = values_shown prefix_cells one_prefix kept.prefixes prefixes (map prefix_cells prefixes) (IsPermutation-trans _ _ _ (pool_read db read) (IsPermutation-sym _ _ pooled)) refl in
-    let many = length_permutation _ _ operators in
-    let wide = length_permutation _ _ pool in
-    let number : AreAllowedCounts names prefixes =
-    rw (many, wide) kept.number in
-    let once = has_repeat-moved (pointwise nat_eq) nat_list_eq_equiv.symm kept.operators names operators kept.operators_once in
-    let apart = has_repeat-moved prefix_eq prefix_eq-flips kept.prefixes prefixes pool kept.prefixes_once in
-    both_ways _ (λ i. once i || apart i) (refused number)
-
-pub err_fact : {Y : Type 0} (P : Type 0) (r : Result Y StoreFault) → r ≡ Err Schema → OnErr r P → P
-err_fact P r is holds = subst (λ s. OnErr s P) is holds
+  -- what is no charter is not read from tables that read
+  pub some_charter : TablesRead db.trees → ¬ (AreAllowedCounts names prefixes → (has_repeat (pointwise nat_eq) names || has_repeat prefix_eq prefixes) ≡ true)
+  some_charter read refused =
+      let kept = read.charter in
+      let operators = same_members operator_row one_operator kept.operators names _ (operators_read db read) (IsPermutation-sym _ _ named.same) in
+      let pool = same_members prefix_cells one_prefix kept.prefixes prefixes _ (pool_read db read) (IsPermutation-sym _ _ pooled.same) in
+      let many = length_permutation _ _ operators in
+      let wide = length_permutation _ _ pool in
+      let number : AreAllowedCounts names prefixes = rw (many, wide) kept.number in
+      let once = has_repeat-moved (pointwise nat_eq) nat_list_eq_equiv.symm kept.operators names operators kept.operators_once in
+      let apart = has_repeat-moved prefix_eq prefix_eq-flips kept.prefixes prefixes pool kept.prefixes_once in
+      both_ways _ (λ i. once i || apart i) (refused number)

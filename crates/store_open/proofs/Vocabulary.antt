@@ -1,5 +1,5 @@
 -- The names of the logic, of other crates and of the definitions that the proofs use, in one place.
-pub use Rattle.std.proofs.Common.{All, Bool, Equal, Err, Greater, IfOk, IfSome, IsPermutation, IsSorted, IsTrue, Less, List, MatchBool, None, Ok, OnErr, OnOk, Option, Ordering, Result, SFits, Some, [], add-one, ap, ap₂, arith, codes, cond, drop, false, filter, flat_map, get_or, inl, inr, int_cmp, is_eq, is_lt, length, map, nat_cmp, nat_eq, nat_le, not, refl, rules, set, slice_get, subst, suc, sym, take, true, w64, zero, ℕ, ℤ, ◌++◌, ◌+◌, ◌-◌, ◌<◌, ◌==◌, ◌^◌, ◌||◌, ◌∙◌, ◌∷◌, ◌≡◌, ◌≢◌, ◌≤◌}
+pub use Rattle.std.proofs.Common.{All, Bool, Equal, Err, IsErr, Greater, IfOk, IfSome, IsPermutation, IsSorted, IsTrue, Less, List, MatchBool, None, Ok, OnOk, Option, Ordering, Result, SFits, Some, [], add-one, ap, ap₂, arith, codes, cond, drop, false, filter, flat_map, get_or, inl, inr, int_cmp, is_eq, is_lt, length, map, nat_cmp, nat_eq, nat_le, not, refl, rules, set, slice_get, subst, suc, sym, take, true, w64, zero, ℕ, ℤ, ◌++◌, ◌+◌, ◌-◌, ◌<◌, ◌==◌, ◌^◌, ◌||◌, ◌∙◌, ◌∷◌, ◌≡◌, ◌≢◌, ◌≤◌}
 pub use Rattle.std.proofs.Math.ListN.{drop_of_length-le}
 pub use Rattle.std.proofs.lemmas.Bool.{and_from, and_parts, both_ways, eq-eqb, eqb-true, false_from_ne_true, false≢true, le-leb, leb-false, leb-true, not-false, not-true}
 pub use Rattle.std.proofs.lemmas.Cmp.{nat_cmp_total, nat_list_cmp_total, nat_list_eq_equiv, on_total, then_total}
@@ -20,6 +20,8 @@ pub use Rattle.sqlite.specs.Effect.{Database, Reads}
 pub use Rattle.sqlite.specs.Held.{Held, state}
 pub use Rattle.sqlite.specs.State.{HasCleanDisk, IsNotRun, KeepsCommit, Shows, State, Survives}
 pub use Rattle.sqlite.specs.Steps.{over_memory}
+pub use Rattle.sqlite.specs.Store.{Ghosts}
+pub use Rattle.sqlite.specs.declared.transaction.Transaction.{Transaction}
 pub use Rattle.sqlite_catalog.proofs.ReadLemmas.{lists_once}
 pub use Rattle.sqlite_catalog.specs.Listing.{IsSound}
 pub use Rattle.sqlite_rules.proofs.ListLemmas.{all_has, any_has, contains_had, has_contained, has_filtered, has_kept, has_left, has_right}
@@ -62,7 +64,7 @@ pub use Rattle.store_tables.proofs.ReadLemmas.{all_columns, first_of_all}
 pub use Rattle.store_tables.proofs.Selecting.{from_table, no_limit, permuted, picks, sorted}
 pub use Rattle.store_tables.proofs.Texts.{Means, upwards}
 pub use Rattle.store_tables.specs.Authorizations.{EachHasEntries, HaveEntries, claim_of, entry_rows_of}
-pub use Rattle.store_tables.specs.Cells.{claim_cells, claim_row, entry_cells, entry_row, exception_row, grant_cells, granted_row, holder_row, holding_row, named_cells, operator_row, prefix_cells, schema_row, span_cells}
+pub use Rattle.store_tables.specs.Cells.{claim_row, entry_cells, entry_row, exception_row, grant_cells, granted_row, holder_row, holding_row, named_cells, operator_row, prefix_cells, schema_row, span_cells}
 pub use Rattle.store_tables.specs.Decode.{ClaimFits, EntryRowFits, ExceptionRowFits, NamedFits, ShowsNone, exception_columns, first_columns}
 pub use Rattle.store_tables.specs.Groups.{AllApart, AreGroups, HasNoGroups, claim_entry, group_rows, holder_entry}
 pub use Rattle.store_tables.specs.Tables.{AreTrees, IsTree, OverDesk, auth, claim, columns, contents, desk_schema, desk_tables, entry, granted, holder, holder_reference, holding, meta, operator, pool, required_column, slurm}
@@ -79,8 +81,8 @@ pub use Rattle.store_transactions.proofs.Ascending.{ascending_moved}
 pub use Rattle.store_transactions.proofs.KeyedRows.{all_claims_differ, at_claim, at_entry}
 pub use Rattle.store_transactions.proofs.Obeyed.{all_referred, all_whole, equal_texts, once}
 pub use Rattle.store_transactions.proofs.QueryLemmas.{always, answered, asked_in_vain, asked_then, no_answer, not_run_after, refused_by, undone_as_before}
-pub use Rattle.store_transactions.proofs.StatementLemmas.{stays_then}
-pub use Rattle.store_transactions.specs.Files.{AreFewOfEach, ShowsExceptions}
+pub use Rattle.store_transactions.specs.Files.{AreFewOfEach}
+pub use Rattle.store_transactions.specs.Queries.{IsAskedInside, IsClean}
 pub use Rattle.store_transactions.specs.Statements.{state_in}
 pub use Rattle.store_transactions.specs.declared.fault.StoreFault.{StoreFault}
 pub use Rattle.store_transactions.specs.declared.fault.StoreFault.TheVariants.{Schema}
@@ -91,7 +93,8 @@ pub use Rattle.store_open.specs.TablesRead.{HasSomeAuths, HasSomeCharter, HoldSo
 pub use Rattle.store_open.specs.declared.join.Joined.{Joined}
 pub use Rattle.store_open.specs.declared.key.ClaimKey.{ClaimKey}
 pub use Rattle.store_open.specs.steps.Joining.{AreOfFirst, EachShowsEntry, EntriesRead, JoinsRows, MakeNoneOfRows, MakeNoneOfTable, MakeOfRows, MakeOfTable, NeverMake, ShowEntries, WalkGoesOn, WalkStands, first_claim_entry, shown_entries}
-pub use Rattle.store_open.specs.steps.Keys.{AreOfAll, AreOfSome, AreTakenClaims, ClaimsInOrder, ClaimsRead, Collects, ShowsKey, ShowsNoClaim, first_key_entry, key_cmp, key_of, show_claim}
+pub use Rattle.store_open.specs.steps.Keys.{AreOfAll, AreOfSome, AreTakenClaims, ClaimsInOrder, ClaimsRead, Collects, ShowsKey, ShowsNoClaim, first_key_entry, key_cmp, key_of}
 pub use Rattle.store_open.specs.steps.Moving.{MovesDesk}
 pub use Rattle.store_open.specs.steps.Numbered.{AreRead, AreTaken, AscendByNumber, EndApart, EndsUpTo, SelectsAll, columns_and_rowid, is_integer_below, last_value, shown_in}
-pub use Rattle.store_open.specs.steps.Opened.{HasNumber, MakeAuths, ShowAuths, ShowExceptions, ShowHolders, ShowsCharter, ShowsEach, ShowsNumber, ShowsRows, claim_places, entry_places, named_claim, named_entries, number_row}
+pub use Rattle.store_open.specs.steps.Reading.{HasTree}
+pub use Rattle.store_open.specs.steps.Opened.{HasNumber, MakeAuths, ReadAndHold, ShowAuths, ShowExceptions, ShowHolders, ShowsCharter, ShowsEach, ShowsNumber, ShowsOthers, show_claim, show_entry, claim_places, entry_places, named_claim, named_entries, number_row}

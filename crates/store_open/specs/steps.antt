@@ -2,6 +2,7 @@
 pub mod Moving
 pub mod Found
 pub mod Numbered
+pub mod Reading
 pub mod Opened
 pub mod Keys
 pub mod Joining

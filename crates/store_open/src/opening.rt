@@ -1,15 +1,15 @@
 //! Opening a database that has the tables of a desk, or those of schema 1.
 ghost use Rattle.std.specs.Prelude.{◌≡◌, false, None, Err, OnOk, IfOk, IsTrue};
 ghost use Rattle.sqlite.specs.Held.{state};
-ghost use Rattle.sqlite.specs.State.{HasCleanDisk};
 ghost use Rattle.store_schema.specs.Making.{IsOver};
-ghost use Rattle.store_transactions.specs.Statements.{state_in, IfAnswered, IfRolledBack, StaysInside, OnCleanDisk};
+ghost use Rattle.store_transactions.specs.Statements.{IfAnswered, IfRolledBack, StaysInside, OnCleanDisk};
 ghost use Rattle.store_schema.specs.Moving.{old_schema_if};
 ghost use Rattle.store_open.specs.Opening.{IsOfAnotherSchema, IsStrange, LeavesOldOrMoved, OpensDesk};
 ghost use Rattle.store_open.specs.OldTablesRead.{OldTablesRead};
 ghost use Rattle.store_transactions.specs.Queries.{IsClean};
 ghost use Rattle.store_open.specs.steps.Found.{HasFound};
 ghost use Rattle.store_open.specs.steps.Moving.{MovesDesk};
+ghost use Rattle.store_open.specs.steps.Reading.{Refuses};
 
 use crate::found::{Found, find_tables};
 use crate::reading::{read_inside, read_number, read_tables};
@@ -47,8 +47,8 @@ fn move_desk<S: Alter>(
     ensures moved { IfAnswered S.Store result
         (λ charter old. MovesDesk charter old.now.trees) tx.old tx.new }
     ensures inside { StaysInside S.Store tx.old tx.new }
-    ensures schema { HasCleanDisk (state_in S.Store tx.new) → result ≡ Err StoreFault.Schema
-        → ¬ OldTablesRead (state_in S.Store tx.old).now.trees }
+    ensures schema { Refuses S.Store tx.old.conn.now tx.new.conn.now result
+        (λ db. ¬ OldTablesRead db.trees) }
 {
     widen_tables(tx, has_index)?;
     read_number(tx, true)?;
@@ -73,8 +73,7 @@ fn open_old<S: Alter>(
     ensures err { IfRolledBack S.Store result conn.old conn.new }
     ensures crash { IsClean S.Store conn.new
         → LeavesOldOrMoved (state S.Store conn.old) (state S.Store conn.new) }
-    ensures unread { IsClean S.Store conn.new → result ≡ Err StoreFault.Schema
-        → ¬ OldTablesRead (state S.Store conn.old).now.trees }
+    ensures unread { Refuses S.Store conn.old conn.new result (λ db. ¬ OldTablesRead db.trees) }
 {
     // For the proof: its contract says that outside a transaction all that is shown is committed.
     let _idle = conn.is_autocommit();

@@ -3,7 +3,7 @@ ghost use Rattle.std.specs.Prelude.{◌≡◌, ◌≢◌, ◌↔◌, true, false
 ghost use Rattle.std.specs.declared.cmp.Ordering.{Ordering};
 ghost use Rattle.std.specs.Cmp.{IsTotalOrder};
 ghost use Rattle.std.specs.Cmp.Lexicographic.{pointwise};
-ghost use Rattle.std.specs.List.{AllByRecursion};
+ghost use Rattle.sqlite.specs.Effect.{Database};
 ghost use Rattle.sqlite.specs.Given.{IsPlain};
 ghost use Rattle.sqlite.specs.Held.{state};
 ghost use Rattle.sqlite.specs.Listing.{understood, reads_listing};
@@ -14,15 +14,16 @@ ghost use Rattle.registry.specs.CharterSets.{AreAllowedCounts};
 ghost use Rattle.registry.specs.Repeats.{has_repeat};
 ghost use Rattle.store_tables.specs.Decode.{ClaimFits, NamedFits, first_columns};
 ghost use Rattle.store_tables.specs.Groups.{AllApart, claim_entry, holder_entry};
-ghost use Rattle.store_tables.specs.Tables.{operator, pool, holder, holding, granted, auth, slurm, claim, entry, IsTree, OverDesk};
+ghost use Rattle.store_tables.specs.Tables.{operator, pool, holder, holding, granted, auth, slurm, claim, entry, OverDesk};
 ghost use Rattle.store_tables.proofs.GroupOrder.{claim_cmp, claim_orders, entry_row_cmp, of_holder_cmp, of_holder_total};
 ghost use Rattle.store_transactions.specs.Statements.{state_in, IsReady, OnCleanDisk};
-ghost use Rattle.store_open.specs.TablesRead.{HoldSomeRows, ShowsSome, TablesRead};
+ghost use Rattle.store_open.specs.TablesRead.{TablesRead};
 ghost use Rattle.store_open.specs.steps.Numbered.{AreRead, AscendByNumber, SelectsAll, shown_in};
+ghost use Rattle.store_open.specs.steps.Reading.{EachShows, Finds, FindsThat, HasTree, Refuses, RefusesUnread};
 ghost use Rattle.store_transactions.specs.steps.Statements.{AnswersSelect};
 ghost use Rattle.store_open.specs.steps.Joining.{MakeOfTable, MakeNoneOfTable};
-ghost use Rattle.store_open.specs.steps.Keys.{AreOfAll, AreOfSome, ClaimsInOrder, ClaimsRead, show_claim};
-ghost use Rattle.store_open.specs.steps.Opened.{HasNumber, ShowsNumber, number_row, MakeAuths, ShowAuths, ShowExceptions, ShowHolders, ShowsCharter, ShowsOthers, claim_places, entry_places};
+ghost use Rattle.store_open.specs.steps.Keys.{AreOfAll, AreOfSome, ClaimsInOrder, ClaimsRead};
+ghost use Rattle.store_open.specs.steps.Opened.{HasNumber, ReadAndHold, ShowsNumber, number_row, MakeAuths, ShowAuths, ShowExceptions, ShowHolders, ShowsCharter, ShowsOthers, claim_places, entry_places, show_claim};
 ghost use Rattle.store_transactions.specs.Queries.{IsAsked, IsAskedOnce, IsClean, IsReadyToAsk, IsAskedInside, ObeysSchema};
 
 use crate::collect::{Collected, Rowids};
@@ -51,9 +52,12 @@ trait InTable: FromRow {
 
     ghost places: { List ℕ };
 
-    /// The query of those columns of all rows, and of their rowids after them.
+    /// The query of those columns of all rows, and of their rowids after them. Where the tables
+    /// read, each row shows a value.
     fn select_all() -> &'static str
-        ensures { SelectsAll Self.width tree places result.now };
+        ensures selects { SelectsAll Self.width tree places result.now }
+        ensures shows { (db : Database) → TablesRead db.trees
+            → EachShows Self.cells Self.fits tree places db };
 }
 
 /// A value that each row of one table shows, with an order of such values.
@@ -75,8 +79,8 @@ fn ask_all<S: Alter>(tx: &mut Transaction<'_, S>, sql: &str) -> Result<Vec<Row>,
     requires plain { OverDesk (λ s. IsPlain (understood s sql.now)) }
     requires unlisted { OverDesk (λ s. reads_listing s sql.now ≡ false) }
     ensures asked { IsAskedInside S.Store tx.old tx.new result }
-    ensures answered { HasCleanDisk (state_in S.Store tx.new) → IfOk result (λ rows.
-        AnswersSelect sql.now (state_in S.Store tx.old).now rows.items) }
+    ensures answered { Finds S.Store tx.old.conn.now tx.new.conn.now result (λ rows db.
+        AnswersSelect sql.now db rows.items) }
     ensures rise { IfOk result (λ rows. AscendByNumber rows.items) }
     ensures no_schema { result ≢ Err StoreFault.Schema }
 {
@@ -94,14 +98,12 @@ fn read_table<T: InTable, S: Alter>(
 ) -> Result<Vec<T>, StoreFault>
     requires { OnCleanDisk S.Store IsReady tx.old }
     ensures asked { IsAskedInside S.Store tx.old tx.new result }
-    ensures tree { HasCleanDisk (state_in S.Store tx.new)
-        → OnOk result (IsTree ((state_in S.Store tx.old).now.trees T.tree)) }
-    ensures read { HasCleanDisk (state_in S.Store tx.new) → IfOk result (λ values.
-        AreRead T.cells T.fits (shown_in T.tree T.places (state_in S.Store tx.old).now)
-        values.items) }
-    ensures schema { HasCleanDisk (state_in S.Store tx.new) → result ≡ Err StoreFault.Schema
-        → ¬ AllByRecursion (ShowsSome T.cells T.fits)
-        (shown_in T.tree T.places (state_in S.Store tx.old).now) }
+    ensures tree { FindsThat S.Store tx.old.conn.now tx.new.conn.now result (HasTree T.tree) }
+    ensures read { Finds S.Store tx.old.conn.now tx.new.conn.now result (λ values db.
+        AreRead T.cells T.fits (shown_in T.tree T.places db) values.items) }
+    ensures schema { Refuses S.Store tx.old.conn.now tx.new.conn.now result
+        (λ db. ¬ EachShows T.cells T.fits T.tree T.places db) }
+    ensures unread { RefusesUnread S.Store tx.old.conn.now tx.new.conn.now result }
 {
     let rows = ask_all(tx, T::select_all())?;
     read_all(alloc, &rows)
@@ -114,16 +116,14 @@ fn read_in_order<T: InOrder, S: Alter>(
 ) -> Result<Vec<T>, StoreFault>
     requires { OnCleanDisk S.Store IsReady tx.old }
     ensures asked { IsAskedInside S.Store tx.old tx.new result }
-    ensures tree { HasCleanDisk (state_in S.Store tx.new)
-        → OnOk result (IsTree ((state_in S.Store tx.old).now.trees T.tree)) }
-    ensures read { HasCleanDisk (state_in S.Store tx.new) → IfOk result (λ values.
-        AreRead T.cells T.fits (shown_in T.tree T.places (state_in S.Store tx.old).now)
-        values.items) }
+    ensures tree { FindsThat S.Store tx.old.conn.now tx.new.conn.now result (HasTree T.tree) }
+    ensures read { Finds S.Store tx.old.conn.now tx.new.conn.now result (λ values db.
+        AreRead T.cells T.fits (shown_in T.tree T.places db) values.items) }
     ensures sorted { HasCleanDisk (state_in S.Store tx.new)
         → IfOk result (λ values. IsSorted T.order values.items) }
-    ensures schema { HasCleanDisk (state_in S.Store tx.new) → result ≡ Err StoreFault.Schema
-        → ¬ AllByRecursion (ShowsSome T.cells T.fits)
-        (shown_in T.tree T.places (state_in S.Store tx.old).now) }
+    ensures schema { Refuses S.Store tx.old.conn.now tx.new.conn.now result
+        (λ db. ¬ EachShows T.cells T.fits T.tree T.places db) }
+    ensures unread { RefusesUnread S.Store tx.old.conn.now tx.new.conn.now result }
 {
     let mut values: Vec<T> = read_table(tx, alloc)?;
     values.sort_unstable_by(|one, other| one.order(other));
@@ -153,13 +153,11 @@ fn collect_claims<S: Alter>(
 ) -> Result<Vec<ClaimKey>, StoreFault>
     requires { IsReadyToAsk S.Store conn.old }
     ensures asked { IsAsked S.Store conn.old conn.new result }
-    ensures tree { IsClean S.Store conn.new
-        → OnOk result (IsTree ((state S.Store conn.old).now.trees claim.tree)) }
-    ensures read { IsClean S.Store conn.new → IfOk result (λ keys.
-        AreOfSome (ClaimsRead (state S.Store conn.old).now) keys.items) }
-    ensures schema { IsClean S.Store conn.new → result ≡ Err StoreFault.Schema
-        → ¬ AllByRecursion (ShowsSome show_claim (NamedFits ClaimFits))
-        (shown_in claim.tree claim_places (state S.Store conn.old).now) }
+    ensures tree { FindsThat S.Store conn.old conn.new result (HasTree claim.tree) }
+    ensures read { Finds S.Store conn.old conn.new result (λ keys db.
+        AreOfSome (ClaimsRead db) keys.items) }
+    ensures schema { Refuses S.Store conn.old conn.new result (λ db.
+        ¬ EachShows show_claim (NamedFits ClaimFits) claim.tree claim_places db) }
 {
     let count = ask_number(conn, COUNT_CLAIMS)?;
     let none = Collected::none(alloc, count);
@@ -177,13 +175,11 @@ fn collect_in_order<S: Alter>(
 ) -> Result<Vec<ClaimKey>, StoreFault>
     requires { IsReadyToAsk S.Store conn.old }
     ensures asked { IsAsked S.Store conn.old conn.new result }
-    ensures tree { IsClean S.Store conn.new
-        → OnOk result (IsTree ((state S.Store conn.old).now.trees claim.tree)) }
-    ensures read { IsClean S.Store conn.new → IfOk result (λ keys.
-        AreOfSome (ClaimsInOrder (state S.Store conn.old).now) keys.items) }
-    ensures schema { IsClean S.Store conn.new → result ≡ Err StoreFault.Schema
-        → ¬ AllByRecursion (ShowsSome show_claim (NamedFits ClaimFits))
-        (shown_in claim.tree claim_places (state S.Store conn.old).now) }
+    ensures tree { FindsThat S.Store conn.old conn.new result (HasTree claim.tree) }
+    ensures read { Finds S.Store conn.old conn.new result (λ keys db.
+        AreOfSome (ClaimsInOrder db) keys.items) }
+    ensures schema { Refuses S.Store conn.old conn.new result (λ db.
+        ¬ EachShows show_claim (NamedFits ClaimFits) claim.tree claim_places db) }
 {
     let mut keys = collect_claims(conn, alloc)?;
     keys.sort_unstable_by(|one, other| one.order(other));
@@ -333,10 +329,10 @@ pub(crate) fn read_number<S: Alter>(
 ) -> Result<(), StoreFault>
     requires { OnCleanDisk S.Store IsReady tx.old }
     ensures asked { IsAskedInside S.Store tx.old tx.new result }
-    ensures found { HasCleanDisk (state_in S.Store tx.new)
-        → OnOk result (ShowsNumber is_old (state_in S.Store tx.old).now) }
-    ensures schema { HasCleanDisk (state_in S.Store tx.new) → result ≡ Err StoreFault.Schema
-        → ¬ HasNumber is_old (state_in S.Store tx.old).now.trees }
+    ensures found { FindsThat S.Store tx.old.conn.now tx.new.conn.now result
+        (ShowsNumber is_old) }
+    ensures schema { Refuses S.Store tx.old.conn.now tx.new.conn.now result
+        (λ db. ¬ HasNumber is_old db.trees) }
 {
     let rows = ask_all(tx, SELECT_SCHEMA)?;
     check_number(&rows, is_old)
@@ -358,10 +354,8 @@ fn make_charter(operators: Vec<Name>, pool: Vec<Prefix>) -> Result<Charter, Stor
 fn read_charter<S: Alter>(tx: &mut Transaction<'_, S>, alloc: Global) -> Result<Charter, StoreFault>
     requires { OnCleanDisk S.Store IsReady tx.old }
     ensures asked { IsAskedInside S.Store tx.old tx.new result }
-    ensures found { HasCleanDisk (state_in S.Store tx.new) → IfOk result (λ charter.
-        ShowsCharter charter (state_in S.Store tx.old).now) }
-    ensures schema { HasCleanDisk (state_in S.Store tx.new) → result ≡ Err StoreFault.Schema
-        → ¬ TablesRead (state_in S.Store tx.old).now.trees }
+    ensures found { Finds S.Store tx.old.conn.now tx.new.conn.now result ShowsCharter }
+    ensures schema { RefusesUnread S.Store tx.old.conn.now tx.new.conn.now result }
 {
     let operators = read_table(tx, alloc)?;
     let pool = read_table(tx, alloc)?;
@@ -372,10 +366,8 @@ fn read_charter<S: Alter>(tx: &mut Transaction<'_, S>, alloc: Global) -> Result<
 fn read_holders<S: Alter>(tx: &mut Transaction<'_, S>, alloc: Global) -> Result<(), StoreFault>
     requires { OnCleanDisk S.Store IsReady tx.old }
     ensures asked { IsAskedInside S.Store tx.old tx.new result }
-    ensures found { HasCleanDisk (state_in S.Store tx.new)
-        → OnOk result (ShowHolders (state_in S.Store tx.old).now) }
-    ensures schema { HasCleanDisk (state_in S.Store tx.new) → result ≡ Err StoreFault.Schema
-        → ¬ TablesRead (state_in S.Store tx.old).now.trees }
+    ensures found { FindsThat S.Store tx.old.conn.now tx.new.conn.now result ShowHolders }
+    ensures schema { RefusesUnread S.Store tx.old.conn.now tx.new.conn.now result }
 {
     let _holders: Vec<Registered> = read_table(tx, alloc)?;
     let _holdings: Vec<Span> = read_table(tx, alloc)?;
@@ -387,10 +379,9 @@ fn read_holders<S: Alter>(tx: &mut Transaction<'_, S>, alloc: Global) -> Result<
 fn read_unused<S: Alter>(tx: &mut Transaction<'_, S>) -> Result<(), StoreFault>
     requires { OnCleanDisk S.Store IsReady tx.old }
     ensures asked { IsAskedInside S.Store tx.old tx.new result }
-    ensures found { HasCleanDisk (state_in S.Store tx.new)
-        → OnOk result ((state_in S.Store tx.old).now.trees auth.tree ≡ []) }
-    ensures schema { HasCleanDisk (state_in S.Store tx.new) → result ≡ Err StoreFault.Schema
-        → ¬ TablesRead (state_in S.Store tx.old).now.trees }
+    ensures found { FindsThat S.Store tx.old.conn.now tx.new.conn.now result
+        (λ db. db.trees auth.tree ≡ []) }
+    ensures schema { RefusesUnread S.Store tx.old.conn.now tx.new.conn.now result }
 {
     let rows = ask_all(tx, SELECT_ALL_AUTHS)?;
     if !rows.is_empty() {
@@ -428,14 +419,12 @@ fn check_auths(
 /// Checks that the rows of claims and of entries read, and that they make authorizations.
 fn read_auths<S: Alter>(tx: &mut Transaction<'_, S>, alloc: Global) -> Result<(), StoreFault>
     requires ready { OnCleanDisk S.Store IsReady tx.old }
+    requires unused { OnCleanDisk S.Store (λ s. s.now.trees auth.tree ≡ []) tx.old }
     requires sound { OnCleanDisk S.Store ObeysSchema tx.old }
     ensures asked { IsAskedInside S.Store tx.old tx.new result }
-    ensures found { HasCleanDisk (state_in S.Store tx.new)
-        → OnOk result (ShowAuths (state_in S.Store tx.old).now) }
-    ensures schema { HasCleanDisk (state_in S.Store tx.new) → result ≡ Err StoreFault.Schema
-        → ¬ TablesRead (state_in S.Store tx.old).now.trees }
+    ensures found { FindsThat S.Store tx.old.conn.now tx.new.conn.now result ShowAuths }
+    ensures schema { RefusesUnread S.Store tx.old.conn.now tx.new.conn.now result }
 {
-    read_unused(tx)?;
     let claims: Vec<OfHolder<Claim>> = read_in_order(tx, alloc)?;
     let entries: Vec<OfHolder<EntryRow>> = read_in_order(tx, alloc)?;
     check_auths(alloc, &claims, &entries)
@@ -446,14 +435,29 @@ fn read_auths<S: Alter>(tx: &mut Transaction<'_, S>, alloc: Global) -> Result<()
 fn read_exceptions<S: Alter>(tx: &mut Transaction<'_, S>, alloc: Global) -> Result<(), StoreFault>
     requires { OnCleanDisk S.Store IsReady tx.old }
     ensures asked { IsAskedInside S.Store tx.old tx.new result }
-    ensures found { HasCleanDisk (state_in S.Store tx.new)
-        → OnOk result (ShowExceptions (state_in S.Store tx.old).now) }
-    ensures schema { HasCleanDisk (state_in S.Store tx.new) → result ≡ Err StoreFault.Schema
-        → ¬ TablesRead (state_in S.Store tx.old).now.trees }
+    ensures found { FindsThat S.Store tx.old.conn.now tx.new.conn.now result ShowExceptions }
+    ensures schema { RefusesUnread S.Store tx.old.conn.now tx.new.conn.now result }
 {
     let exceptions = read_table(tx, alloc)?;
     let _files = group_files(alloc, exceptions)?;
     Ok(())
+}
+
+/// Reads all rows but those of claims and of entries, and returns the charter that they have.
+fn read_others<S: Alter>(tx: &mut Transaction<'_, S>, alloc: Global) -> Result<Charter, StoreFault>
+    requires { OnCleanDisk S.Store IsReady tx.old }
+    ensures asked { IsAskedInside S.Store tx.old tx.new result }
+    ensures shown { Finds S.Store tx.old.conn.now tx.new.conn.now result ShowsOthers }
+    ensures schema { RefusesUnread S.Store tx.old.conn.now tx.new.conn.now result }
+{
+    read_number(tx, false)?;
+    let charter = read_charter(tx, alloc)?;
+    // For the proof: its contract says that the operators and the pool make a charter.
+    let _operators = charter.operators();
+    read_holders(tx, alloc)?;
+    read_unused(tx)?;
+    read_exceptions(tx, alloc)?;
+    Ok(charter)
 }
 
 /// Reads all rows of a database that has the tables of a desk, and returns the charter that they
@@ -465,53 +469,23 @@ pub(crate) fn read_inside<S: Alter>(
     requires ready { OnCleanDisk S.Store IsReady tx.old }
     requires sound { OnCleanDisk S.Store ObeysSchema tx.old }
     ensures asked { IsAskedInside S.Store tx.old tx.new result }
-    ensures held { HasCleanDisk (state_in S.Store tx.new) → IfOk result (λ charter.
-        HoldSomeRows charter (state_in S.Store tx.old).now.trees) }
-    ensures reads { HasCleanDisk (state_in S.Store tx.new)
-        → OnOk result (TablesRead (state_in S.Store tx.old).now.trees) }
-    ensures schema { HasCleanDisk (state_in S.Store tx.new) → result ≡ Err StoreFault.Schema
-        → ¬ TablesRead (state_in S.Store tx.old).now.trees }
+    ensures held { Finds S.Store tx.old.conn.now tx.new.conn.now result ReadAndHold }
+    ensures schema { RefusesUnread S.Store tx.old.conn.now tx.new.conn.now result }
 {
-    read_number(tx, false)?;
-    let charter = read_charter(tx, alloc)?;
-    // For the proof: its contract says that the operators and the pool make a charter.
-    let _operators = charter.operators();
-    read_holders(tx, alloc)?;
+    let charter = read_others(tx, alloc)?;
     read_auths(tx, alloc)?;
-    read_exceptions(tx, alloc)?;
     Ok(charter)
 }
 
-/// Reads all rows but those of claims and of entries, and returns the charter that they have.
-fn read_others<S: Alter>(tx: &mut Transaction<'_, S>, alloc: Global) -> Result<Charter, StoreFault>
-    requires { OnCleanDisk S.Store IsReady tx.old }
-    ensures asked { IsAskedInside S.Store tx.old tx.new result }
-    ensures shown { HasCleanDisk (state_in S.Store tx.new) → IfOk result (λ charter.
-        ShowsOthers charter (state_in S.Store tx.old).now) }
-    ensures schema { HasCleanDisk (state_in S.Store tx.new) → result ≡ Err StoreFault.Schema
-        → ¬ TablesRead (state_in S.Store tx.old).now.trees }
-{
-    read_number(tx, false)?;
-    let charter = read_charter(tx, alloc)?;
-    // For the proof: its contract says that the operators and the pool make a charter.
-    let _operators = charter.operators();
-    read_holders(tx, alloc)?;
-    read_unused(tx)?;
-    read_exceptions(tx, alloc)?;
-    Ok(charter)
-}
-
-/// The same in a transaction of its own, which is rolled back.
+/// `read_others` in a transaction of its own, which is rolled back.
 fn read_others_once<S: Alter>(
     conn: &mut Connection<S>,
     alloc: Global,
 ) -> Result<Charter, StoreFault>
     requires { IsReadyToAsk S.Store conn.old }
     ensures asked { IsAskedOnce S.Store conn.old conn.new result }
-    ensures shown { IsClean S.Store conn.new → IfOk result (λ charter.
-        ShowsOthers charter (state S.Store conn.old).now) }
-    ensures schema { IsClean S.Store conn.new → result ≡ Err StoreFault.Schema
-        → ¬ TablesRead (state S.Store conn.old).now.trees }
+    ensures shown { Finds S.Store conn.old conn.new result ShowsOthers }
+    ensures schema { RefusesUnread S.Store conn.old conn.new result }
 {
     // For the proof: its contract says that outside a transaction all that is shown is committed.
     let _idle = conn.is_autocommit();
@@ -527,8 +501,7 @@ fn read_others_once<S: Alter>(
 fn check_rowids<S: Alter>(conn: &mut Connection<S>) -> Result<(), StoreFault>
     requires { IsReadyToAsk S.Store conn.old }
     ensures asked { IsAsked S.Store conn.old conn.new result }
-    ensures tree { IsClean S.Store conn.new
-        → OnOk result (IsTree ((state S.Store conn.old).now.trees entry.tree)) }
+    ensures tree { FindsThat S.Store conn.old conn.new result (HasTree entry.tree) }
     ensures no_schema { result ≢ Err StoreFault.Schema }
 {
     take_each(conn, SELECT_ENTRY_ROWIDS, &[], Rowids::none())?;
@@ -544,10 +517,10 @@ fn join_entries<S: Alter>(
 ) -> Result<(), StoreFault>
     requires { IsReadyToAsk S.Store conn.old }
     ensures asked { IsAsked S.Store conn.old conn.new result }
-    ensures found { IsClean S.Store conn.new → OnOk result
-        (AreOfAll (λ all. MakeOfTable all (state S.Store conn.old).now) claims.items) }
-    ensures schema { IsClean S.Store conn.new → result ≡ Err StoreFault.Schema
-        → AreOfAll (λ all. MakeNoneOfTable all (state S.Store conn.old).now) claims.items }
+    ensures found { FindsThat S.Store conn.old conn.new result (λ db.
+        AreOfAll (λ all. MakeOfTable all db) claims.items) }
+    ensures schema { Refuses S.Store conn.old conn.new result (λ db.
+        AreOfAll (λ all. MakeNoneOfTable all db) claims.items) }
 {
     let start = Joined::start(alloc, claims);
     let joined = take_each(conn, SELECT_ENTRIES_BY_KEY, &[], start)?;
@@ -564,10 +537,8 @@ fn collect_auths<S: Alter>(conn: &mut Connection<S>, alloc: Global) -> Result<()
     requires unused { IsClean S.Store conn.old
         → (state S.Store conn.old).now.trees auth.tree ≡ [] }
     ensures asked { IsAsked S.Store conn.old conn.new result }
-    ensures found { IsClean S.Store conn.new
-        → OnOk result (ShowAuths (state S.Store conn.old).now) }
-    ensures schema { IsClean S.Store conn.new → result ≡ Err StoreFault.Schema
-        → ¬ TablesRead (state S.Store conn.old).now.trees }
+    ensures found { FindsThat S.Store conn.old conn.new result ShowAuths }
+    ensures schema { RefusesUnread S.Store conn.old conn.new result }
 {
     // For the proof: its contract says that what is shown obeys the schema.
     let _schema = conn.schema();
@@ -584,12 +555,8 @@ pub(crate) fn read_tables<S: Alter>(
 ) -> Result<Charter, StoreFault>
     requires { IsReadyToAsk S.Store conn.old }
     ensures asked { IsAskedOnce S.Store conn.old conn.new result }
-    ensures held { IsClean S.Store conn.new → IfOk result (λ charter.
-        HoldSomeRows charter (state S.Store conn.old).now.trees) }
-    ensures reads { IsClean S.Store conn.new
-        → OnOk result (TablesRead (state S.Store conn.old).now.trees) }
-    ensures schema { IsClean S.Store conn.new → result ≡ Err StoreFault.Schema
-        → ¬ TablesRead (state S.Store conn.old).now.trees }
+    ensures held { Finds S.Store conn.old conn.new result ReadAndHold }
+    ensures schema { RefusesUnread S.Store conn.old conn.new result }
 {
     // For the proof: its contract says that what is shown obeys the schema.
     let _schema = conn.schema();

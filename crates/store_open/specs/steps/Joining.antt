@@ -8,7 +8,6 @@ use Rattle.store_tables.specs.declared.claim.Claim.{Claim}
 use Rattle.store_tables.specs.declared.entry.EntryRow.{EntryRow}
 use Rattle.store_tables.specs.declared.groups.Group.{Group}
 use Rattle.store_tables.specs.declared.groups.OfHolder.{OfHolder}
-use Rattle.store_tables.specs.Cells.{entry_cells, named_cells}
 use Rattle.store_tables.specs.Decode.{EntryRowFits, NamedFits, first_columns}
 use Rattle.store_tables.specs.Groups.{AllApart, claim_entry, holder_entry}
 use Rattle.store_tables.specs.Tables.{entry}
@@ -17,7 +16,7 @@ use Rattle.store_tables.proofs.Grouping.{Walked}
 use Rattle.store_tables.proofs.GroupOrder.{entry_row_cmp, of_holder_cmp}
 use Rattle.store_open.specs.TablesRead.{ShowsSome}
 use Rattle.store_open.specs.steps.Numbered.{AreRead, shown_in}
-use Rattle.store_open.specs.steps.Opened.{MakeAuths, entry_places}
+use Rattle.store_open.specs.steps.Opened.{MakeAuths, entry_places, show_entry}
 
 -- the entry of the first of the claims that a row is, if it is one
 abbrev pub first_claim_entry : List (OfHolder Claim) → OfHolder EntryRow → Option RoaPrefix
@@ -54,7 +53,7 @@ pub record WalkGoesOn (claims : List (OfHolder Claim)) (entries : List (OfHolder
 -- the entries that rows show
 pub record ShowEntries (rows : List Row) (entries : List (OfHolder EntryRow)) : Type 0 where
   pub fit : AllByRecursion (NamedFits EntryRowFits) entries
-  pub shown : map (first_columns 7) rows ≡ map (named_cells entry_cells) entries
+  pub shown : map (first_columns 7) rows ≡ map show_entry entries
 
 -- this is the walk after these rows, or no authorizations come of it, or some row shows no entry
 pub record JoinsRows (claims : List (OfHolder Claim)) (rows : List Row) (passed : ℕ) (found : List RoaPrefix) (fits : Bool) : Type 0
@@ -68,7 +67,7 @@ pub record JoinsRows (claims : List (OfHolder Claim)) (rows : List Row) (passed 
 
 -- each row shows an entry
 abbrev pub EachShowsEntry : List Row → Type 0
-EachShowsEntry = AllByRecursion (ShowsSome (named_cells entry_cells) (NamedFits EntryRowFits))
+EachShowsEntry = AllByRecursion (ShowsSome show_entry (NamedFits EntryRowFits))
 
 -- the rows make authorizations with the claims
 abbrev pub MakeOfRows : List (OfHolder Claim) → List Row → Type 0
@@ -87,7 +86,7 @@ abbrev pub shown_entries : Database → List Row
 shown_entries = shown_in entry.tree entry_places
 
 abbrev pub EntriesRead : Database → List (OfHolder EntryRow) → Type 0
-EntriesRead db = AreRead (named_cells entry_cells) (NamedFits EntryRowFits) (shown_entries db)
+EntriesRead db = AreRead show_entry (NamedFits EntryRowFits) (shown_entries db)
 
 -- the claims make authorizations with the entries of the table
 abbrev pub MakeOfTable : List (OfHolder Claim) → Database → Type 0

@@ -10,13 +10,12 @@ use Rattle.addr.specs.declared.roa_prefix.RoaPrefix.{RoaPrefix}
 use Rattle.store_tables.specs.declared.claim.Claim.{Claim}
 use Rattle.store_tables.specs.declared.entry.EntryRow.{EntryRow}
 use Rattle.store_tables.specs.declared.groups.OfHolder.{OfHolder}
-use Rattle.store_tables.specs.Cells.{claim_cells, named_cells}
 use Rattle.store_tables.specs.Decode.{ClaimFits, NamedFits, ShowsNone, first_columns}
 use Rattle.store_tables.specs.Tables.{claim}
 use Rattle.store_tables.proofs.GroupOrder.{claim_cmp, of_holder_cmp}
 use Rattle.store_open.specs.declared.key.ClaimKey.{ClaimKey}
 use Rattle.store_open.specs.steps.Numbered.{AreRead, AreTaken, shown_in}
-use Rattle.store_open.specs.steps.Opened.{claim_places}
+use Rattle.store_open.specs.steps.Opened.{claim_places, show_claim}
 
 abbrev pub key_of : OfHolder Claim → ClaimKey
 key_of c = record { holder = c.holder; number = c.row.number; asn = c.row.asn }
@@ -44,9 +43,6 @@ abbrev pub AreOfAll : (List (OfHolder Claim) → Type 0) → List ClaimKey → T
 AreOfAll So keys = (claims : List (OfHolder Claim)) → map key_of claims ≡ keys → So claims
 
 -- ---- the claims that rows show
-
-abbrev pub show_claim : OfHolder Claim → Row
-show_claim = named_cells claim_cells
 
 -- the row shows a claim, whose key comes after the others
 abbrev pub ShowsKey : Row → List ClaimKey → List ClaimKey → Type 0

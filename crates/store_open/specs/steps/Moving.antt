@@ -7,7 +7,7 @@ use Rattle.store_schema.specs.Moved.{AreMovable, IsMoved}
 use Rattle.registry.specs.CharterSets.{CharterSets}
 use Rattle.store_schema.specs.OldTables.{HasOldNumber}
 use Rattle.store_tables.specs.Tables.{desk_schema}
-use Rattle.store_open.specs.TablesRead.{HoldSomeRows, TablesRead}
+use Rattle.store_open.specs.steps.Opened.{ReadAndHold}
 
 -- A database of schema 1 is moved, and its rows read: the transaction shows a desk that holds some rows, each row in the
 -- range of its type. Its tables had the number of schema 1, and where they were movable they are moved.
@@ -17,5 +17,4 @@ pub record MovesDesk (charter : CharterSets) (old : Trees) (new : State) : Type 
   pub sound : IsDatabase new.now
   pub numbered : HasOldNumber old
   pub moved : AreMovable old → IsMoved old new.now.trees
-  pub some : HoldSomeRows charter new.now.trees
-  pub reads : TablesRead new.now.trees
+  pub held : ReadAndHold charter new.now

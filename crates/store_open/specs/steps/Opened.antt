@@ -19,7 +19,7 @@ use Rattle.store_tables.specs.Decode.{ClaimFits, EntryRowFits, NamedFits}
 use Rattle.store_tables.specs.Tables.{meta, operator, pool, holder, holding, granted, auth, slurm, claim, entry, contents, IsTree}
 use Rattle.store_tables.specs.TablesHold.{HoldsFiles}
 use Rattle.store_schema.specs.OldTables.{old_schema_row}
-use Rattle.store_open.specs.TablesRead.{ShowsSome, ShowsHolder, ShowsException}
+use Rattle.store_open.specs.TablesRead.{HoldSomeRows, ShowsSome, ShowsHolder, ShowsException, TablesRead}
 use Rattle.store_open.specs.steps.Numbered.{shown_in, AreRead}
 
 -- a table that has rowids shows these rows in some columns
@@ -75,6 +75,13 @@ claim_places = 1 ∷ 2 ∷ 3 ∷ 4 ∷ 0 ∷ []
 abbrev pub entry_places : List ℕ
 entry_places = 1 ∷ 2 ∷ 3 ∷ 4 ∷ 5 ∷ 6 ∷ 0 ∷ []
 
+-- what a row of `claim` shows of a claim, and a row of `entry` of an entry
+abbrev pub show_claim : OfHolder Claim → Row
+show_claim = named_cells claim_cells
+
+abbrev pub show_entry : OfHolder EntryRow → Row
+show_entry = named_cells entry_cells
+
 -- the rows of claims and of entries show values that make authorizations, and the table of schema 1 has no row
 pub record ShowAuths (db : Database) : Type 0 where
   pub unused : db.trees auth.tree ≡ []
@@ -82,8 +89,8 @@ pub record ShowAuths (db : Database) : Type 0 where
   pub entries_whole : IsTree (db.trees entry.tree)
   pub claims : List (OfHolder Claim)
   pub entries : List (OfHolder EntryRow)
-  pub claims_read : AreRead (named_cells claim_cells) (NamedFits ClaimFits) (shown_in claim.tree claim_places db) claims
-  pub entries_read : AreRead (named_cells entry_cells) (NamedFits EntryRowFits) (shown_in entry.tree entry_places db) entries
+  pub claims_read : AreRead show_claim (NamedFits ClaimFits) (shown_in claim.tree claim_places db) claims
+  pub entries_read : AreRead show_entry (NamedFits EntryRowFits) (shown_in entry.tree entry_places db) entries
   pub made : MakeAuths claims entries
 
 -- each row of the table of exceptions shows one, and the table holds SLURM files in range
@@ -99,3 +106,7 @@ pub record ShowsOthers (charter : CharterSets) (db : Database) : Type 0 where
   pub holders : ShowHolders db
   pub unused : db.trees auth.tree ≡ []
   pub excepted : ShowExceptions db
+
+-- the tables hold the charter and some rows, and they read
+abbrev pub ReadAndHold : CharterSets → Database → Type 0
+ReadAndHold charter db = HoldSomeRows charter db.trees × TablesRead db.trees

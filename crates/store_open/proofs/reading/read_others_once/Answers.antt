@@ -1,4 +1,5 @@
-use Rattle.store_open.proofs.Vocabulary.{◌≡◌, [], IsTrue, rules, arith, ap, not, ◌∙◌, state, HasCleanDisk, KeepsCommit, IsNotRun, Survives, SELECT_SCHEMA, state_in, no_answer, not_run_after, undone_as_before}
+use Rattle.store_open.proofs.Vocabulary.{◌≡◌, [], IsTrue, rules, ap, not, ◌∙◌, state, HasCleanDisk, KeepsCommit, IsNotRun, Survives, SELECT_SCHEMA, state_in, no_answer, not_run_after, undone_as_before}
+use Rattle.store_open.proofs.InTurn.{earlier}
 use Rattle.store_open.proofs.reading.read_others_once.Goals as goal
 
 pub returns-in_err-prepare-clause-asked : goal.returns-in_err-prepare-clause-asked
@@ -16,8 +17,7 @@ returns-in_err-prepare-clause-asked g c =
       idle = search rules;
       same = λ clean. no_answer _ c.from_residual-in_err-prepare.result c.from_residual-in_err-prepare.ensures.0;
       kept = λ clean.
-          let clean_2 : HasCleanDisk end = omega (arith, clean, last.clean) in
-          let clean_1 : HasCleanDisk mid = omega (arith, clean_2, c.rollback.ensures.survives.clean) in
-          not_run_after old end new _ [] _ settled (undone_as_before old mid end settled (keeps clean_1) (c.rollback.ensures.undone clean_2)) (refused clean);
+          let late = earlier last clean in
+          not_run_after old end new _ [] _ settled (undone_as_before old mid end settled (keeps (earlier c.rollback.ensures.survives late)) (c.rollback.ensures.undone late)) (refused clean);
       survives = search rules;
     }
