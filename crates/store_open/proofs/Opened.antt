@@ -1,5 +1,5 @@
 -- From what the queries of all rows show to what the tables hold.
-use Rattle.store_open.proofs.Vocabulary.{◌≡◌, ℕ, ◌+◌, ◌<◌, true, false, List, [], ◌∷◌, ◌++◌, map, filter, drop, length, codes, slice_get, Some, None, refl, inl, inr, sym, ap, subst, ◌∙◌, is_eq, arith, IsPermutation, ⊤, AllByRecursion, both_ways, length-map, Contains-permutation, IsPermutation-sym, Database, Value, Text, Row, column, value_cmp, rowid, IsAscending, is_int, all_weaker, all_both, all-map, all-permutation, all_from_map, ascending-filter, filter-map, Has, all_has, contains_had, has_filtered, mapped_has, IsSound, Span, CharterSets, IsCharter, Auth, Granted, GrantFits, schema_row, operator_row, prefix_cells, span_cells, grant_cells, holder_row, holding_row, granted_row, first_columns, desk_tables, holder_reference, required_column, meta, operator, pool, holder, holding, granted, slurm, claim, entry, contents, columns, IsTree, AreTrees, names, name_of-true, name_of_itself, all_columns, first_of_all, OfHolder, ShowsSome, ShowsHolder, ShowsOfHolder, HoldSomeRows, TablesRead, HasSomeAuths, row_of_claim, shown_in, ShowsNumber, ShowsCharter, ShowExceptions, ShowHolders, ShowAuths, all_whole, all_referred, once, equal_texts, at_claim, column_after, ReadAndHold, ShowsOthers}
+use Rattle.store_open.proofs.Vocabulary.{◌≡◌, ℕ, ◌+◌, ◌<◌, true, false, List, [], ◌∷◌, ◌++◌, map, filter, drop, length, codes, slice_get, Some, None, refl, inl, inr, sym, ap, subst, ◌∙◌, is_eq, arith, IsPermutation, ⊤, AllByRecursion, both_ways, length-map, Contains-permutation, IsPermutation-sym, Database, Value, Text, Row, column, value_cmp, rowid, IsAscending, is_int, all_weaker, all_both, all-map, all-permutation, all_from_map, ascending-filter, filter-map, Has, all_has, contains_had, has_filtered, mapped_has, IsSound, Span, CharterSets, IsCharter, Auth, Granted, GrantFits, schema_row, operator_row, prefix_cells, span_cells, grant_cells, holder_row, holding_row, granted_row, first_columns, desk_tables, holder_reference, required_column, meta, operator, pool, holder, holding, granted, slurm, claim, entry, contents, columns, IsTree, AreTrees, names, name_of-true, name_of_itself, all_columns, first_of_all, OfHolder, ShowsSome, ShowsHolder, ShowsOfHolder, HoldSomeRows, TablesRead, HasSomeAuths, row_of_claim, shown_in, ShowsNumber, ShowsCharter, ShowExceptions, ShowHolders, ShowAuths, all_whole, all_referred, once, equal_texts, at_claim, column_after, ReadAndHold, ShowsOthers, auth}
 use Rattle.sqlite_value.specs.declared.keys.Collation.TheVariants.{Binary}
 use Rattle.sqlite_schema.specs.declared.schema.Column.{Column}
 use Rattle.sqlite_schema.specs.declared.schema.Kind.TheVariants.{Integer, Text as OfText}
@@ -152,25 +152,9 @@ module _ (db : Database) (tables : db.schema.tables ≡ desk_tables) (sound : Is
     module _ (authorized : ShowAuths db) (charter : CharterSets) (schema : ShowsNumber false db) (chartered : ShowsCharter charter db) (excepted : ShowExceptions db) where
       trees_whole : AreTrees db.trees
       trees_whole =
-          each_table (λ t. IsTree (db.trees t)) desk_tables (
-            schema.whole,
-            (
-              chartered.operators.whole,
-              (
-                chartered.pool.whole,
-                (
-                  shown.holders.whole,
-                  (
-                    shown.holdings.whole,
-                    (
-                      shown.grants.whole,
-                      (subst IsTree (sym authorized.unused) (tt, tt), (excepted.rows.whole, (authorized.claims_whole, (authorized.entries_whole, tt)))),
-                    ),
-                  ),
-                ),
-              ),
-            ),
-          )
+          let later : AllByRecursion (λ (t : Table). IsTree (db.trees t.tree)) (auth ∷ slurm ∷ claim ∷ entry ∷ []) = (subst IsTree (sym authorized.unused) (tt, tt), (excepted.rows.whole, (authorized.claims_whole, (authorized.entries_whole, tt)))) in
+          each_table (λ t. IsTree (db.trees t)) desk_tables
+          (schema.whole, (chartered.operators.whole, (chartered.pool.whole, (shown.holders.whole, (shown.holdings.whole, (shown.grants.whole, later))))))
 
       schema_only : IsPermutation (schema_row ∷ []) (contents (db.trees meta.tree))
       schema_only = subst (IsPermutation _) (all_shown meta 1 (required_column (codes "value") Integer) (inl refl) refl refl refl refl) schema.shown
