@@ -97,4 +97,4 @@ pub use Rattle.store_open.specs.steps.Keys.{AreOfAll, AreOfSome, AreTakenClaims,
 pub use Rattle.store_open.specs.steps.Moving.{MovesDesk}
 pub use Rattle.store_open.specs.steps.Numbered.{AreRead, AreTaken, AscendByNumber, EndApart, EndsUpTo, SelectsAll, columns_and_rowid, is_integer_below, last_value, shown_in}
 pub use Rattle.store_open.specs.steps.Reading.{HasTree}
-pub use Rattle.store_open.specs.steps.Opened.{HasNumber, MakeAuths, ReadAndHold, ShowAuths, ShowExceptions, ShowHolders, ShowsCharter, ShowsEach, ShowsNumber, ShowsOthers, show_claim, show_entry, claim_places, entry_places, named_claim, named_entries, number_row}
+pub use Rattle.store_open.specs.steps.Opened.{HasNoOldAuths, HasNumber, MakeAuths, ReadAndHold, ShowAuths, ShowExceptions, ShowHolders, ShowsCharter, ShowsEach, ShowsNumber, ShowsOthers, show_claim, show_entry, claim_places, entry_places, named_claim, named_entries, number_row}

@@ -14,7 +14,7 @@ ghost use Rattle.registry.specs.CharterSets.{AreAllowedCounts};
 ghost use Rattle.registry.specs.Repeats.{has_repeat};
 ghost use Rattle.store_tables.specs.Decode.{ClaimFits, NamedFits, first_columns};
 ghost use Rattle.store_tables.specs.Groups.{AllApart, claim_entry, holder_entry};
-ghost use Rattle.store_tables.specs.Tables.{operator, pool, holder, holding, granted, auth, slurm, claim, entry, OverDesk};
+ghost use Rattle.store_tables.specs.Tables.{operator, pool, holder, holding, granted, slurm, claim, entry, OverDesk};
 ghost use Rattle.store_tables.proofs.GroupOrder.{claim_cmp, claim_orders, entry_row_cmp, of_holder_cmp, of_holder_total};
 ghost use Rattle.store_transactions.specs.Statements.{state_in, IsReady, OnCleanDisk};
 ghost use Rattle.store_open.specs.TablesRead.{TablesRead};
@@ -23,7 +23,7 @@ ghost use Rattle.store_open.specs.steps.Reading.{EachShows, Finds, FindsThat, Ha
 ghost use Rattle.store_transactions.specs.steps.Statements.{AnswersSelect};
 ghost use Rattle.store_open.specs.steps.Joining.{MakeOfTable, MakeNoneOfTable};
 ghost use Rattle.store_open.specs.steps.Keys.{AreOfAll, AreOfSome, ClaimsInOrder, ClaimsRead};
-ghost use Rattle.store_open.specs.steps.Opened.{HasNumber, ReadAndHold, ShowsNumber, number_row, MakeAuths, ShowAuths, ShowExceptions, ShowHolders, ShowsCharter, ShowsOthers, claim_places, entry_places, show_claim};
+ghost use Rattle.store_open.specs.steps.Opened.{HasNoOldAuths, HasNumber, ReadAndHold, ShowsNumber, number_row, MakeAuths, ShowAuths, ShowExceptions, ShowHolders, ShowsCharter, ShowsOthers, claim_places, entry_places, show_claim};
 ghost use Rattle.store_transactions.specs.Queries.{IsAsked, IsAskedOnce, IsClean, IsReadyToAsk, IsAskedInside, ObeysSchema};
 
 use crate::collect::{Collected, Rowids};
@@ -379,8 +379,7 @@ fn read_holders<S: Alter>(tx: &mut Transaction<'_, S>, alloc: Global) -> Result<
 fn read_unused<S: Alter>(tx: &mut Transaction<'_, S>) -> Result<(), StoreFault>
     requires { OnCleanDisk S.Store IsReady tx.old }
     ensures asked { IsAskedInside S.Store tx.old tx.new result }
-    ensures found { FindsThat S.Store tx.old.conn.now tx.new.conn.now result
-        (λ db. db.trees auth.tree ≡ []) }
+    ensures found { FindsThat S.Store tx.old.conn.now tx.new.conn.now result HasNoOldAuths }
     ensures schema { RefusesUnread S.Store tx.old.conn.now tx.new.conn.now result }
 {
     let rows = ask_all(tx, SELECT_ALL_AUTHS)?;
@@ -419,7 +418,7 @@ fn check_auths(
 /// Checks that the rows of claims and of entries read, and that they make authorizations.
 fn read_auths<S: Alter>(tx: &mut Transaction<'_, S>, alloc: Global) -> Result<(), StoreFault>
     requires ready { OnCleanDisk S.Store IsReady tx.old }
-    requires unused { OnCleanDisk S.Store (λ s. s.now.trees auth.tree ≡ []) tx.old }
+    requires unused { OnCleanDisk S.Store (λ s. HasNoOldAuths s.now) tx.old }
     requires sound { OnCleanDisk S.Store ObeysSchema tx.old }
     ensures asked { IsAskedInside S.Store tx.old tx.new result }
     ensures found { FindsThat S.Store tx.old.conn.now tx.new.conn.now result ShowAuths }
@@ -534,8 +533,7 @@ fn join_entries<S: Alter>(
 /// the keys of the claims, since they are the smaller part, and one row of an entry at a time.
 fn collect_auths<S: Alter>(conn: &mut Connection<S>, alloc: Global) -> Result<(), StoreFault>
     requires ready { IsReadyToAsk S.Store conn.old }
-    requires unused { IsClean S.Store conn.old
-        → (state S.Store conn.old).now.trees auth.tree ≡ [] }
+    requires unused { IsClean S.Store conn.old → HasNoOldAuths (state S.Store conn.old).now }
     ensures asked { IsAsked S.Store conn.old conn.new result }
     ensures found { FindsThat S.Store conn.old conn.new result ShowAuths }
     ensures schema { RefusesUnread S.Store conn.old conn.new result }

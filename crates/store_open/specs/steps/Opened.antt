@@ -82,9 +82,13 @@ show_claim = named_cells claim_cells
 abbrev pub show_entry : OfHolder EntryRow → Row
 show_entry = named_cells entry_cells
 
+-- the table of authorizations of schema 1 has no row
+abbrev pub HasNoOldAuths : Database → Type 0
+HasNoOldAuths db = db.trees auth.tree ≡ []
+
 -- the rows of claims and of entries show values that make authorizations, and the table of schema 1 has no row
 pub record ShowAuths (db : Database) : Type 0 where
-  pub unused : db.trees auth.tree ≡ []
+  pub unused : HasNoOldAuths db
   pub claims_whole : IsTree (db.trees claim.tree)
   pub entries_whole : IsTree (db.trees entry.tree)
   pub claims : List (OfHolder Claim)
@@ -104,7 +108,7 @@ pub record ShowsOthers (charter : CharterSets) (db : Database) : Type 0 where
   pub valid : IsCharter charter
   pub chartered : ShowsCharter charter db
   pub holders : ShowHolders db
-  pub unused : db.trees auth.tree ≡ []
+  pub unused : HasNoOldAuths db
   pub excepted : ShowExceptions db
 
 -- the tables hold the charter and some rows, and they read

@@ -7,10 +7,6 @@ pub returns-in_err-claims-clause-schema : goal.returns-in_err-claims-clause-sche
 returns-in_err-claims-clause-schema g c clean is read =
     c.collect_in_order.ensures.schema clean (refused_by _ _ _ c.in_err-claims.was c.from_residual.ensures.1 is) (claims_in (state g.S.Store c.args.conn.now).now read.authorizations)
 
-pub returns-in_err-check_rowids-clause-schema : goal.returns-in_err-check_rowids-clause-schema
-returns-in_err-check_rowids-clause-schema g c clean is read =
-    c.check_rowids.ensures.no_schema (refused_by _ _ _ c.in_err-check_rowids.was c.from_residual-in_err-check_rowids.ensures.1 is)
-
 pub returns-clause-found : goal.returns-clause-found
 returns-clause-found g c clean =
     let clean_2 = earlier c.join_entries.ensures.asked.survives clean in

@@ -1,10 +1,7 @@
-use Rattle.store_open.proofs.Vocabulary.{◌≡◌, [], sym, subst, Database, state_in, auth, ShowAuths}
+use Rattle.store_open.proofs.Vocabulary.{subst, state_in, ShowAuths}
 use Rattle.store_open.proofs.InTurn.{earlier}
 use Rattle.store_open.proofs.Opened.{read_and_hold}
 use Rattle.store_open.proofs.reading.read_inside.Goals as goal
-
-pub read_auths-requires-clause-unused : goal.read_auths-requires-clause-unused
-read_auths-requires-clause-unused g c clean = subst (λ (d : Database). d.trees auth.tree ≡ []) (sym (c.in_ok-charter.ensures.asked.same clean).0.now_is) (c.in_ok-charter.ensures.shown clean).unused
 
 pub returns-clause-held : goal.returns-clause-held
 returns-clause-held g c clean =

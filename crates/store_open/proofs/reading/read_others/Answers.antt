@@ -1,4 +1,4 @@
-use Rattle.store_open.proofs.Vocabulary.{◌≡◌, [], subst, ◌∙◌, Database, auth, ShowsCharter, ShowExceptions, ShowHolders}
+use Rattle.store_open.proofs.Vocabulary.{HasNoOldAuths, subst, ◌∙◌, ShowsCharter, ShowExceptions, ShowHolders}
 use Rattle.store_open.proofs.InTurn.{earlier, in_turn, in_vain}
 use Rattle.store_open.proofs.reading.read_others.Goals as goal
 
@@ -34,6 +34,6 @@ returns-clause-shown g c clean =
       valid = c.operators-operators.ensures.valid;
       chartered = subst (ShowsCharter _) now_1 (c.in_ok-charter.ensures.found clean_2);
       holders = subst ShowHolders now_2 (c.in_ok-read_holders.ensures.found clean_3);
-      unused = subst (λ (d : Database). d.trees auth.tree ≡ []) now_3 (c.in_ok-read_unused.ensures.found clean_4);
+      unused = subst HasNoOldAuths now_3 (c.in_ok-read_unused.ensures.found clean_4);
       excepted = subst ShowExceptions now_4 (c.in_ok-read_exceptions.ensures.found clean);
     }
