@@ -4,6 +4,7 @@ use Rattle.addr.specs.declared.roa_prefix.RoaPrefix.{RoaPrefix}
 use Rattle.store_tables.specs.Groups.{claim_entry}
 use Rattle.store_tables.specs.declared.entry.EntryRow.{EntryRow}
 use Rattle.store_tables.proofs.Deleting as deleting
+use Rattle.store_write.proofs.InTurn.{Does, does}
 use Rattle.store_write.proofs.EditSteps.{is_of, of_holder, of_tests, taken}
 
 -- ---- edits of both tables
@@ -119,12 +120,11 @@ module _ (h : List ℕ) where
 
   -- ---- put
 
-  module _ (old new : State) where
-    pub puts_claim : (c : Claim) → IsReady old → IsExecuted INSERT_CLAIM.now (claim_row h c) old new → PutsRows claim.tree (claim_row h c ∷ []) old new
-    puts_claim c = puts_row 8 claim refl old new (claim_row h c) (put_terms 5) 6 (claim_row h c) put_claim_is refl (cast_claim h c)
+  pub puts_claim : (c : Claim) → Does INSERT_CLAIM.now (claim_row h c) (PutsRows claim.tree (claim_row h c ∷ []))
+  puts_claim c = does _ _ _ (λ old new. puts_row 8 claim refl old new (claim_row h c) (put_terms 5) 6 (claim_row h c) put_claim_is refl (cast_claim h c))
 
-    pub puts_entry : (e : EntryRow) → IsReady old → IsExecuted INSERT_ENTRY.now (entry_row h e) old new → PutsRows entry.tree (entry_row h e ∷ []) old new
-    puts_entry e = puts_row 9 entry refl old new (entry_row h e) (put_terms 7) 8 (entry_row h e) put_entry_is refl (cast_entry h e)
+  pub puts_entry : (e : EntryRow) → Does INSERT_ENTRY.now (entry_row h e) (PutsRows entry.tree (entry_row h e ∷ []))
+  puts_entry e = does _ _ _ (λ old new. puts_row 9 entry refl old new (entry_row h e) (put_terms 7) 8 (entry_row h e) put_entry_is refl (cast_entry h e))
 
   abbrev pub rows_of_entries : Claim → List RoaPrefix → List Row
   rows_of_entries c es = map (entry_row h) (map (claim_entry c) es)

@@ -1,11 +1,12 @@
 -- What each statement does to the rows of a holder.
-use Rattle.store_write.proofs.Vocabulary.{◌≡◌, inl, inr, ℕ, pos, Bool, true, not, ◌&&◌, ◌==◌, List, [], ◌∷◌, ◌++◌, map, filter, drop, length, ◌/◌, arith, Some, None, refl, sym, ap, ap₂, subst, ◌∙◌, and_parts, and-true, or-false, IsPermutation-refl, value_rows, State, Null, Int, Text, Row, column, filter-map, Term, lit, col, cast, span_eq, is_one_of, without_runs, Span, Revoke, Granted, Rows, new_rows, edited, EachHasEntries, holder, holding, granted, number_cell, family_number, address_bytes, role_number, scope_cells, holder_row, holding_row, granted_row, is_name_of, part_rows, holder_part, holding_part, granted_part, claim_part, entry_part, INSERT_HOLDER, UPDATE_CREATED, UPDATE_GRANTED, with_holdings, without_holdings, with_grants, with_granted, with_created, IsReady, IsExecuted, EditsHolder, Registers, picks, cast_number, cast_holder, cast_holding, cast_granted, is_bytes, is_number_cell, number_of_number, same_address, same_family_number, appended, turned_have_entries, names, name_of-true, name_of_itself, put_local, puts_row, equals_text, equals_int, equals_blob, holder_test, column_after}
+use Rattle.store_write.proofs.Vocabulary.{◌≡◌, inl, inr, ℕ, pos, Bool, true, not, ◌&&◌, ◌==◌, List, [], ◌∷◌, ◌++◌, map, filter, drop, length, ◌/◌, arith, Some, None, refl, sym, ap, ap₂, subst, ◌∙◌, and_parts, and-true, or-false, IsPermutation-refl, value_rows, Null, Int, Text, Row, column, filter-map, Term, lit, col, cast, span_eq, is_one_of, without_runs, Span, Revoke, Granted, Rows, new_rows, edited, EachHasEntries, holder, holding, granted, number_cell, family_number, address_bytes, role_number, scope_cells, holder_row, holding_row, granted_row, is_name_of, part_rows, holder_part, holding_part, granted_part, claim_part, entry_part, INSERT_HOLDER, UPDATE_CREATED, UPDATE_GRANTED, with_holdings, without_holdings, with_grants, with_granted, with_created, EditsHolder, Registers, picks, cast_number, cast_holder, cast_holding, cast_granted, is_bytes, is_number_cell, number_of_number, same_address, same_family_number, appended, turned_have_entries, names, name_of-true, name_of_itself, put_local, puts_row, equals_text, equals_int, equals_blob, holder_test, column_after}
 use Rattle.sqlite_schema.specs.declared.schema.Kind.TheVariants.{Integer, Text as Words}
 use Rattle.sqlite_typed.proofs.TestLemmas.{last_term}
 use Rattle.registry.specs.declared.grant.Scope.{Scope}
 use Rattle.registry.specs.declared.grant.Scope.TheVariants.{All, Only}
 use Rattle.store_tables.specs.declared.granted.TheConstants.{DELETE_GRANT, INSERT_GRANT}
 use Rattle.store_tables.specs.declared.holding.TheConstants.{DELETE_HOLDING, INSERT_HOLDING}
+use Rattle.store_write.proofs.InTurn.{Does, does}
 use Rattle.store_write.proofs.PartSteps.{puts_edit, takes_edit, changes_edit}
 use Rattle.store_write.proofs.StepLemmas.{turns_rows, in_holder, in_holdings, in_grants}
 use Rattle.store_tables.proofs.Texts.{
@@ -88,22 +89,21 @@ module _ (h : List ℕ) (n : ℕ) where
   abbrev created_set : Row → Row
   created_set c = cast Words (column c 0) ∷ cast Integer (column c 1) ∷ number_cell n ∷ []
 
-  module _ (old new : State) where
-    pub sets_granted : IsReady old → IsExecuted UPDATE_GRANTED.now (Text h ∷ number_cell n ∷ []) old new → EditsHolder h (with_granted n) old new
-    sets_granted =
-        changes_edit 3 holder refl old new 0 holder_part.rows refl h (with_granted n) (λ r all. all) (equals 1 0 ∷ []) (names 0 h) (Text h ∷ number_cell n ∷ []) (holder_test 0 h (number_cell n ∷ [])) (λ c is. is)
-        (col 1 1 ∷ col 0 1 ∷ col 1 3 ∷ []) granted_set set_grants_is (λ r. λ i. cast Words (column_after r 0 i) ∷ cast_number n i ∷ cast Integer (column_after r 2 i) ∷ []) name_kept
-        (λ r. rw (name_of_itself h (Text h) refl, cast_number r.created) refl) (in_holder h (λ _. n) (λ r. r.created)) refl
+  pub sets_granted : Does UPDATE_GRANTED.now (Text h ∷ number_cell n ∷ []) (EditsHolder h (with_granted n))
+  sets_granted =
+      changes_edit 3 holder refl 0 holder_part.rows refl h (with_granted n) (λ r all. all) (equals 1 0 ∷ []) (names 0 h) (Text h ∷ number_cell n ∷ []) (holder_test 0 h (number_cell n ∷ [])) (λ c is. is)
+      (col 1 1 ∷ col 0 1 ∷ col 1 3 ∷ []) granted_set (λ schema. set_grants_is) (λ r. λ i. cast Words (column_after r 0 i) ∷ cast_number n i ∷ cast Integer (column_after r 2 i) ∷ []) name_kept
+      (λ r. rw (name_of_itself h (Text h) refl, cast_number r.created) refl) (in_holder h (λ _. n) (λ r. r.created)) refl
 
-    pub sets_created : IsReady old → IsExecuted UPDATE_CREATED.now (Text h ∷ number_cell n ∷ []) old new → EditsHolder h (with_created n) old new
-    sets_created =
-        changes_edit 3 holder refl old new 0 holder_part.rows refl h (with_created n) (λ r all. all) (equals 1 0 ∷ []) (names 0 h) (Text h ∷ number_cell n ∷ []) (holder_test 0 h (number_cell n ∷ [])) (λ c is. is)
-        (col 1 1 ∷ col 1 2 ∷ col 0 1 ∷ []) created_set set_auths_is (λ r. λ i. cast Words (column_after r 0 i) ∷ cast Integer (column_after r 1 i) ∷ cast_number n i ∷ []) name_kept
-        (λ r. rw (name_of_itself h (Text h) refl, cast_number r.granted) refl) (in_holder h (λ r. r.granted) (λ _. n)) refl
+  pub sets_created : Does UPDATE_CREATED.now (Text h ∷ number_cell n ∷ []) (EditsHolder h (with_created n))
+  sets_created =
+      changes_edit 3 holder refl 0 holder_part.rows refl h (with_created n) (λ r all. all) (equals 1 0 ∷ []) (names 0 h) (Text h ∷ number_cell n ∷ []) (holder_test 0 h (number_cell n ∷ [])) (λ c is. is)
+      (col 1 1 ∷ col 1 2 ∷ col 0 1 ∷ []) created_set (λ schema. set_auths_is) (λ r. λ i. cast Words (column_after r 0 i) ∷ cast Integer (column_after r 1 i) ∷ cast_number n i ∷ []) name_kept
+      (λ r. rw (name_of_itself h (Text h) refl, cast_number r.granted) refl) (in_holder h (λ r. r.granted) (λ _. n)) refl
 
-module _ (h : List ℕ) (old new : State) where
-  pub registers : IsReady old → IsExecuted INSERT_HOLDER.now (Text h ∷ []) old new → Registers h old new
-  registers ready ran =
+module _ (h : List ℕ) where
+  pub registers : Does INSERT_HOLDER.now (Text h ∷ []) (Registers h)
+  registers = does _ _ (Registers h) (λ old new ready ran.
       let put = puts_row 3 holder refl old new (Text h ∷ []) (lit Null ∷ col 0 0 ∷ lit (Int (pos 0)) ∷ lit (Int (pos 0)) ∷ []) 4 (holder_row h 0 0) put_holder_is refl (cast_holder h 0 0) ready ran in
       record {
         ready = put.ready;
@@ -112,30 +112,30 @@ module _ (h : List ℕ) (old new : State) where
         rows = turns_rows (λ o. o ≡ None) h (λ _. Some new_rows) holder_part (λ rows. holder_row h 0 0 ∷ rows) old.now new.now put.edits (put_local 0 h (holder_row h 0 0) refl) (λ o none. rw none (IsPermutation-refl _)) refl
             (inl refl, inr (refl, refl, λ o none. ap (part_rows holding_part h) none), inr (refl, refl, λ o none. ap (part_rows granted_part h) none), inr (refl, refl, λ o none. ap (part_rows claim_part h) none), inr (refl, refl, λ o none. ap (part_rows entry_part h) none))
             (λ rows have. turned_have_entries h (λ _. Some new_rows) rows have (λ r of. let same : new_rows ≡ r = cc in subst (λ (s : Rows). EachHasEntries s.auths) same tt));
-      }
+      })
 
   -- ---- holdings
 
-  pub puts_holding : (s : Span) → IsReady old → IsExecuted INSERT_HOLDING.now (holding_row h s) old new → EditsHolder h (with_holdings (s ∷ [])) old new
-  puts_holding s ready ran =
-      puts_edit 4 holding refl old new 3 holding_part.rows refl h (with_holdings (s ∷ [])) (λ r all. all) (holding_row h s) refl (λ r. appended (holding_row h) r.holdings s) (in_holdings h (λ r. r.holdings ++ s ∷ []))
-      (puts_row 4 holding refl old new (holding_row h s) (put_terms 4) 5 (holding_row h s) put_holding_is refl (cast_holding h s) ready ran)
+  pub puts_holding : (s : Span) → Does INSERT_HOLDING.now (holding_row h s) (EditsHolder h (with_holdings (s ∷ [])))
+  puts_holding s = does _ _ _ (λ old new ready ran.
+      puts_edit 4 holding refl 3 holding_part.rows refl h (with_holdings (s ∷ [])) (λ r all. all) (holding_row h s) refl (λ r. appended (holding_row h) r.holdings s) (in_holdings h (λ r. r.holdings ++ s ∷ [])) old new
+      (puts_row 4 holding refl old new (holding_row h s) (put_terms 4) 5 (holding_row h s) put_holding_is refl (cast_holding h s) ready ran))
 
-  pub takes_holding : (s : Span) → IsReady old → IsExecuted DELETE_HOLDING.now (holding_row h s) old new → EditsHolder h (without_holdings (s ∷ [])) old new
+  pub takes_holding : (s : Span) → Does DELETE_HOLDING.now (holding_row h s) (EditsHolder h (without_holdings (s ∷ [])))
   takes_holding s =
-      takes_edit 4 holding refl old new 3 holding_part.rows refl h (without_holdings (s ∷ [])) (λ r all. all) run_tests (is_run h s) (holding_row h s) (tests_run h s) (of_run h s)
+      takes_edit 4 holding refl 3 holding_part.rows refl h (without_holdings (s ∷ [])) (λ r all. all) run_tests (is_run h s) (holding_row h s) (tests_run h s) (of_run h s)
       take_holding_is (λ r. taken (is_run h s) (is_one_of (s ∷ [])) (holding_row h) (own_run h s) r.holdings) (in_holdings h (λ r. without_runs (s ∷ []) r.holdings)) refl refl
 
   -- ---- grants
 
-  pub puts_grant : (g : Granted) → IsReady old → IsExecuted INSERT_GRANT.now (granted_row h g) old new → EditsHolder h (with_grants (g ∷ [])) old new
-  puts_grant g ready ran =
-      puts_edit 5 granted refl old new 0 granted_part.rows refl h (with_grants (g ∷ [])) (λ r all. all) (granted_row h g) refl (λ r. appended (granted_row h) r.grants g) (in_grants h (λ r. r.grants ++ g ∷ []))
-      (puts_row 5 granted refl old new (granted_row h g) (put_terms 8) 9 (granted_row h g) put_granted_is (eight h g) (cast_granted h g) ready ran)
+  pub puts_grant : (g : Granted) → Does INSERT_GRANT.now (granted_row h g) (EditsHolder h (with_grants (g ∷ [])))
+  puts_grant g = does _ _ _ (λ old new ready ran.
+      puts_edit 5 granted refl 0 granted_part.rows refl h (with_grants (g ∷ [])) (λ r all. all) (granted_row h g) refl (λ r. appended (granted_row h) r.grants g) (in_grants h (λ r. r.grants ++ g ∷ [])) old new
+      (puts_row 5 granted refl old new (granted_row h g) (put_terms 8) 9 (granted_row h g) put_granted_is (eight h g) (cast_granted h g) ready ran))
 
-  pub takes_grant : (n : ℕ) → IsReady old → IsExecuted DELETE_GRANT.now (Text h ∷ number_cell n ∷ []) old new → EditsHolder h (edited (Revoke n)) old new
+  pub takes_grant : (n : ℕ) → Does DELETE_GRANT.now (Text h ∷ number_cell n ∷ []) (EditsHolder h (edited (Revoke n)))
   takes_grant n =
-      takes_edit 5 granted refl old new 0 granted_part.rows refl h (edited (Revoke n)) (λ r all. all) (equals 1 0 ∷ equals 2 1 ∷ []) (is_of h n) (Text h ∷ number_cell n ∷ []) (of_tests h n []) (of_holder h n)
+      takes_edit 5 granted refl 0 granted_part.rows refl h (edited (Revoke n)) (λ r all. all) (equals 1 0 ∷ equals 2 1 ∷ []) (is_of h n) (Text h ∷ number_cell n ∷ []) (of_tests h n []) (of_holder h n)
       take_granted_is (λ r. taken (is_of h n) (λ (g : Granted). g.number == n) (granted_row h) own r.grants) (in_grants h (λ r. filter (λ g. not (g.number == n)) r.grants)) refl refl
     where
       own : (g : Granted) → is_of h n (granted_row h g) ≡ (g.number == n)

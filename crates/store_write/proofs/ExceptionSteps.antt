@@ -1,5 +1,6 @@
 -- What the statements on the table of exceptions do, and what they do together.
-use Rattle.store_write.proofs.Vocabulary.{◌≡◌, ◌≢◌, ℕ, ◌+◌, ◌/◌, ◌<◌, true, not, List, [], ◌∷◌, ◌++◌, map, filter, flat_map, take, get_or, length, All, Result, Ok, Err, OnOk, refl, sym, ap, subst, ◌∙◌, arith, append-nil, IsPermutation, flat_map-append, length-take, map-append, recursion_from_All, IsPermutation-append_right, IsPermutation-trans, Database, value_rows, State, Null, Row, changed_rows, schema_row, operator_row, prefix_cells, exception_row, slurm, contents, is_table, holder_part, holding_part, granted_part, claim_part, entry_part, HoldsPart, HoldsFromOne, TablesHold, at_positions, file_rows, Edits, IsReady, IsExecuted, PutsRows, TakesRows, entry_rows, IsBounded, MakesChange, RowsBecome, cast_exception, put_terms, put_exception_is, take_exceptions_is, puts_then, has_schema, wrote, ready_still, puts_row, sound_still, taken_more}
+use Rattle.store_write.proofs.Vocabulary.{◌≡◌, ◌≢◌, ℕ, ◌+◌, ◌/◌, ◌<◌, true, not, List, [], ◌∷◌, ◌++◌, map, filter, flat_map, take, get_or, length, All, Result, Ok, Err, OnOk, refl, sym, ap, subst, ◌∙◌, arith, append-nil, IsPermutation, flat_map-append, length-take, map-append, recursion_from_All, IsPermutation-append_right, IsPermutation-trans, Database, value_rows, State, Null, Row, changed_rows, schema_row, operator_row, prefix_cells, exception_row, slurm, contents, is_table, holder_part, holding_part, granted_part, claim_part, entry_part, HoldsPart, HoldsFromOne, TablesHold, at_positions, file_rows, Edits, PutsRows, TakesRows, entry_rows, IsBounded, MakesChange, RowsBecome, cast_exception, put_terms, put_exception_is, take_exceptions_is, puts_then, has_schema, wrote, ready_still, puts_row, sound_still, taken_more}
+use Rattle.store_write.proofs.InTurn.{Does, does}
 use Rattle.registry.specs.declared.change.Change.TheVariants.{Exceptions as Replace}
 use Rattle.slurm.specs.SlurmSets.{RiseByName}
 use Rattle.slurm.specs.declared.filter.Filter.TheVariants.{Under, By, Both}
@@ -27,22 +28,22 @@ eight r = go r.exception
     go (FilterOf (Both p asn)) = refl
     go (Assertion v) = refl
 
-module _ (old new : State) where
-  pub takes_exceptions : IsReady old → IsExecuted DELETE_EXCEPTIONS.now [] old new → TakesRows slurm.tree old new
-  takes_exceptions ready ran =
-      let has = has_schema [] take_exceptions_is ready ran in
-      let w = wrote [] take_exceptions_is ready ran in
-      record {
-        was_open = ran.1.1.was_open;
-        ready = ready_still [] take_exceptions_is ready ran (deleting.applied 7 slurm refl refl old.now.schema [] old new _ [] ran.0 has w).2;
-        schema = (deleting.applied 7 slurm refl refl old.now.schema [] old new _ [] ran.0 has w).2 ∙ sym has;
-        sound = λ _. w.sound;
-        edits = λ whole. subst (λ by. Edits slurm.tree by old.now new.now) (λ i rows. none_left rows i)
-            (deleting.takes 7 slurm refl refl old.now.schema [] (λ c. true) old new _ [] ran.0 has (λ r. refl) whole w);
-      }
+pub takes_exceptions : Does DELETE_EXCEPTIONS.now [] (TakesRows slurm.tree)
+takes_exceptions = does _ _ (TakesRows slurm.tree) (λ old new ready ran.
+    let has = has_schema [] take_exceptions_is ready ran in
+    let w = wrote [] take_exceptions_is ready ran in
+    let kept = (deleting.applied 7 slurm refl refl old.now.schema [] old new _ [] ran.0 has w).2 in
+    record {
+      was_open = ran.1.1.was_open;
+      ready = ready_still [] take_exceptions_is ready ran kept;
+      schema = kept ∙ sym has;
+      sound = λ _. w.sound;
+      edits = λ whole. subst (λ by. Edits slurm.tree by old.now new.now) (λ i rows. none_left rows i)
+          (deleting.takes 7 slurm refl refl old.now.schema [] (λ c. true) old new _ [] ran.0 has (λ r. refl) whole w);
+    })
 
-  pub puts_exception : (r : ExceptionRow) → IsReady old → IsExecuted INSERT_EXCEPTION.now (exception_row r) old new → PutsRows slurm.tree (exception_row r ∷ []) old new
-  puts_exception r = puts_row 7 slurm refl old new (exception_row r) (put_terms 8) 9 (exception_row r) put_exception_is (eight r) (cast_exception r)
+pub puts_exception : (r : ExceptionRow) → Does INSERT_EXCEPTION.now (exception_row r) (PutsRows slurm.tree (exception_row r ∷ []))
+puts_exception r = does _ _ _ (λ old new. puts_row 7 slurm refl old new (exception_row r) (put_terms 8) 9 (exception_row r) put_exception_is (eight r) (cast_exception r))
 
 -- ---- entries of one kind of a file, one after another
 

@@ -1,3 +1,4 @@
+mod InTurn
 mod PartSteps
 pub mod StepLemmas
 mod EditSteps

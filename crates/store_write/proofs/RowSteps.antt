@@ -5,6 +5,7 @@ use Rattle.sqlite.specs.declared.transaction.Transaction.{Transaction}
 use Rattle.sqlite.specs.Store.{Ghosts}
 use Rattle.sqlite_trees.specs.Tree.{Trees}
 use Rattle.registry.specs.History.{same_name}
+use Rattle.registry.specs.declared.change.Change.{Change}
 use Rattle.registry.specs.declared.change.Edit.{Edit}
 use Rattle.registry.proofs.Names.{same_name-true}
 
@@ -62,6 +63,11 @@ module _ (h : List ℕ) where
     rows = edits_as (λ r. g (f r)) e a.now c.now same (edits_then f g a.now b.now c.now first.rows second.rows);
   }
 
+-- an edit by one more of a list of values
+pub done_more : {X : Type 0} (h : List ℕ) (by : List X → Rows → Rows) (e : Rows → Rows) (before : List X) (x : X) (now : List X) (a b c : State) → now ≡ before ++ x ∷ [] → ((r : Rows) → e (by before r) ≡ by (before ++ x ∷ []) r)
+    → EditsHolder h (by before) a b → EditsHolder h e b c → EditsHolder h (by now) a c
+done_more h by e before x now a b c is same = done_then h (by before) e (by now) a b c (λ r. same r ∙ ap (λ xs. by xs r) (sym is))
+
 -- rows without some, and then without others
 filter_both : {X Y : Type 0} (test : X → Y → Bool) (ys zs : List Y) (xs : List X)
     → filter (λ x. not (list_any (test x) zs)) (filter (λ x. not (list_any (test x) ys)) xs) ≡ filter (λ x. not (list_any (test x) (ys ++ zs))) xs
@@ -94,11 +100,6 @@ module _ {S : Type 0} (g : Ghosts S) where
   done_after r h f e to a b c same stay first second clean =
       on_ok_weaker r (done_then h f e to (state_in g a) (state_in g b) (state_in g c) same (first (omega (arith, stay.survives.clean)))) (second clean)
 
--- an answer changes nothing before what follows it
-after_answer : (h : List ℕ) (is_there : Bool) (a b : State) → AnswersWhetherRegistered h is_there a b → (charter : CharterSets) (rows : AllRows) (new : Trees)
-    → KeepsExceptions charter rows b.now.trees new → KeepsExceptions charter rows a.now.trees new
-after_answer h is_there a b answers charter rows new kept = record { held = kept.held; exceptions = kept.exceptions ∙ ap (λ (d : Database). d.trees slurm.tree) answers.same }
-
 -- ---- a change
 
 module _ (h : List ℕ) (edit : Edit) where
@@ -117,24 +118,33 @@ module _ (h : List ℕ) (edit : Edit) where
   some_edited None some = absurd cc
   some_edited (Some r) some = refl
 
-  pub turned_registered : (is_there : Bool) (a b c : State) → AnswersWhetherRegistered h is_there a b → is_there ≡ true → EditsHolder h (edited edit) b c → MakesChange (HoldersBecome edited_at) a c
-  turned_registered is_there a b c answers is done = record {
+  -- What follows an answer turns the rows of the holder into what the edit makes of them. It is told what was answered.
+  turned_after : (to : Option Rows → Option Rows) (is_there : Bool) (a b c : State) → AnswersWhetherRegistered h is_there a b → IsReady c → c.now.schema ≡ b.now.schema → (IsDatabase b.now → IsDatabase c.now)
+      → ((charter : CharterSets) (rows : AllRows) → TablesHold charter rows b.now.trees → is_there ≡ is_some (rows.of_holder h)
+      → KeepsExceptions charter (at_holder h to rows) b.now.trees c.now.trees × (to (rows.of_holder h) ≡ edited_if_any edit (rows.of_holder h)))
+      → MakesChange (HoldersBecome edited_at) a c
+  turned_after to is_there a b c answers ready schema sound turned = record {
     was_open = answers.was_open;
-    ready = done.ready;
-    schema = done.schema ∙ ap (λ (d : Database). d.schema) answers.same;
-    sound = λ sound. done.sound (subst IsDatabase (sym answers.same) sound);
+    ready = ready;
+    schema = schema ∙ ap (λ (d : Database). d.schema) answers.same;
+    sound = λ was. sound (subst IsDatabase (sym answers.same) was);
     made = λ charter rows was.
-        let some : IsSome (rows.of_holder h) = sym (answers.answer charter rows was) ∙ is in
         let after : AllRows = edited_at rows in
-        kept_rows charter (at_holder h (option_map (edited edit)) rows) after.of_holder a.now.trees c.now.trees (at_name (option_map (edited edit)) rows.of_holder (some_edited (rows.of_holder h) some))
-        (after_answer h is_there a b answers charter (at_holder h (option_map (edited edit)) rows) c.now.trees (done.rows charter rows (subst (λ (d : Database). TablesHold charter rows d.trees) (sym answers.same) was) some));
+        let it = turned charter rows (subst (λ (d : Database). TablesHold charter rows d.trees) (sym answers.same) was) (answers.answer charter rows was) in
+        let exceptions = it.0.exceptions ∙ ap (λ (d : Database). d.trees slurm.tree) answers.same in
+        kept_rows charter (at_holder h to rows) after.of_holder a.now.trees c.now.trees (at_name to rows.of_holder it.1) (record { held = it.0.held; exceptions = exceptions });
   }
 
-  none_there : (o : Option Rows) → is_some o ≡ false → o ≡ None
-  none_there None is = refl
-  none_there (Some r) is = absurd cc
+  pub turned_registered : (is_there : Bool) (a b c : State) → AnswersWhetherRegistered h is_there a b → is_there ≡ true → EditsHolder h (edited edit) b c → MakesChange (HoldersBecome edited_at) a c
+  turned_registered is_there a b c answers is done =
+      turned_after (option_map (edited edit)) is_there a b c answers done.ready done.schema done.sound
+      (λ charter rows was answer. let some : IsSome (rows.of_holder h) = sym answer ∙ is in (done.rows charter rows was some, some_edited (rows.of_holder h) some))
 
-  from_none : (e : Edit) → edited_if_any e None ≡ (if is_registration e then Some new_rows else None)
+  none_there : (o : Option Rows) (is_there : Bool) → is_there ≡ is_some o → is_there ≡ false → o ≡ None
+  none_there None is_there answer is = refl
+  none_there (Some r) is_there answer is = absurd cc
+
+  from_none : (e : Edit) → (if is_registration e then Some new_rows else None) ≡ edited_if_any e None
   from_none Register = refl
   from_none (Hold removed added ended) = refl
   from_none (Grant g) = refl
@@ -145,30 +155,17 @@ module _ (h : List ℕ) (edit : Edit) where
   from_none (Withdraw n) = refl
 
   pub turned_new : (is_there : Bool) (a b c : State) → AnswersWhetherRegistered h is_there a b → is_there ≡ false → is_registration edit ≡ true → Registers h b c → MakesChange (HoldersBecome edited_at) a c
-  turned_new is_there a b c answers is registers done = record {
-    was_open = answers.was_open;
-    ready = done.ready;
-    schema = done.schema ∙ ap (λ (d : Database). d.schema) answers.same;
-    sound = λ sound. done.sound (subst IsDatabase (sym answers.same) sound);
-    made = λ charter rows was.
-        let none = none_there (rows.of_holder h) (sym (answers.answer charter rows was) ∙ is) in
-        let after : AllRows = edited_at rows in
-        kept_rows charter (at_holder h (λ _. Some new_rows) rows) after.of_holder a.now.trees c.now.trees (at_name (λ _. Some new_rows) rows.of_holder (sym (from_none edit ∙ cond-true _ _ _ registers) ∙ ap (edited_if_any edit) (sym none)))
-        (after_answer h is_there a b answers charter (at_holder h (λ _. Some new_rows) rows) c.now.trees (done.rows charter rows (subst (λ (d : Database). TablesHold charter rows d.trees) (sym answers.same) was) none));
-  }
+  turned_new is_there a b c answers is registers done =
+      turned_after (λ _. Some new_rows) is_there a b c answers done.ready done.schema done.sound
+      (λ charter rows was answer. let none = none_there (rows.of_holder h) is_there answer is in (done.rows charter rows was none, sym (cond-true _ _ _ registers) ∙ from_none edit ∙ ap (edited_if_any edit) (sym none)))
 
   pub turned_none : (is_there : Bool) (a b : State) → AnswersWhetherRegistered h is_there a b → is_there ≡ false → is_registration edit ≡ false → MakesChange (HoldersBecome edited_at) a b
-  turned_none is_there a b answers is leaves = record {
-    was_open = answers.was_open;
-    ready = answers.ready;
-    schema = ap (λ (d : Database). d.schema) answers.same;
-    sound = subst IsDatabase (sym answers.same);
-    made = λ charter rows was.
-        let none = none_there (rows.of_holder h) (sym (answers.answer charter rows was) ∙ is) in
-        let after : AllRows = edited_at rows in
-        kept_rows charter rows after.of_holder a.now.trees b.now.trees (λ k. kept (same_name h k) (rows.of_holder k) ∙ at_name (λ o. o) rows.of_holder (none ∙ sym (from_none edit ∙ cond-false _ _ _ leaves) ∙ ap (edited_if_any edit) (sym none)) k)
-        (record { held = subst (λ (d : Database). TablesHold charter rows d.trees) (sym answers.same) was; exceptions = ap (λ (d : Database). d.trees slurm.tree) answers.same });
-  }
+  turned_none is_there a b answers is leaves = turned_after (λ o. o) is_there a b b answers answers.ready refl (λ sound. sound) (λ charter rows was answer.
+      let same : AllRows = at_holder h (λ o. o) rows in
+      let none = none_there (rows.of_holder h) is_there answer is in (
+        kept_rows charter rows same.of_holder b.now.trees b.now.trees (λ k. kept (same_name h k) (rows.of_holder k)) (record { held = was; exceptions = refl }),
+        none ∙ sym (cond-false _ _ _ leaves) ∙ from_none edit ∙ ap (edited_if_any edit) (sym none),
+      ))
     where
       kept : (b : Bool) (o : Option Rows) → o ≡ cond b o o
       kept true o = refl
@@ -187,12 +184,11 @@ turned_then f g a b c first second = record {
 }
 
 -- rows of holders that became those of the change
-pub holders_changed : (first : HolderChange) (second : Option HolderChange) (a b : State) → MakesChange (HoldersBecome (changed_rows (Holders first second))) a b
-    → MakesChange (RowsBecome (Holders first second)) a b
-holders_changed first second a b turned = record {
+pub holders_changed : (change : Change) (first : HolderChange) (second : Option HolderChange) (a b : State) → change ≡ Holders first second → MakesChange (HoldersBecome (changed_rows (Holders first second))) a b → MakesChange (RowsBecome change) a b
+holders_changed change first second a b is turned = subst (λ (c : Change). MakesChange (RowsBecome c) a b) (sym is) (record {
   was_open = turned.was_open;
   ready = turned.ready;
   schema = turned.schema;
   sound = turned.sound;
   made = λ charter rows was. let it = turned.made charter rows was in (it.held, it.exceptions);
-}
+})

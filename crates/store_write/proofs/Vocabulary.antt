@@ -47,10 +47,10 @@ pub use Rattle.store_tables.specs.declared.entry.TheConstants.{DELETE_ENTRIES, I
 pub use Rattle.store_tables.specs.declared.holder.TheConstants.{INSERT_HOLDER, SELECT_COUNTERS, UPDATE_CREATED, UPDATE_GRANTED}
 pub use Rattle.store_tables.specs.steps.Edits.{Edits}
 pub use Rattle.store_transactions.proofs.PutLemmas.{puts_then}
-pub use Rattle.store_transactions.proofs.QueryLemmas.{answered_inside, kept_inside, reads_desk, shown_open}
+pub use Rattle.store_transactions.proofs.QueryLemmas.{reads_desk}
 pub use Rattle.store_transactions.proofs.StatementLemmas.{has_schema, means, puts_row, ready_still, sound_still, stays, stays_then, taken_more, wrote}
 pub use Rattle.store_transactions.specs.Laws.{ClaimsDiffer, number_columns}
-pub use Rattle.store_transactions.specs.Statements.{IfDone, IsExecuted, IsReady, StaysInside, state_in}
+pub use Rattle.store_transactions.specs.Statements.{IfDone, IsExecuted, IsReady, OnCleanDisk, StaysInside, state_in}
 pub use Rattle.store_transactions.specs.steps.Statements.{PutsRows}
 pub use Rattle.store_write.specs.Changes.{MakesChange, RowChange, RowsBecome}
 pub use Rattle.store_write.specs.steps.RowEdits.{is_registration, with_auths, with_created, with_granted, with_grants, with_holdings, with_new_auths, with_replaced_holdings, without_auths, without_holdings}

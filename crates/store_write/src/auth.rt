@@ -25,6 +25,7 @@ use store_tables::{
 use store_transactions::execute;
 
 /// Puts an authorization without its entries.
+#[tactic(auto, using(crate::proofs::AuthSteps::puts_claim))]
 fn put_claim<S: Alter>(
     tx: &mut Transaction<'_, S>,
     holder: &Name,
@@ -39,6 +40,7 @@ fn put_claim<S: Alter>(
 }
 
 /// Puts an entry of an authorization.
+#[tactic(auto, using(crate::proofs::AuthSteps::puts_entry))]
 fn put_entry<S: Alter>(
     tx: &mut Transaction<'_, S>,
     holder: &Name,

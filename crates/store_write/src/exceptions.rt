@@ -58,6 +58,7 @@ fn take_exceptions<S: Alter>(tx: &mut Transaction<'_, S>) -> Result<(), Error>
 }
 
 /// Puts an exception.
+#[tactic(auto, using(crate::proofs::ExceptionSteps::puts_exception))]
 fn put_exception<S: Alter>(tx: &mut Transaction<'_, S>, row: &ExceptionRow) -> Result<(), Error>
     requires { OnCleanDisk S.Store IsReady tx.old }
     ensures done { IfDone S.Store result

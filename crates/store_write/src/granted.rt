@@ -24,6 +24,7 @@ impl HolderRow for Granted {
     ghost one_more_added = { λ xs x r i.
         record r { grants = append_assoc r.grants xs (x ∷ []) i } };
 
+    #[tactic(auto, using(crate::proofs::EditSteps::puts_grant))]
     fn put<S: Alter>(&self, tx: &mut Transaction<'_, S>, holder: &Name) -> Result<(), Error> {
         let first = address_bytes(scope_first(&self.scope));
         execute(tx, INSERT_GRANT, &granted_values(holder, self, &first))
@@ -31,6 +32,7 @@ impl HolderRow for Granted {
 }
 
 /// Deletes the grant of this number, if there is one.
+#[tactic(auto, using(crate::proofs::EditSteps::takes_grant))]
 pub(crate) fn take_grant<S: Alter>(
     tx: &mut Transaction<'_, S>,
     holder: &Name,

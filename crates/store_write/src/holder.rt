@@ -8,9 +8,10 @@ use sqlite::{Alter, Error, Transaction};
 use store_tables::{
     INSERT_HOLDER, SELECT_COUNTERS, UPDATE_CREATED, UPDATE_GRANTED, name_values, number_values,
 };
-use store_transactions::execute;
+use store_transactions::{ask_inside, execute};
 
 /// Sets how many grants were made at the holder.
+#[tactic(auto, using(crate::proofs::EditSteps::sets_granted))]
 pub(crate) fn set_granted<S: Alter>(
     tx: &mut Transaction<'_, S>,
     holder: &Name,
@@ -24,6 +25,7 @@ pub(crate) fn set_granted<S: Alter>(
 }
 
 /// Sets how many authorizations were made at the holder.
+#[tactic(auto, using(crate::proofs::EditSteps::sets_created))]
 pub(crate) fn set_created<S: Alter>(
     tx: &mut Transaction<'_, S>,
     holder: &Name,
@@ -46,11 +48,12 @@ pub(crate) fn is_registered<S: Alter>(
         (AnswersWhetherRegistered holder.now) tx.old tx.new }
     ensures inside { StaysInside S.Store tx.old tx.new }
 {
-    let found = tx.query_all(SELECT_COUNTERS, &name_values(holder))?;
+    let found = ask_inside(tx, SELECT_COUNTERS, &name_values(holder))?;
     Ok(!found.is_empty())
 }
 
 /// Registers a holder that is not registered.
+#[tactic(auto, using(crate::proofs::EditSteps::registers))]
 pub(crate) fn register<S: Alter>(tx: &mut Transaction<'_, S>, holder: &Name) -> Result<(), Error>
     requires { OnCleanDisk S.Store IsReady tx.old }
     ensures done { IfDone S.Store result (Registers holder.now) tx.old tx.new }

@@ -19,6 +19,7 @@ impl HolderRow for Span {
     ghost one_more_added = { λ xs x r i.
         record r { holdings = append_assoc r.holdings xs (x ∷ []) i } };
 
+    #[tactic(auto, using(crate::proofs::EditSteps::puts_holding))]
     fn put<S: Alter>(&self, tx: &mut Transaction<'_, S>, holder: &Name) -> Result<(), Error> {
         let first = address_bytes(self.lo);
         let last = address_bytes(self.hi);
@@ -31,6 +32,7 @@ impl HolderRow for Span {
 }
 
 /// Deletes a run of addresses, if the holder holds it.
+#[tactic(auto, using(crate::proofs::EditSteps::takes_holding))]
 fn take_holding<S: Alter>(
     tx: &mut Transaction<'_, S>,
     holder: &Name,

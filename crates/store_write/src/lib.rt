@@ -1,5 +1,5 @@
 //! What a change does to the tables, statement by statement within a transaction.
-#![tactic(auto)]
+#![tactic(auto, using(store_transactions::proofs::StatementLemmas::stays_then))]
 
 mod auth;
 mod change;

@@ -1,4 +1,4 @@
-use Rattle.store_write.proofs.Vocabulary.{arith, on_ok_weaker, stays_then}
+use Rattle.store_write.proofs.Vocabulary.{arith, on_ok_weaker}
 use Rattle.store_write.proofs.AmendSteps.{ready_then, amends_none, amends_one}
 use Rattle.store_write.proofs.auth.amend_auth.Goals as goal
 
@@ -28,6 +28,3 @@ returns-clause-done g c clean =
     let put = rw (c.claim_of-claim.ensures, c.as_slice-entries.ensures.items) at (c.put_entries.ensures.done clean) in
     on_ok_weaker c.put_entries.result
     (amends_one c.args.holder.now c.args.auth.now _ _ _ c.in_ok-amended.amended ready first second (record { number = c.as_slice-entries.ensures.number; rising = c.as_slice-entries.ensures.rising }) c.claims_differ.ensures (λ none. absurd (omega (arith, none, c.if-amended-eq0.false))) _) put
-
-pub returns-clause-inside : goal.returns-clause-inside
-returns-clause-inside g c = stays_then g.S.Store _ _ _ (stays_then g.S.Store _ _ _ c.execute.ensures.inside c.execute_counting.ensures.inside) c.put_entries.ensures.inside

@@ -1,4 +1,4 @@
-use Rattle.store_write.proofs.Vocabulary.{arith, on_ok_weaker, stays_then}
+use Rattle.store_write.proofs.Vocabulary.{arith, on_ok_weaker}
 use Rattle.store_write.proofs.AuthSteps.{takes_auth}
 use Rattle.store_write.proofs.auth.take_auth.Goals as goal
 
@@ -9,6 +9,3 @@ returns-clause-done g c clean =
     let first = rw c.number_values.ensures at (c.in_ok-execute.ensures.ran (omega (arith, last))) in
     let second = rw c.number_values-2.ensures at (c.execute-2.ensures.ran clean) in
     on_ok_weaker c.execute-2.result (takes_auth c.args.holder.now c.args.number _ _ _ ready first) second
-
-pub returns-clause-inside : goal.returns-clause-inside
-returns-clause-inside g c = stays_then g.S.Store _ _ _ c.execute.ensures.inside c.execute-2.ensures.inside

@@ -1,4 +1,4 @@
-use Rattle.store_write.proofs.Vocabulary.{refl, with_auths, with_created, with_new_auths, stays_then}
+use Rattle.store_write.proofs.Vocabulary.{refl, with_auths, with_created, with_new_auths}
 use Rattle.store_write.proofs.RowSteps.{done_after}
 use Rattle.store_write.proofs.change.put_new_auths.Goals as goal
 
@@ -7,6 +7,3 @@ returns-clause-done g c =
     let xs = c.args.auths.now in
     let made = c.args.created in
     done_after g.S.Store c.set_created.result c.args.holder.now (with_auths xs) (with_created made) (with_new_auths xs made) c.args.tx.now _ _ (λ r. refl) c.set_created.ensures.inside c.in_ok-put_rows.ensures.done c.set_created.ensures.done
-
-pub returns-clause-inside : goal.returns-clause-inside
-returns-clause-inside g c = stays_then g.S.Store _ _ _ c.put_rows.ensures.inside c.set_created.ensures.inside

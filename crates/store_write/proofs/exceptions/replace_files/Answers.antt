@@ -1,4 +1,4 @@
-use Rattle.store_write.proofs.Vocabulary.{arith, state_in, stays_then}
+use Rattle.store_write.proofs.Vocabulary.{arith, state_in}
 use Rattle.store_write.proofs.ExceptionSteps.{replaced}
 use Rattle.store_write.proofs.exceptions.replace_files.Goals as goal
 
@@ -8,6 +8,3 @@ returns-clause-done g c clean =
     let put = rw c.files.ensures.files at (c.put_files.ensures.done clean) in
     let bounded = rw c.files.ensures.files at c.put_files.ensures.bounded in
     replaced c.put_files.result c.args.files.now _ _ (state_in g.S.Store c.put_files.new.tx) c.files.ensures.rising taken put bounded
-
-pub returns-clause-inside : goal.returns-clause-inside
-returns-clause-inside g c = stays_then g.S.Store _ _ _ c.take_exceptions.ensures.inside c.put_files.ensures.inside

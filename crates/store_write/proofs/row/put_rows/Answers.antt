@@ -1,5 +1,6 @@
-use Rattle.store_write.proofs.Vocabulary.{arith, ap, sym, ◌∙◌, [], ◌∷◌, take, ◌+◌, state_in, taken_more, stays, stays_then}
-use Rattle.store_write.proofs.RowSteps.{done_none, done_then}
+use Rattle.store_write.proofs.Vocabulary.{arith, [], ◌∷◌, take, ◌+◌, state_in, taken_more, stays}
+use Rattle.store_write.proofs.InTurn.{one_more}
+use Rattle.store_write.proofs.RowSteps.{done_none, done_more}
 use Rattle.store_write.proofs.row.put_rows.Goals as goal
 
 pub loop-row-init : goal.loop-row-init
@@ -12,9 +13,5 @@ loop-row-preserved g c =
     let xs = c.args.rows.now in
     let i = c.loop-row.row-index in
     let x = c.row-item.result in
-    let more = taken_more xs i x (omega arith) c.row-item.is in
-    let inside = c.put.ensures.inside in (
-      stays_then g.S.Store _ _ _ c.loop-row.invariant.0 inside,
-      λ clean. done_then c.args.holder.now (added (take i xs)) (added (x ∷ [])) (added (take (i + 1) xs)) _ _ _
-          (λ r. g.met.T.HolderRow.one_more_added (take i xs) x r ∙ ap (λ l. added l r) (sym more)) (c.loop-row.invariant.1 (omega (arith, inside.survives.clean))) (c.in_ok-put.ensures.done clean),
-    )
+    one_more g.S.Store (done_more c.args.holder.now added (added (x ∷ [])) (take i xs) x (take (i + 1) xs) _ _ _ (taken_more xs i x (omega arith) c.row-item.is) (g.met.T.HolderRow.one_more_added (take i xs) x))
+    c.loop-row.invariant c.put.ensures.inside c.in_ok-put.ensures.done
