@@ -171,6 +171,10 @@ module _ (h : List ℕ) (edit : Edit) where
       kept true o = refl
       kept false o = refl
 
+-- an edit by what is the same
+pub edited_same : (h : List ℕ) (e f : Edit) (a b : State) → e ≡ f → EditsHolder h (edited f) a b → EditsHolder h (edited e) a b
+edited_same h e f a b is = subst (λ edit. EditsHolder h (edited edit) a b) (sym is)
+
 pub turned_then : (f g : RowChange) (a b c : State) → MakesChange (HoldersBecome f) a b → MakesChange (HoldersBecome g) b c → MakesChange (HoldersBecome (λ rows. g (f rows))) a c
 turned_then f g a b c first second = record {
   was_open = first.was_open;

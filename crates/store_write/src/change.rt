@@ -69,6 +69,7 @@ fn replace_holdings<S: Alter>(
 }
 
 /// Edits the rows of a registered holder. It cannot be registered again.
+#[tactic(auto, using(crate::proofs::RowSteps::edited_same))]
 fn edit_rows<S: Alter>(
     tx: &mut Transaction<'_, S>,
     holder: &Name,
