@@ -51,15 +51,12 @@ module _ (db : Database) (rows : List Row) (answered : AnswersSelect SELECT_ENTR
   answers : Reads (Select (record { lets = []; body = from_table 19 [] (shown_at entry_places) key_order no_limit }) titles) db [] rows
   answers = subst (λ (k : Command). Reads k db [] rows) (entries_by_key_is.is db.schema) answered
 
-  shown_firsts : (c : Row) → first_columns 7 (columns entry_places c) ≡ columns entry_places c
-  shown_firsts c = refl
-
   found_by_key : IsPermutation (shown_entries db) (map (first_columns 7) rows)
   found_by_key =
       let tree = db.trees entry.tree in
       let every : filter (picks [] []) tree ≡ tree = filter_all (picks [] []) tree (all_of (λ r. picks [] [] r ≡ true) (λ r. refl) tree) in
       let all = subst (λ l. IsPermutation l rows) ((λ i. map (λ r. shown_columns entry_places [] r i) (every i)) ∙ sym (map-map (columns entry_places) (λ (r : Row). drop 1 r) tree)) (permuted 19 [] (shown_at entry_places) key_order db.trees [] rows (answers.answer Null)) in
-      subst (λ l. IsPermutation l (map (first_columns 7) rows)) (map-map (first_columns 7) (columns entry_places) (contents tree) ∙ (λ i. map (λ c. shown_firsts c i) (contents tree))) (IsPermutation-map (first_columns 7) _ _ all)
+      subst (λ l. IsPermutation l (map (first_columns 7) rows)) (map-map (first_columns 7) (columns entry_places) (contents tree)) (IsPermutation-map (first_columns 7) _ _ all)
 
   sorted_by_key : IsSorted by_key rows
   sorted_by_key = sorted 19 [] (shown_at entry_places) key_order db.trees [] rows (6 ∷ 0 ∷ 2 ∷ 3 ∷ 4 ∷ []) by_key (λ r. refl) ranked (answers.answer Null)

@@ -165,12 +165,6 @@ module _ (db : Database) (sound : IsSound db.schema db.trees) (tables : db.schem
 
 -- ---- the rows of what was read
 
-claim_back : (c : Row) → length c ≡ 5 → columns (4 ∷ 0 ∷ 1 ∷ 2 ∷ 3 ∷ []) (columns claim_places c) ≡ c
-claim_back c count = sym (all_columns 5 c count)
-
-entry_back : (c : Row) → length c ≡ 7 → columns (6 ∷ 0 ∷ 1 ∷ 2 ∷ 3 ∷ 4 ∷ 5 ∷ []) (columns entry_places c) ≡ c
-entry_back c count = sym (all_columns 7 c count)
-
 -- the rows of a table are those that values show, where each row is what its columns are, put back
 put_back :
     {X : Type 0} (count : ℕ) (places back : List ℕ) → ((c : Row) → length c ≡ count → columns back (columns places c) ≡ c)
@@ -192,14 +186,14 @@ module _ (db : Database) (tables : db.schema.tables ≡ desk_tables) (sound : Is
   made_claims : IsPermutation (map row_of_claim auths) (contents (db.trees claim.tree))
   made_claims =
       let widths = all-map (λ c. length c ≡ 5) (drop 1) (db.trees claim.tree) (all_whole db.schema db.trees tables sound claim at_claim refl 4 (required_column (codes "ends") Integer) refl refl refl) in
-      let rows = put_back 5 claim_places (4 ∷ 0 ∷ 1 ∷ 2 ∷ 3 ∷ []) claim_back show_claim shown.claims (contents (db.trees claim.tree)) widths shown.claims_read.same in
+      let rows = put_back 5 claim_places (4 ∷ 0 ∷ 1 ∷ 2 ∷ 3 ∷ []) (λ c count. sym (all_columns 5 c count)) show_claim shown.claims (contents (db.trees claim.tree)) widths shown.claims_read.same in
       subst (λ l. IsPermutation l (contents (db.trees claim.tree)))
       (ap (map (λ (x : OfHolder Claim). claim_row x.holder x.row)) (sym shown.made.same_claims) ∙ map-map (λ (x : OfHolder Claim). claim_row x.holder x.row) named_claim auths) rows
 
   made_entries : IsPermutation (flat_map rows_of_entries auths) (contents (db.trees entry.tree))
   made_entries =
       let widths = all-map (λ c. length c ≡ 7) (drop 1) (db.trees entry.tree) (all_whole db.schema db.trees tables sound entry at_entry refl 6 (required_column (codes "max") Integer) refl refl refl) in
-      let rows = put_back 7 entry_places (6 ∷ 0 ∷ 1 ∷ 2 ∷ 3 ∷ 4 ∷ 5 ∷ []) entry_back show_entry shown.entries (contents (db.trees entry.tree)) widths shown.entries_read.same in
+      let rows = put_back 7 entry_places (6 ∷ 0 ∷ 1 ∷ 2 ∷ 3 ∷ 4 ∷ 5 ∷ []) (λ c count. sym (all_columns 7 c count)) show_entry shown.entries (contents (db.trees entry.tree)) widths shown.entries_read.same in
       let shows : OfHolder EntryRow → Row = λ x. entry_row x.holder x.row in
       subst (λ l. IsPermutation l (contents (db.trees entry.tree)))
       (ap (map shows) (sym shown.made.same_entries) ∙ map-flat_map shows named_entries auths ∙ flat_map_same_on _ _ (λ x. map-map shows _ (entry_rows_of x.row)) auths) rows
