@@ -1,39 +1,24 @@
 -- The rows of a charter file, one after the other.
-use Rattle.std.proofs.Common.{◌≡◌, ◌+◌, ℕ, suc, List, [], ◌∷◌, ◌++◌, length, map, Option, Some, None, Bool, true, false, not, cond, refl, sym, ap, subst, ◌∙◌, append_assoc, arith, length-append, nat_eq}
-use Rattle.std.specs.Prelude.{◌||◌}
-use Rattle.std.proofs.lemmas.Bool.{or_parts, or_from, not-true, not-false}
+use Rattle.cli_texts.proofs.Vocabulary.{◌≡◌, ◌+◌, ℕ, suc, List, [], ◌∷◌, ◌++◌, length, map, Option, Some, None, Bool, true, false, not, cond, refl, sym, ap, subst, ◌∙◌, append_assoc, arith, length-append, nat_eq, ◌||◌, or_parts, or_from, not-true, not-false, map-append, bytes_eq-Decides, bytes_eq, Spells, Spells_unique, faultless-Spells, Prefix, charter_fault, charter_row, fault_of_pair, first_charter_fault, kind_and_value_fault, kind_of, operators_in, pool_in, pool_kind, is_noted, same_row, value_of, HoldsRows, RecordFields, at_row, IsReported, fields_eq, two_of, prefix_text, CharterRow, RowFault}
 use Rattle.std.proofs.lemmas.Option.{same_Some}
 use Rattle.std.proofs.Math.Bool.{and-true}
-use Rattle.std.proofs.lemmas.List.{map-append}
 use Rattle.std.proofs.lemmas.List.Folds.{list_any-append}
 use Rattle.std.proofs.lemmas.Map.Text.{is_eq-slice_cmp}
-use Rattle.std.proofs.lemmas.Slice.Eq.{bytes_eq-Decides}
 use Rattle.std.specs.BTreeMap.{is_at}
 use Rattle.std.specs.BTreeSet.{contains}
 use Rattle.std.specs.Cmp.{both_ways}
 use Rattle.std.specs.Cmp.Lexicographic.{pointwise, slice_cmp}
 use Rattle.std.specs.Ordering.{nat_cmp}
 use Rattle.std.specs.List.{list_any}
-use Rattle.std.specs.Str.{bytes_eq}
 use Rattle.addr.specs.Address.{prefix_eq}
-use Rattle.addr.specs.PrefixText.{Spells}
 use Rattle.addr.proofs.Equality.{equal_prefix, prefix_itself}
-use Rattle.addr.proofs.PrefixSpellingLemmas.{Spells_unique, faultless-Spells}
-use Rattle.addr.specs.declared.prefix.Prefix.{Prefix}
 use Rattle.addr.specs.Order.{prefix_cmp}
 use Rattle.addr.specs.steps.TotalOrders.{prefix_ties}
 use Rattle.registry.specs.Repeats.{has_repeat}
-use Rattle.cli_texts.specs.CharterFile.{charter_fault, charter_row, fault_of_pair, first_charter_fault, kind_and_value_fault, kind_of, operators_in, pool_in, pool_kind, is_noted, same_row, value_of, HoldsRows}
-use Rattle.csv_records.specs.Fields.{RecordFields}
-use Rattle.cli_texts.specs.CsvRows.{at_row, IsReported}
-use Rattle.csv_records.specs.Fields.{fields_eq, two_of}
-use Rattle.csv_records.specs.Lines.{prefix_text}
-use Rattle.cli_texts.specs.declared.charter_file.CharterRow.{CharterRow}
 use Rattle.cli_texts.specs.declared.charter_file.CharterRow.TheVariants.{Operator, Pool}
 use Rattle.cli_texts.specs.declared.charter_file.CharterRows.{CharterRows}
 use Rattle.cli_texts.specs.declared.fault.FileFault.{FileFault}
 use Rattle.cli_texts.specs.declared.fault.FileFault.TheVariants as file
-use Rattle.cli_texts.specs.declared.fault.RowFault.{RowFault}
 use Rattle.cli_texts.specs.declared.fault.RowFault.TheVariants as row
 
 -- ---- prefixes and their texts

@@ -1,9 +1,5 @@
 -- Two files with no fault.
-use Rattle.std.proofs.Common.{◌≡◌, ℕ, List, None, refl}
-use Rattle.cli_texts.specs.Check.{check_fault}
-use Rattle.csv_records.specs.CsvRecords.{csv_records}
-use Rattle.cli_texts.specs.CsvRows.{file_fault, payload_fault, route_fault, route_header}
-use Rattle.csv_records.specs.Lines.{payload_header}
+use Rattle.cli_texts.proofs.Vocabulary.{◌≡◌, ℕ, List, None, refl, check_fault, csv_records, file_fault, payload_fault, route_fault, route_header, payload_header}
 
 pub faultless-check : (payloads routes : List ℕ)
     → file_fault payload_header payload_fault (csv_records payloads) ≡ None

@@ -4,3 +4,4 @@ pub mod RowLemmas
 pub mod CharterSteps
 pub mod WordsSteps
 pub mod LineSteps
+pub mod Vocabulary

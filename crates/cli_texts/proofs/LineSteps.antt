@@ -1,16 +1,8 @@
 -- Lines of a check: one more row that is in the file, and texts that are written in pieces.
-use Rattle.std.proofs.Common.{◌≡◌, ◌≤◌, ◌<◌, ◌+◌, ℕ, List, [], ◌∷◌, ◌++◌, length, take, drop, true, get_or, refl, sym, ap, ◌∙◌, append_assoc, add-one, drop-cons}
-use Rattle.std.specs.Prelude.{slice_range, Option, Some, None, IfSome, MatchOption}
-use Rattle.std.specs.Borrow.{Bor}
-use Rattle.std.specs.Str.{bytes_eq}
-use Rattle.std.proofs.lemmas.List.{append-nil, take-append-drop}
-use Rattle.std.proofs.lemmas.Slice.Eq.{bytes_eq-Decides}
-use Rattle.addr.specs.OriginValidation.{state_text}
-use Rattle.payload.specs.ValidityState.{state_of}
+use Rattle.cli_texts.proofs.Vocabulary.{◌≡◌, ◌≤◌, ◌<◌, ◌+◌, ℕ, List, [], ◌∷◌, ◌++◌, length, take, drop, true, get_or, refl, sym, ap, ◌∙◌, append_assoc, add-one, drop-cons, slice_range, Option, Some, None, IfSome, MatchOption, Bor, bytes_eq, append-nil, take-append-drop, bytes_eq-Decides, state_text, state_of, after_rows, row_line, rows_text, WritesBeginning, RowsLieIn}
 use Rattle.payload.specs.declared.validity.Validity.{Validity}
 use Rattle.payload.specs.declared.validity.Validity.TheVariants.{Valid}
 use Rattle.streams.specs.Streams.{AppendsBeginning}
-use Rattle.cli_texts.specs.steps.StateLines.{after_rows, row_line, rows_text, WritesBeginning, RowsLieIn}
 use Rattle.cli_texts.specs.declared.state_lines.JudgedRow.{JudgedRow}
 
 -- ---- one more row

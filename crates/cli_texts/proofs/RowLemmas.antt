@@ -1,17 +1,10 @@
 -- Rows of CSV files.
-use Rattle.std.proofs.Common.{◌≡◌, ◌<◌, inl, inr, ℕ, List, [], ◌∷◌, Option, Some, None, refl, arith}
-use Rattle.std.proofs.lemmas.Bool.{cases_Bool}
+use Rattle.cli_texts.proofs.Vocabulary.{◌≡◌, ◌<◌, inl, inr, ℕ, List, [], ◌∷◌, Option, Some, None, refl, arith, cases_Bool, Spells, Prefix, loose-spelling, faultless-Spells, RecordFields, fields_eq, rows_after, header_fault, length_and_width, decimal_between, payload_texts_fault, origin_fault, route_texts_fault, RowFault}
 use Rattle.addr.specs.Family.{width}
-use Rattle.addr.specs.PrefixText.{Spells}
 use Rattle.addr.specs.Digits.{asn_in}
-use Rattle.addr.specs.declared.prefix.Prefix.{Prefix}
 use Rattle.addr.proofs.AddressLemmas.{first_below, width_small}
-use Rattle.addr.proofs.PrefixSpellingLemmas.{loose-spelling, faultless-Spells}
 use Rattle.csv_records.proofs.FieldLemmas.{header-there}
-use Rattle.csv_records.specs.Fields.{RecordFields, fields_eq, rows_after}
-use Rattle.cli_texts.specs.CsvRows.{header_fault, length_and_width, number_between, payload_texts_fault, origin_fault, route_texts_fault}
 use Rattle.cli_texts.specs.declared.fault.FileFault.TheVariants as file
-use Rattle.cli_texts.specs.declared.fault.RowFault.{RowFault}
 use Rattle.cli_texts.specs.declared.fault.RowFault.TheVariants as row
 
 -- ---- headers
@@ -39,12 +32,12 @@ prefix_short p = let small = width_small p.family in let fits = p.length_fits in
 pub length_and_width-Spells : (p : Prefix) (text : List ℕ) → Spells p text → length_and_width text ≡ Some (p.length, width p.family)
 length_and_width-Spells p text spelled = rw (spelled, loose-spelling p.family p.first p.length (first_below p) (prefix_short p)) refl
 
-pub faultless_payload : (asn prefix max : List ℕ) (n m : ℕ) (p : Prefix) → Some n ≡ asn_in asn → Spells p prefix → Some m ≡ number_between p.length (width p.family) max
+pub faultless_payload : (asn prefix max : List ℕ) (n m : ℕ) (p : Prefix) → Some n ≡ asn_in asn → Spells p prefix → Some m ≡ decimal_between p.length (width p.family) max
     → payload_texts_fault asn prefix max ≡ None
 faultless_payload asn prefix max n m p a s l =
     rw (← a, faultless-Spells p prefix s, length_and_width-Spells p prefix s, ← l) refl
 
-pub payload_length_fault : (asn prefix max : List ℕ) (n : ℕ) (p : Prefix) → Some n ≡ asn_in asn → Spells p prefix → None ≡ number_between p.length (width p.family) max
+pub payload_length_fault : (asn prefix max : List ℕ) (n : ℕ) (p : Prefix) → Some n ≡ asn_in asn → Spells p prefix → None ≡ decimal_between p.length (width p.family) max
     → payload_texts_fault asn prefix max ≡ Some row.Length
 payload_length_fault asn prefix max n p a s l =
     rw (← a, faultless-Spells p prefix s, length_and_width-Spells p prefix s, ← l) refl

@@ -1,14 +1,6 @@
 -- One more route, and the line of its state.
-use Rattle.std.proofs.Common.{◌≡◌, ◌+◌, ℕ, List, [], ◌∷◌, ◌++◌, map, None, refl, sym, ap, ◌∙◌, append_assoc}
-use Rattle.std.proofs.lemmas.List.{append-nil, map-append}
-use Rattle.addr.specs.OriginValidation.{ValidationState, validation_state}
-use Rattle.addr.specs.declared.route.Route.{Route}
+use Rattle.cli_texts.proofs.Vocabulary.{◌≡◌, ◌+◌, ℕ, List, [], ◌∷◌, ◌++◌, map, None, refl, sym, ap, ◌∙◌, append_assoc, append-nil, map-append, ValidationState, validation_state, Route, state_text, state_line, state_lines, RecordFields, first_fault, origin_text, route_fault, route_row, prefix_text}
 use Rattle.payload.specs.VrpSet as set
-use Rattle.addr.specs.OriginValidation.{state_text}
-use Rattle.cli_texts.specs.Check.{state_line, state_lines}
-use Rattle.csv_records.specs.Fields.{RecordFields}
-use Rattle.cli_texts.specs.CsvRows.{first_fault, origin_text, route_fault, route_row}
-use Rattle.csv_records.specs.Lines.{prefix_text}
 
 pub routes_more : (all left rest : List RecordFields) (row : RecordFields) (routes : List Route) (r : Route)
     → all ≡ map route_row routes ++ left → left ≡ row ∷ rest → row ≡ route_row r

@@ -1,9 +1,6 @@
 -- The words of a slice pattern, and the forms that its literals test.
-use Rattle.std.proofs.Common.{◌≡◌, ◌≢◌, ◌<◌, ◌≤◌, ◌∙◌, ◌+◌, ℕ, zero, suc, List, [], ◌∷◌, length, map, slice_index_or, codes, refl, ap, sym, arith}
+use Rattle.cli_texts.proofs.Vocabulary.{◌≡◌, ◌≢◌, ◌<◌, ◌≤◌, ◌∙◌, ◌+◌, ℕ, zero, suc, List, [], ◌∷◌, length, map, slice_index_or, codes, refl, ap, sym, arith, length-map, Bor, Err}
 use Rattle.std.proofs.Math.ListN.{get_or-map}
-use Rattle.std.proofs.lemmas.List.{length-map}
-use Rattle.std.specs.Borrow.{Bor}
-use Rattle.std.specs.Prelude.{Err}
 use Rattle.cli_texts.specs.Words.{AreOf, AreReadAs, LackDay, serve_words}
 use Rattle.cli_texts.specs.declared.words.Task.{Task}
 use Rattle.cli_texts.specs.declared.words.Task.TheVariants.{Script, Init, Serve, Check, Help}

@@ -57,8 +57,8 @@ abbrev pub prefix_fault : List ℕ → Option RowFault
 prefix_fault text = option_map row.Prefix (prefix_text_fault text)
 
 -- the number from low to high that a text writes
-abbrev pub number_between : ℕ → ℕ → List ℕ → Option ℕ
-number_between low high text =
+abbrev pub decimal_between : ℕ → ℕ → List ℕ → Option ℕ
+decimal_between low high text =
     option_and_then (λ n. if nat_le low n && nat_le n high then Some n else None) (number_in text)
 
 -- the length of the prefix that a text writes, and the width of its family
@@ -68,7 +68,7 @@ length_and_width text = option_map (λ parts. (parts.length, width parts.family)
 -- the maxLength of a prefix: from its length to the width of its family
 abbrev pub length_fault : Option (ℕ × ℕ) → List ℕ → Option RowFault
 length_fault None max = None
-length_fault (Some bounds) max = fault_if_none (number_between bounds.0 bounds.1 max) row.Length
+length_fault (Some bounds) max = fault_if_none (decimal_between bounds.0 bounds.1 max) row.Length
 
 abbrev pub payload_texts_fault : List ℕ → List ℕ → List ℕ → Option RowFault
 payload_texts_fault asn prefix max =

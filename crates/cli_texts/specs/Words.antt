@@ -6,7 +6,7 @@
 --   help
 use Rattle.std.specs.Prelude.{◌≡◌, ℕ, List, [], ◌∷◌, Option, Some, IsSome, IsNone, Result, Ok, Err, codes}
 use Rattle.addr.specs.Day.{day_in}
-use Rattle.cli_texts.specs.CsvRows.{number_between}
+use Rattle.cli_texts.specs.CsvRows.{decimal_between}
 use Rattle.cli_texts.specs.declared.words.Task.{Task}
 use Rattle.cli_texts.specs.declared.words.Task.TheVariants.{Script, Init, Serve, Check, Help}
 use Rattle.cli_texts.specs.declared.words.TheConstants.{CONNECTION_LIMIT}
@@ -15,7 +15,7 @@ use Rattle.cli_texts.specs.declared.words.WordsFault.TheVariants.{Words, Day}
 
 -- the count of connections that a text writes
 abbrev pub count_in : List ℕ → Option ℕ
-count_in text = number_between 1 CONNECTION_LIMIT text
+count_in text = decimal_between 1 CONNECTION_LIMIT text
 
 -- the words of `serve`, whose count and day are any texts
 abbrev pub serve_words : (database address count day : List ℕ) → List (List ℕ)

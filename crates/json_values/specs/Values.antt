@@ -28,8 +28,8 @@ asn_of n = if nat_lt n (2 ^ 32) then Some (record { 0 = n }) else None
 abbrev pub as_asn : Data → Option Asn
 as_asn d = option_and_then asn_of (whole_number d)
 
-abbrev pub number_in : ℕ → ℕ → ℕ → Option ℕ
-number_in least most n = if nat_le least n && nat_le n most then Some n else None
+abbrev pub number_between : ℕ → ℕ → ℕ → Option ℕ
+number_between least most n = if nat_le least n && nat_le n most then Some n else None
 
 abbrev pub as_number_in : ℕ → ℕ → Data → Option ℕ
-as_number_in least most d = option_and_then (number_in least most) (whole_number d)
+as_number_in least most d = option_and_then (number_between least most) (whole_number d)

@@ -3,13 +3,13 @@
 use Rattle.std.specs.Prelude.{ℕ, List, [], ◌∷◌, ◌++◌, map, Option, Some, None, is_some, option_and_then}
 use Rattle.std.specs.List.{flat_map}
 use Rattle.std.specs.Option.{option_to_list}
-use Rattle.addr.specs.Digits.{number_in as number_text}
+use Rattle.addr.specs.Digits.{number_in}
 use Rattle.addr.specs.Name.{name_in}
 use Rattle.registry.specs.declared.limits.TheConstants.{LAST_NUMBER}
 use Rattle.serde_json.specs.Data.{Data, null}
 use Rattle.json_values.specs.Faults.{fault_unless}
 use Rattle.json_values.specs.Tree.{tree_of}
-use Rattle.json_values.specs.Values.{number_in}
+use Rattle.json_values.specs.Values.{number_between}
 use Rattle.requests.specs.RequestHeads.{Head}
 use Rattle.requests.specs.declared.action.Action.{Action}
 use Rattle.requests.specs.declared.action.Action.TheVariants.{Import, Slurm}
@@ -23,7 +23,7 @@ use Rattle.requests.specs.declared.request.fault.Fault.TheVariants.{Json, Member
 
 -- the number of a grant or an authorization, in decimal digits without leading zeros
 abbrev pub path_number : List ℕ → Option ℕ
-path_number text = option_and_then (number_in 1 LAST_NUMBER) (number_text text)
+path_number text = option_and_then (number_between 1 LAST_NUMBER) (number_in text)
 
 -- the name in the one field of the caller
 abbrev pub head_caller : Head → Option (List ℕ)

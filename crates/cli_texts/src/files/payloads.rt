@@ -4,7 +4,7 @@ ghost use Rattle.csv.specs.Records.{fields_of};
 ghost use Rattle.addr.specs.Address.{FitsMaxLength};
 ghost use Rattle.addr.specs.Family.{width};
 ghost use Rattle.csv_records.specs.CsvRecords.{csv_records, records_left, IsReading};
-ghost use Rattle.cli_texts.specs.CsvRows.{file_fault, first_fault, number_between, payload_fault, payload_texts_fault, IsReported};
+ghost use Rattle.cli_texts.specs.CsvRows.{file_fault, first_fault, decimal_between, payload_fault, payload_texts_fault, IsReported};
 ghost use Rattle.csv_records.specs.Lines.{payload_header, payload_row};
 
 use super::after_header;
@@ -81,7 +81,7 @@ fn read_texts(asn: &[u8], prefix: &[u8], max: &[u8]) -> Result<Vrp, RowFault>
 }
 
 fn read_max_length(prefix: &Prefix, text: &[u8]) -> Option<u8>
-    ensures value { result ≡ number_between prefix.now.length (width prefix.now.family) text.now }
+    ensures value { result ≡ decimal_between prefix.now.length (width prefix.now.family) text.now }
     ensures exact { IfSome result (λ max. text.now ≡ decimal max) }
     ensures range { IfSome result (λ max. FitsMaxLength prefix.now max) }
 {

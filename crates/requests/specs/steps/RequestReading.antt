@@ -98,8 +98,8 @@ holder_member = member_in as_name Holder
 abbrev pub caller_member : List ℕ → Data → Result (List ℕ) Fault
 caller_member = member_in as_name Caller
 
-abbrev pub prefix_member : Data → Result Prefix Fault
-prefix_member = member_in as_prefix PrefixFault (codes "prefix")
+abbrev pub asked_prefix : Data → Result Prefix Fault
+asked_prefix = member_in as_prefix PrefixFault (codes "prefix")
 
 abbrev pub max_member : Data → Result ℕ Fault
 max_member = member_in as_max Max (codes "max")
@@ -175,7 +175,7 @@ chosen has_one has_other one other = Err Members
 
 abbrev pub entry_members_in : Data → Result RoaPrefix Fault
 entry_members_in d =
-    of_two (λ prefix max. record { prefix = prefix; max = max }) (prefix_member d) (max_member d)
+    of_two (λ prefix max. record { prefix = prefix; max = max }) (asked_prefix d) (max_member d)
 
 abbrev pub entry_in : Data → Result RoaPrefix Fault
 entry_in d = with_only (names_of entry_members) d (entry_members_in d)
@@ -273,7 +273,7 @@ abbrev pub route_in : Data → Result Route Fault
 route_in d =
     with_only (names_of route_members) d
     (of_two (λ prefix origin. record { prefix = prefix; origin = origin })
-    (prefix_member d) (member_in as_origin Asn (codes "origin") d))
+    (asked_prefix d) (member_in as_origin Asn (codes "origin") d))
 
 abbrev pub row_list_in : Data → Result (List ImportRow) Fault
 row_list_in = items_in row_in 1 MOST_ITEMS (codes "rows")
@@ -305,11 +305,11 @@ grant_terms_in d =
 
 abbrev pub request_in : Action → Subject → Data → Result RequestTerms Fault
 request_in AskRegister subject d = mapped (λ named. request (CommandRequest (Register named))) subject.holder
-request_in AskDelegate subject d = command_of Delegate subject.holder (prefix_member d)
+request_in AskDelegate subject d = command_of Delegate subject.holder (asked_prefix d)
 request_in AskTransfer subject d =
     of_three (λ prefix giver taker. request (CommandRequest (Transfer prefix giver taker)))
-    (prefix_member d) (holder_member (codes "giver") d) (holder_member (codes "taker") d)
-request_in AskReclaim subject d = command_of Reclaim subject.holder (prefix_member d)
+    (asked_prefix d) (holder_member (codes "giver") d) (holder_member (codes "taker") d)
+request_in AskReclaim subject d = command_of Reclaim subject.holder (asked_prefix d)
 request_in AskGrant subject d = command_of Grant subject.holder (grant_terms_in d)
 request_in AskRevoke subject d = command_of Revoke subject.holder subject.number
 request_in AskCreate subject d = command_of Create subject.holder (terms_in d)

@@ -4,7 +4,7 @@ ghost use Rattle.serde_json.specs.View.{view};
 ghost use Rattle.json_values.specs.Values.{as_asn, as_name};
 ghost use Rattle.requests.specs.RequestFaults.{role_at};
 ghost use Rattle.requests.specs.RequestValues.{any_scope, as_max, as_number, as_origin, as_role, as_scope, fitting_scope, role_of};
-ghost use Rattle.requests.specs.steps.RequestReading.{caller_member, day_member, holder_member, max_member, member_in, number_member, prefix_member};
+ghost use Rattle.requests.specs.steps.RequestReading.{asked_prefix, caller_member, day_member, holder_member, max_member, member_in, number_member};
 
 use super::fault::Fault;
 use crate::member_names::{ASN, MAX, NAME, NUMBER, ORIGIN, PREFIX, ROLE, SCOPE};
@@ -109,7 +109,7 @@ pub(crate) fn file_name_in(value: &Value) -> Result<Name, Fault>
 }
 
 pub(crate) fn prefix_in(value: &Value) -> Result<Prefix, Fault>
-    ensures { result ≡ prefix_member (view value.now) }
+    ensures { result ≡ asked_prefix (view value.now) }
 {
     as_prefix(member(value, PREFIX)?).ok_or(Fault::Prefix)
 }

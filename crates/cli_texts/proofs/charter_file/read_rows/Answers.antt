@@ -1,6 +1,5 @@
-use Rattle.std.proofs.Common.{◌++◌, ◌∷◌, [], ◌∙◌}
+use Rattle.cli_texts.proofs.Vocabulary.{◌++◌, ◌∷◌, [], ◌∙◌, current, records_left}
 use Rattle.std.proofs.lemmas.Result.{err_from_is_err_and}
-use Rattle.csv_records.specs.CsvRecords.{current, records_left}
 use Rattle.cli_texts.proofs.CharterSteps.{rows_more, first_more, reported-first}
 use Rattle.cli_texts.proofs.charter_file.read_rows.Goals as goal
 

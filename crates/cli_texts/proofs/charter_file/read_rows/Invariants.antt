@@ -1,7 +1,4 @@
-use Rattle.std.proofs.Common.{◌≡◌, ◌++◌, List, [], map, length}
-use Rattle.cli_texts.specs.CharterFile.{charter_row, first_charter_fault, HoldsRows}
-use Rattle.csv_records.specs.CsvRecords.{records_left, IsReading}
-use Rattle.cli_texts.specs.declared.charter_file.CharterRow.{CharterRow}
+use Rattle.cli_texts.proofs.Vocabulary.{◌≡◌, ◌++◌, List, [], map, length, charter_row, first_charter_fault, HoldsRows, records_left, IsReading, CharterRow}
 use Rattle.cli_texts.proofs.charter_file.read_rows.Given as goal
 
 abbrev pub invariant-loop-rows : goal.invariant-loop-rows

@@ -1,4 +1,4 @@
-use Rattle.std.proofs.Common.{refl}
+use Rattle.cli_texts.proofs.Vocabulary.{refl}
 use Rattle.cli_texts.proofs.CharterSteps.{pool_value}
 use Rattle.cli_texts.proofs.charter_file.read_texts.Goals as goal
 

@@ -1,5 +1,5 @@
 use Rattle.cli_texts.proofs.CheckLemmas.{faultless-check}
-use Rattle.cli_texts.specs.steps.StateLines.{lines_text}
+use Rattle.cli_texts.proofs.Vocabulary.{lines_text}
 use Rattle.cli_texts.proofs.check.check_routes.Goals as goal
 
 pub returns-clause-ok : goal.returns-clause-ok

@@ -1,7 +1,4 @@
-use Rattle.std.proofs.Common.{◌++◌, ◌∷◌, [], ◌∙◌, arith}
-use Rattle.payload.specs.ValidityState.{state_of}
-use Rattle.csv_records.specs.CsvRecords.{current, records_left}
-use Rattle.cli_texts.specs.steps.StateLines.{lines_text}
+use Rattle.cli_texts.proofs.Vocabulary.{◌++◌, ◌∷◌, [], ◌∙◌, arith, state_of, current, records_left, lines_text}
 use Rattle.cli_texts.proofs.StateSteps.{routes_more, line_more, first_route_more}
 use Rattle.cli_texts.proofs.check.push_rows.Goals as goal
 

@@ -1,9 +1,4 @@
-use Rattle.std.proofs.Common.{◌≡◌, ◌+◌, ◌≤◌, ◌++◌, List, map, length}
-use Rattle.addr.specs.declared.route.Route.{Route}
-use Rattle.cli_texts.specs.Check.{state_lines}
-use Rattle.cli_texts.specs.steps.StateLines.{lines_text, rows_kept, Stands}
-use Rattle.csv_records.specs.CsvRecords.{records_left, IsReading}
-use Rattle.cli_texts.specs.CsvRows.{first_fault, route_fault, route_row}
+use Rattle.cli_texts.proofs.Vocabulary.{◌≡◌, ◌+◌, ◌≤◌, ◌++◌, List, map, length, Route, state_lines, lines_text, rows_kept, Stands, records_left, IsReading, first_fault, route_fault, route_row}
 use Rattle.cli_texts.proofs.check.push_rows.Given as goal
 
 abbrev pub invariant-loop-records : goal.invariant-loop-records

@@ -1,9 +1,4 @@
-use Rattle.std.proofs.Common.{◌++◌, ◌∷◌, []}
-use Rattle.std.specs.Prelude.{slice_range}
-use Rattle.addr.specs.OriginValidation.{state_text}
-use Rattle.csv.proofs.RecordFacts.{on_err-map}
-use Rattle.payload.specs.ValidityState.{state_of}
-use Rattle.streams.proofs.StreamLemmas.{on-err}
+use Rattle.cli_texts.proofs.Vocabulary.{◌++◌, ◌∷◌, [], slice_range, state_text, on_err-map, state_of, on-err}
 use Rattle.cli_texts.proofs.LineSteps.{broken-first, broken-then}
 use Rattle.cli_texts.proofs.state_lines.add_row.Goals as goal
 

@@ -1,7 +1,4 @@
-use Rattle.std.proofs.Common.{◌+◌, ◌++◌, ◌∙◌, drop, length, take, ◌-◌, ◌≡◌, get_or, ap, sym, subst, append_assoc}
-use Rattle.std.proofs.lemmas.List.{take_rest}
-use Rattle.streams.proofs.StreamLemmas.{on-err}
-use Rattle.cli_texts.specs.steps.StateLines.{row_line, rows_text, RowsLieIn}
+use Rattle.cli_texts.proofs.Vocabulary.{◌+◌, ◌++◌, ◌∙◌, drop, length, take, ◌-◌, ◌≡◌, get_or, ap, sym, subst, append_assoc, take_rest, on-err, row_line, rows_text, RowsLieIn}
 use Rattle.cli_texts.proofs.LineSteps.{broken-first, broken-then, fits-next, no_row, passes-then, text-next}
 use Rattle.cli_texts.proofs.state_lines.add_rows.Goals as goal
 

@@ -1,5 +1,4 @@
-use Rattle.std.proofs.Common.{◌≡◌, ◌++◌, ℕ, List, drop}
-use Rattle.cli_texts.specs.steps.StateLines.{rows_text, WritesBeginning, RowsLieIn}
+use Rattle.cli_texts.proofs.Vocabulary.{◌≡◌, ◌++◌, ℕ, List, drop, rows_text, WritesBeginning, RowsLieIn}
 use Rattle.cli_texts.proofs.state_lines.add_rows.Given as goal
 
 abbrev pub invariant-loop-row : goal.invariant-loop-row

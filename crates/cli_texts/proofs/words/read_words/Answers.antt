@@ -1,4 +1,4 @@
-use Rattle.std.proofs.Common.{rules}
+use Rattle.cli_texts.proofs.Vocabulary.{rules}
 use Rattle.cli_texts.proofs.WordsSteps.{of_init, of_none, of_serve}
 use Rattle.cli_texts.proofs.words.read_words.Goals as goal
 

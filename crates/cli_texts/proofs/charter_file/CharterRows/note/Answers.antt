@@ -1,4 +1,4 @@
-use Rattle.std.proofs.Common.{refl}
+use Rattle.cli_texts.proofs.Vocabulary.{refl}
 use Rattle.cli_texts.proofs.CharterSteps.{noted-operator, noted-pool}
 use Rattle.cli_texts.proofs.charter_file.CharterRows.note.Goals as goal
 

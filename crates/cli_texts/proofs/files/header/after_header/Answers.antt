@@ -1,6 +1,4 @@
-use Rattle.std.proofs.Common.{sym}
-use Rattle.csv_records.specs.CsvRecords.{csv_records, records_left}
-use Rattle.csv_records.specs.Fields.{texts_of}
+use Rattle.cli_texts.proofs.Vocabulary.{sym, csv_records, records_left, texts_of}
 use Rattle.cli_texts.proofs.RowLemmas.{header-found, header-missing}
 use Rattle.cli_texts.proofs.files.header.after_header.Goals as goal
 

@@ -1,7 +1,4 @@
-use Rattle.std.proofs.Common.{◌≡◌, ◌+◌, ◌++◌, map, length}
-use Rattle.csv_records.specs.CsvRecords.{records_left, IsReading}
-use Rattle.cli_texts.specs.CsvRows.{first_fault, payload_fault}
-use Rattle.csv_records.specs.Lines.{payload_row}
+use Rattle.cli_texts.proofs.Vocabulary.{◌≡◌, ◌+◌, ◌++◌, map, length, records_left, IsReading, first_fault, payload_fault, payload_row}
 use Rattle.cli_texts.proofs.files.payloads.read_rows.Given as goal
 
 abbrev pub invariant-loop-vrps : goal.invariant-loop-vrps

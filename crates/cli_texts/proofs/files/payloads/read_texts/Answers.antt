@@ -1,4 +1,4 @@
-use Rattle.std.proofs.Common.{refl}
+use Rattle.cli_texts.proofs.Vocabulary.{refl}
 use Rattle.cli_texts.proofs.RowLemmas.{faultless_payload, payload_length_fault}
 use Rattle.cli_texts.proofs.files.payloads.read_texts.Goals as goal
 

@@ -1,4 +1,4 @@
-use Rattle.std.proofs.Common.{refl, Some, None}
+use Rattle.cli_texts.proofs.Vocabulary.{refl, Some, None}
 use Rattle.cli_texts.proofs.RowLemmas.{route_texts_fault-Spells}
 use Rattle.cli_texts.specs.declared.fault.RowFault.TheVariants as row_fault
 use Rattle.cli_texts.proofs.files.routes.read_texts.Goals as goal

@@ -1,5 +1,4 @@
-use Rattle.std.proofs.Common.{rules}
-use Rattle.std.proofs.lemmas.List.{nil_from_length, take_rest}
+use Rattle.cli_texts.proofs.Vocabulary.{rules, nil_from_length, take_rest}
 use Rattle.cli_texts.proofs.LineSteps.{fits-more, lines-more, rest-more}
 use Rattle.cli_texts.proofs.state_lines.StateLines.push.Goals as goal
 

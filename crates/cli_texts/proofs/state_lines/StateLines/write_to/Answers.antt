@@ -1,7 +1,4 @@
-use Rattle.std.proofs.Common.{[]}
-use Rattle.csv.proofs.RecordFacts.{on_err-map}
-use Rattle.streams.proofs.StreamLemmas.{on-err}
-use Rattle.cli_texts.specs.steps.StateLines.{rows_text}
+use Rattle.cli_texts.proofs.Vocabulary.{[], on_err-map, on-err, rows_text}
 use Rattle.cli_texts.proofs.LineSteps.{broken-first, broken-then, passes-sent}
 use Rattle.cli_texts.proofs.state_lines.StateLines.write_to.Goals as goal
 
