@@ -9,7 +9,7 @@ ghost use Rattle.store_open.specs.OldTablesRead.{OldTablesRead};
 ghost use Rattle.store_transactions.specs.Queries.{IsClean};
 ghost use Rattle.store_open.specs.steps.Found.{HasFound};
 ghost use Rattle.store_open.specs.steps.Moving.{MovesDesk};
-ghost use Rattle.store_open.specs.steps.Reading.{Refuses};
+ghost use Rattle.store_open.specs.steps.Reading.{RefusesIn};
 
 use crate::found::{Found, find_tables};
 use crate::reading::{read_inside, read_number, read_tables};
@@ -47,7 +47,7 @@ fn move_desk<S: Alter>(
     ensures moved { IfAnswered S.Store result
         (λ charter old. MovesDesk charter old.now.trees) tx.old tx.new }
     ensures inside { StaysInside S.Store tx.old tx.new }
-    ensures schema { Refuses S.Store tx.old.conn.now tx.new.conn.now result
+    ensures schema { RefusesIn S.Store tx.old.conn.now tx.new.conn.now result
         (λ db. ¬ OldTablesRead db.trees) }
 {
     widen_tables(tx, has_index)?;
@@ -73,7 +73,7 @@ fn open_old<S: Alter>(
     ensures err { IfRolledBack S.Store result conn.old conn.new }
     ensures crash { IsClean S.Store conn.new
         → LeavesOldOrMoved (state S.Store conn.old) (state S.Store conn.new) }
-    ensures unread { Refuses S.Store conn.old conn.new result (λ db. ¬ OldTablesRead db.trees) }
+    ensures unread { RefusesIn S.Store conn.old conn.new result (λ db. ¬ OldTablesRead db.trees) }
 {
     // For the proof: its contract says that outside a transaction all that is shown is committed.
     let _idle = conn.is_autocommit();

@@ -19,7 +19,7 @@ ghost use Rattle.store_tables.proofs.GroupOrder.{claim_cmp, claim_orders, entry_
 ghost use Rattle.store_transactions.specs.Statements.{state_in, IsReady, OnCleanDisk};
 ghost use Rattle.store_open.specs.TablesRead.{TablesRead};
 ghost use Rattle.store_open.specs.steps.Numbered.{AreRead, AscendByNumber, SelectsAll, shown_in};
-ghost use Rattle.store_open.specs.steps.Reading.{EachShows, Finds, FindsThat, HasTree, Refuses, RefusesUnread};
+ghost use Rattle.store_open.specs.steps.Reading.{EachShows, FindsIn, FindsThat, HasTree, RefusesIn, RefusesUnread};
 ghost use Rattle.store_transactions.specs.steps.Statements.{AnswersSelect};
 ghost use Rattle.store_open.specs.steps.Joining.{MakeOfTable, MakeNoneOfTable};
 ghost use Rattle.store_open.specs.steps.Keys.{AreOfAll, AreOfSome, ClaimsInOrder, ClaimsRead};
@@ -79,7 +79,7 @@ fn ask_all<S: Alter>(tx: &mut Transaction<'_, S>, sql: &str) -> Result<Vec<Row>,
     requires plain { OverDesk (λ s. IsPlain (understood s sql.now)) }
     requires unlisted { OverDesk (λ s. reads_listing s sql.now ≡ false) }
     ensures asked { IsAskedInside S.Store tx.old tx.new result }
-    ensures answered { Finds S.Store tx.old.conn.now tx.new.conn.now result (λ rows db.
+    ensures answered { FindsIn S.Store tx.old.conn.now tx.new.conn.now result (λ rows db.
         AnswersSelect sql.now db rows.items) }
     ensures rise { IfOk result (λ rows. AscendByNumber rows.items) }
     ensures no_schema { result ≢ Err StoreFault.Schema }
@@ -99,9 +99,9 @@ fn read_table<T: InTable, S: Alter>(
     requires { OnCleanDisk S.Store IsReady tx.old }
     ensures asked { IsAskedInside S.Store tx.old tx.new result }
     ensures tree { FindsThat S.Store tx.old.conn.now tx.new.conn.now result (HasTree T.tree) }
-    ensures read { Finds S.Store tx.old.conn.now tx.new.conn.now result (λ values db.
+    ensures read { FindsIn S.Store tx.old.conn.now tx.new.conn.now result (λ values db.
         AreRead T.cells T.fits (shown_in T.tree T.places db) values.items) }
-    ensures schema { Refuses S.Store tx.old.conn.now tx.new.conn.now result
+    ensures schema { RefusesIn S.Store tx.old.conn.now tx.new.conn.now result
         (λ db. ¬ EachShows T.cells T.fits T.tree T.places db) }
     ensures unread { RefusesUnread S.Store tx.old.conn.now tx.new.conn.now result }
 {
@@ -117,11 +117,11 @@ fn read_in_order<T: InOrder, S: Alter>(
     requires { OnCleanDisk S.Store IsReady tx.old }
     ensures asked { IsAskedInside S.Store tx.old tx.new result }
     ensures tree { FindsThat S.Store tx.old.conn.now tx.new.conn.now result (HasTree T.tree) }
-    ensures read { Finds S.Store tx.old.conn.now tx.new.conn.now result (λ values db.
+    ensures read { FindsIn S.Store tx.old.conn.now tx.new.conn.now result (λ values db.
         AreRead T.cells T.fits (shown_in T.tree T.places db) values.items) }
     ensures sorted { HasCleanDisk (state_in S.Store tx.new)
         → IfOk result (λ values. IsSorted T.order values.items) }
-    ensures schema { Refuses S.Store tx.old.conn.now tx.new.conn.now result
+    ensures schema { RefusesIn S.Store tx.old.conn.now tx.new.conn.now result
         (λ db. ¬ EachShows T.cells T.fits T.tree T.places db) }
     ensures unread { RefusesUnread S.Store tx.old.conn.now tx.new.conn.now result }
 {
@@ -154,9 +154,9 @@ fn collect_claims<S: Alter>(
     requires { IsReadyToAsk S.Store conn.old }
     ensures asked { IsAsked S.Store conn.old conn.new result }
     ensures tree { FindsThat S.Store conn.old conn.new result (HasTree claim.tree) }
-    ensures read { Finds S.Store conn.old conn.new result (λ keys db.
+    ensures read { FindsIn S.Store conn.old conn.new result (λ keys db.
         AreOfSome (ClaimsRead db) keys.items) }
-    ensures schema { Refuses S.Store conn.old conn.new result (λ db.
+    ensures schema { RefusesIn S.Store conn.old conn.new result (λ db.
         ¬ EachShows show_claim (NamedFits ClaimFits) claim.tree claim_places db) }
 {
     let count = ask_number(conn, COUNT_CLAIMS)?;
@@ -176,9 +176,9 @@ fn collect_in_order<S: Alter>(
     requires { IsReadyToAsk S.Store conn.old }
     ensures asked { IsAsked S.Store conn.old conn.new result }
     ensures tree { FindsThat S.Store conn.old conn.new result (HasTree claim.tree) }
-    ensures read { Finds S.Store conn.old conn.new result (λ keys db.
+    ensures read { FindsIn S.Store conn.old conn.new result (λ keys db.
         AreOfSome (ClaimsInOrder db) keys.items) }
-    ensures schema { Refuses S.Store conn.old conn.new result (λ db.
+    ensures schema { RefusesIn S.Store conn.old conn.new result (λ db.
         ¬ EachShows show_claim (NamedFits ClaimFits) claim.tree claim_places db) }
 {
     let mut keys = collect_claims(conn, alloc)?;
@@ -331,7 +331,7 @@ pub(crate) fn read_number<S: Alter>(
     ensures asked { IsAskedInside S.Store tx.old tx.new result }
     ensures found { FindsThat S.Store tx.old.conn.now tx.new.conn.now result
         (ShowsNumber is_old) }
-    ensures schema { Refuses S.Store tx.old.conn.now tx.new.conn.now result
+    ensures schema { RefusesIn S.Store tx.old.conn.now tx.new.conn.now result
         (λ db. ¬ HasNumber is_old db.trees) }
 {
     let rows = ask_all(tx, SELECT_SCHEMA)?;
@@ -354,7 +354,7 @@ fn make_charter(operators: Vec<Name>, pool: Vec<Prefix>) -> Result<Charter, Stor
 fn read_charter<S: Alter>(tx: &mut Transaction<'_, S>, alloc: Global) -> Result<Charter, StoreFault>
     requires { OnCleanDisk S.Store IsReady tx.old }
     ensures asked { IsAskedInside S.Store tx.old tx.new result }
-    ensures found { Finds S.Store tx.old.conn.now tx.new.conn.now result ShowsCharter }
+    ensures found { FindsIn S.Store tx.old.conn.now tx.new.conn.now result ShowsCharter }
     ensures schema { RefusesUnread S.Store tx.old.conn.now tx.new.conn.now result }
 {
     let operators = read_table(tx, alloc)?;
@@ -446,7 +446,7 @@ fn read_exceptions<S: Alter>(tx: &mut Transaction<'_, S>, alloc: Global) -> Resu
 fn read_others<S: Alter>(tx: &mut Transaction<'_, S>, alloc: Global) -> Result<Charter, StoreFault>
     requires { OnCleanDisk S.Store IsReady tx.old }
     ensures asked { IsAskedInside S.Store tx.old tx.new result }
-    ensures shown { Finds S.Store tx.old.conn.now tx.new.conn.now result ShowsOthers }
+    ensures shown { FindsIn S.Store tx.old.conn.now tx.new.conn.now result ShowsOthers }
     ensures schema { RefusesUnread S.Store tx.old.conn.now tx.new.conn.now result }
 {
     read_number(tx, false)?;
@@ -468,7 +468,7 @@ pub(crate) fn read_inside<S: Alter>(
     requires ready { OnCleanDisk S.Store IsReady tx.old }
     requires sound { OnCleanDisk S.Store ObeysSchema tx.old }
     ensures asked { IsAskedInside S.Store tx.old tx.new result }
-    ensures held { Finds S.Store tx.old.conn.now tx.new.conn.now result ReadAndHold }
+    ensures held { FindsIn S.Store tx.old.conn.now tx.new.conn.now result ReadAndHold }
     ensures schema { RefusesUnread S.Store tx.old.conn.now tx.new.conn.now result }
 {
     let charter = read_others(tx, alloc)?;
@@ -483,7 +483,7 @@ fn read_others_once<S: Alter>(
 ) -> Result<Charter, StoreFault>
     requires { IsReadyToAsk S.Store conn.old }
     ensures asked { IsAskedOnce S.Store conn.old conn.new result }
-    ensures shown { Finds S.Store conn.old conn.new result ShowsOthers }
+    ensures shown { FindsIn S.Store conn.old conn.new result ShowsOthers }
     ensures schema { RefusesUnread S.Store conn.old conn.new result }
 {
     // For the proof: its contract says that outside a transaction all that is shown is committed.
@@ -518,7 +518,7 @@ fn join_entries<S: Alter>(
     ensures asked { IsAsked S.Store conn.old conn.new result }
     ensures found { FindsThat S.Store conn.old conn.new result (λ db.
         AreOfAll (λ all. MakeOfTable all db) claims.items) }
-    ensures schema { Refuses S.Store conn.old conn.new result (λ db.
+    ensures schema { RefusesIn S.Store conn.old conn.new result (λ db.
         AreOfAll (λ all. MakeNoneOfTable all db) claims.items) }
 {
     let start = Joined::start(alloc, claims);
@@ -553,7 +553,7 @@ pub(crate) fn read_tables<S: Alter>(
 ) -> Result<Charter, StoreFault>
     requires { IsReadyToAsk S.Store conn.old }
     ensures asked { IsAskedOnce S.Store conn.old conn.new result }
-    ensures held { Finds S.Store conn.old conn.new result ReadAndHold }
+    ensures held { FindsIn S.Store conn.old conn.new result ReadAndHold }
     ensures schema { RefusesUnread S.Store conn.old conn.new result }
 {
     // For the proof: its contract says that what is shown obeys the schema.
