@@ -1,31 +1,8 @@
 -- The authorizations of all holders, out of those of each one.
-use Rattle.std.proofs.Common.{◌≡◌, ℕ, Bool, true, false, cond, not, ◌||◌, List, [], ◌∷◌, ◌++◌, map, flat_map, filter, Option, Some, None, IsTrue, refl, sym, ap, subst, ◌∙◌, inl, inr, IsPermutation}
-use Rattle.std.specs.Prelude.{⊤}
-use Rattle.std.specs.List.{AllByRecursion, list_any}
+use Rattle.store.proofs.Vocabulary.{◌≡◌, ℕ, Bool, true, false, cond, not, ◌||◌, List, [], ◌∷◌, ◌++◌, map, flat_map, filter, Option, Some, None, IsTrue, refl, sym, ap, subst, ◌∙◌, inl, inr, IsPermutation, ⊤, AllByRecursion, list_any, IsPermutation-append, IsPermutation-filter_both, IsPermutation-refl, IsPermutation-sym, IsPermutation-trans, Null, Int, Real, Text, Blob, Row, column, Has, all_from, all_has, has_left, has_right, some_from, some_has, mapped_has, none_from_any, Trees, all-flat_map, all-map, all_of, all_weaker, flat_map-map, flat_map_same_on, is_name, same_name, Rows, AuthFits, Auth, same_name-true, OfHolder, auth, claim, contents, entry, HoldsPart, Part, claim_part, entry_part, is_text, items_if_any, part_rows, HasOneEntry, HaveOneEntry, auth_part, HasSomeOldAuths, rows_of_auth, HasSomeAuths, row_of_claim, rows_of_entries}
 use Rattle.std.proofs.lemmas.List.Concat.{flat_map-append, flat_map_single}
-use Rattle.std.proofs.lemmas.List.Sorted.{IsPermutation-append, IsPermutation-filter_both, IsPermutation-refl, IsPermutation-sym, IsPermutation-trans}
 use Rattle.sqlite_value.specs.declared.value.Value.{Value}
-use Rattle.sqlite_value.specs.declared.value.Value.TheVariants.{Null, Int, Real, Text, Blob}
-use Rattle.sqlite_value.specs.Order.{Row, column}
-use Rattle.sqlite_rules.specs.Lists.{Has}
-use Rattle.sqlite_rules.proofs.ListLemmas.{all_from, all_has, has_left, has_right, some_from, some_has}
-use Rattle.sqlite_rules.proofs.ProbeLemmas.{mapped_has}
-use Rattle.sqlite_keyed.proofs.ListLemmas.{none_from_any}
-use Rattle.sqlite_trees.specs.Tree.{Trees}
-use Rattle.sqlite_trees.proofs.ListLemmas.{all-flat_map, all-map, all_of, all_weaker, flat_map-map, flat_map_same_on}
-use Rattle.addr.specs.Name.{is_name}
-use Rattle.registry.specs.History.{same_name}
-use Rattle.registry.specs.Rows.{Rows}
-use Rattle.registry.specs.Values.{AuthFits}
-use Rattle.registry.specs.declared.authorization.Auth.{Auth}
-use Rattle.registry.proofs.Names.{same_name-true}
-use Rattle.store_tables.specs.declared.groups.OfHolder.{OfHolder}
-use Rattle.store_tables.specs.Tables.{auth, claim, contents, entry}
-use Rattle.store_tables.specs.TablesHold.{HoldsPart, Part, claim_part, entry_part, is_text, items_if_any, part_rows}
 use Rattle.store_tables.proofs.PartLemmas.{name_of_itself, names, take_local}
-use Rattle.store_schema.specs.OldTables.{HasOneEntry, HaveOneEntry, auth_part}
-use Rattle.store_open.specs.OldTablesRead.{HasSomeOldAuths, rows_of_auth}
-use Rattle.store_open.specs.TablesRead.{HasSomeAuths, row_of_claim, rows_of_entries}
 
 -- ---- names, each once
 

@@ -1,27 +1,6 @@
 -- The rows that tables hold give no VRP twice.
-use Rattle.std.proofs.Common.{◌≡◌, ℕ, true, List, map, filter, Some, Contains, refl, sym, ap, subst, ◌∙◌}
-use Rattle.sqlite.specs.Effect.{Database, IsDatabase}
-use Rattle.sqlite_value.specs.Order.{Row}
-use Rattle.sqlite_rules.specs.Lists.{Has}
-use Rattle.sqlite_rules.proofs.ListLemmas.{all_from, has_contained}
-use Rattle.sqlite_trees.proofs.ListLemmas.{filter_all, IsPermutation-same}
-use Rattle.registry.specs.CharterSets.{CharterSets}
-use Rattle.registry.specs.declared.authorization.Auth.{Auth}
-use Rattle.addr.specs.declared.roa_prefix.RoaPrefix.{RoaPrefix}
-use Rattle.registry.specs.Rows.{Rows}
-use Rattle.registry.specs.RowsOfAll.{AllRows}
-use Rattle.store_tables.specs.declared.entry.EntryRow.{EntryRow}
-use Rattle.store_tables.specs.Authorizations.{claim_of}
-use Rattle.store_tables.specs.Cells.{claim_row, entry_row}
-use Rattle.store_tables.specs.Groups.{claim_entry}
-use Rattle.store_tables.specs.Tables.{desk_tables, claim, entry, contents}
-use Rattle.store_tables.specs.TablesHold.{TablesHold, entry_part}
-use Rattle.store_tables.proofs.Once.{two_are_one, entry_row_once}
-use Rattle.store_tables.proofs.SomeRow.{in_table, has_entry_row}
-use Rattle.store_transactions.specs.Laws.{payload_columns, number_columns, ClaimsDiffer, EntriesDiffer}
+use Rattle.store.proofs.Vocabulary.{◌≡◌, ℕ, true, List, map, filter, Some, Contains, refl, sym, ap, subst, ◌∙◌, Database, IsDatabase, Row, Has, all_from, has_contained, filter_all, IsPermutation-same, CharterSets, Auth, RoaPrefix, Rows, AllRows, EntryRow, claim_of, claim_row, entry_row, claim_entry, desk_tables, claim, entry, contents, TablesHold, entry_part, two_are_one, entry_row_once, in_table, has_entry_row, payload_columns, number_columns, ClaimsDiffer, EntriesDiffer, GivenOnce, cells_of_vrp}
 use Rattle.store_write.proofs.Numbers.{number_of, numbered_apart}
-use Rattle.store.specs.Given.{GivenOnce}
-use Rattle.store_read.proofs.Giving.{cells_of_vrp}
 
 module _ (claims_differ : ClaimsDiffer) (charter : CharterSets) (rows : AllRows) (db : Database) (sound : IsDatabase db) (tables : db.schema.tables ≡ desk_tables) (holds : TablesHold charter rows db.trees) where
   -- no two authorizations of a holder have one number

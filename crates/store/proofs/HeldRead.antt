@@ -1,35 +1,7 @@
 -- Tables of either schema that hold a charter and rows that fit read.
-use Rattle.std.proofs.Common.{◌≡◌, ℕ, Bool, true, false, ◌||◌, List, [], ◌∷◌, Option, Some, refl, inl, inr, sym, subst, IsTrue, map, IsPermutation}
-use Rattle.std.specs.Prelude.{⊤}
-use Rattle.std.specs.List.{AllByRecursion}
-use Rattle.std.proofs.lemmas.List.Elements.{recursion_from_All}
-use Rattle.sqlite_value.specs.Order.{Row}
-use Rattle.sqlite_trees.specs.Tree.{Trees}
-use Rattle.sqlite_rules.specs.Lists.{Has}
-use Rattle.sqlite_rules.proofs.ListLemmas.{all_has, all_from, contains_had}
-use Rattle.sqlite_rules.proofs.ProbeLemmas.{has_mapped}
-use Rattle.addr.specs.Name.{is_name}
-use Rattle.registry.specs.CharterSets.{CharterSets, IsCharter}
-use Rattle.registry.specs.declared.charter.Charter.{Charter}
-use Rattle.registry.specs.declared.command.Command.{Command}
-use Rattle.registry.specs.declared.command.Command.TheVariants.{Register}
-use Rattle.registry.specs.History.{History, registers, is_registered}
-use Rattle.registry.specs.Rows.{Rows, RowsIfAny}
-use Rattle.registry.specs.Values.{RowsFit, AuthFits, GrantFits, CommandFits, HistoryFits, FilesFit}
+use Rattle.store.proofs.Vocabulary.{◌≡◌, ℕ, Bool, true, false, ◌||◌, List, [], ◌∷◌, Option, Some, refl, inl, inr, sym, subst, IsTrue, map, IsPermutation, ⊤, AllByRecursion, recursion_from_All, Row, Trees, Has, all_has, all_from, contains_had, has_mapped, is_name, CharterSets, IsCharter, Charter, Command, Register, History, registers, is_registered, Rows, RowsIfAny, RowsFit, AuthFits, GrantFits, CommandFits, HistoryFits, FilesFit, AllRows, HasRows, IsLegal, same_name-true, schema_row, operator_row, prefix_cells, holder_row, holding_row, granted_row, meta, operator, pool, contents, Part, TablesHold, HoldsPart, holder_part, holding_part, granted_part, has_permuted, of_some, OldTablesHold, HistoriesRead, OldHistoriesRead, OldTablesRead, HasSomeCharter, ShowsHolder, ShowsOfHolder, TablesRead, files_few, files_read}
 use Rattle.registry_laws.specs.Ranges.{FilesInForceFit, LegalRowsFit}
-use Rattle.registry.specs.RowsOfAll.{AllRows, HasRows}
-use Rattle.registry.specs.Verdict.{IsLegal}
-use Rattle.registry.proofs.Names.{same_name-true}
-use Rattle.store_tables.specs.Cells.{schema_row, operator_row, prefix_cells, holder_row, holding_row, granted_row}
-use Rattle.store_tables.specs.Tables.{meta, operator, pool, contents}
-use Rattle.store_tables.specs.TablesHold.{Part, TablesHold, HoldsPart, holder_part, holding_part, granted_part}
-use Rattle.store_tables.proofs.SomeRow.{has_permuted, of_some}
-use Rattle.store_schema.specs.OldTables.{OldTablesHold}
-use Rattle.store.specs.Laws.{HistoriesRead, OldHistoriesRead}
 use Rattle.store.proofs.Gathering.{some_auths, some_old_auths}
-use Rattle.store_open.specs.OldTablesRead.{OldTablesRead}
-use Rattle.store_open.specs.TablesRead.{HasSomeCharter, ShowsHolder, ShowsOfHolder, TablesRead}
-use Rattle.store_transactions.proofs.HeldRows.{files_few, files_read}
 
 -- each row of a part shows what the rows of its holder are
 of_part : (part : Part) (rows : List ℕ → Option Rows) (table : List Row) (So : Row → Type 0) → HoldsPart part rows table

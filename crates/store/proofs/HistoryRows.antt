@@ -1,52 +1,21 @@
 -- The rows of a history rise by number, so they are loaded as they are; and what is answered of them is of the history.
-use Rattle.std.proofs.Common.{◌≡◌, ◌↔◌, ℕ, ◌+◌, ◌<◌, ◌≤◌, ◌==◌, ◌&&◌, Bool, true, false, cond, not, nat_le, IsTrue, MatchBool, List, [], ◌∷◌, ◌++◌, filter, find, length, Option, Some, None, is_some, inl, inr, ◌⊎◌, Less, refl, sym, ap, subst, ◌∙◌, arith, nat_cmp, IfSome, IsSomeAnd}
+use Rattle.store.proofs.Vocabulary.{◌≡◌, ◌↔◌, ℕ, ◌+◌, ◌<◌, ◌≤◌, ◌==◌, ◌&&◌, Bool, true, false, cond, not, nat_le, IsTrue, MatchBool, List, [], ◌∷◌, ◌++◌, filter, find, length, Option, Some, None, is_some, inl, inr, ◌⊎◌, Less, refl, sym, ap, subst, ◌∙◌, arith, nat_cmp, IfSome, IsSomeAnd, AllByRecursion, list_any, on, option_map, cond-true, false≢true, true≢false, nat_tests, length-filter_both, has_contained, some_from, IsAscending, ascending_weaker, Address, Prefix, Span, Charter, Auth, Command, Register, Delegate, Transfer, Reclaim, Grant, Revoke, Create, Amend, Withdraw, Import, Slurm, Granted, MOST_AUTHORIZATIONS, HolderRows, History, is_registered, same_name, IsPartIfAny, looked_for, looks_for, with_maxes, Rows, RowsIfAny, rows_if_any, grants_if_any, auths_if_any, AllRows, HasRows, IsTaken, numbered_grant, granted_after, grants_made, grants_after, grant_terms, authorizations_made, authorization_terms, gives_some, terms_overlap, AreActive, HeldSinceMade, Keeps, OfActive, IsLegal, auth_of_number, maxes_fit, held_by_itself, is_held_by-true, items_if_any, AreCounted, AreGrants, AreHoldings, AreInOrder, AreNumbered, AreRunsApart, HasRun, HaveSame, IsForCreate, IsForDelegate, IsForLoss, MeetsSome, auths_held, created_if_any, some_gives, taken_iff, LoadsFactsOfHistories, LoadsListsOfHistories, LoadsNumberOfHistories, LoadsPartsOfHistories, LoadsRowsOfHistories}
 use Rattle.std.specs.Cmp.{nat_cmp_is, nat_cmp_total}
-use Rattle.std.specs.List.{AllByRecursion, list_any}
-use Rattle.std.specs.Ordering.{on}
-use Rattle.std.specs.Prelude.{option_map}
-use Rattle.std.proofs.lemmas.Bool.{cond-true, false≢true, true≢false}
-use Rattle.std.proofs.lemmas.Bool.Decides.{nat_tests}
 use Rattle.std.proofs.lemmas.Cmp.{on_total}
-use Rattle.std.proofs.lemmas.List.Filters.{length-filter_both}
-use Rattle.sqlite_rules.proofs.ListLemmas.{has_contained, some_from}
-use Rattle.sqlite_trees.specs.Tree.{IsAscending}
-use Rattle.sqlite_trees.proofs.ListLemmas.{ascending_weaker}
 use Rattle.sqlite_keyed.proofs.SliceLemmas.{is_some-map}
 use Rattle.sqlite_keyed.proofs.SortLemmas.{sorted_unique}
-use Rattle.addr.specs.Address.{Address}
 use Rattle.addr.specs.Spans.{span_has, spans_have}
-use Rattle.addr.specs.declared.prefix.Prefix.{Prefix}
-use Rattle.addr.specs.declared.span.Span.{Span}
 use Rattle.addr.proofs.RunLemmas.{maximal_apart}
-use Rattle.registry.specs.declared.charter.Charter.{Charter}
-use Rattle.registry.specs.Answer.{AnswersCreate, AnswersDelegate, AnswersLoss, ListBasis, AnswersNumber, HasRuns, IfRegistered, IsMadeIfAny, SharesWithNone}
-use Rattle.registry.specs.declared.authorization.Auth.{Auth}
+use Rattle.registry.specs.Answer.{AnswersCreate, AnswersDelegate, AnswersLoss, AnswersNumber, HasRuns, IfRegistered, IsMadeIfAny, SharesWithNone}
 use Rattle.registry.specs.declared.authorization.AuthTerms.{AuthTerms}
-use Rattle.registry.specs.declared.command.Command.{Command}
-use Rattle.registry.specs.declared.command.Command.TheVariants.{Register, Delegate, Transfer, Reclaim, Grant, Revoke, Create, Amend, Withdraw, Import, Slurm}
-use Rattle.registry.specs.declared.grant.Granted.{Granted}
-use Rattle.registry.specs.declared.limits.TheConstants.{MOST_AUTHORIZATIONS}
-use Rattle.registry.specs.declared.rows.HolderRows.{HolderRows}
-use Rattle.registry.specs.History.{History, is_registered, same_name}
-use Rattle.registry.specs.PartOfRows.{IsPartIfAny, looked_for, looks_for}
 use Rattle.registry.specs.Resources.{resource_holder, is_held_by, IsFree}
-use Rattle.registry.specs.RoaPrefixes.{with_maxes}
-use Rattle.registry.specs.Rows.{Rows, RowsIfAny, rows_if_any, grants_if_any, auths_if_any}
-use Rattle.registry.specs.RowsOfAll.{AllRows, HasRows, IsTaken}
-use Rattle.registry.specs.Terms.{numbered_grant, granted_after, grants_made, grants_after, grant_terms, authorizations_made, authorization_terms, gives_some, terms_overlap, AreActive, HeldSinceMade, Keeps, OfActive}
-use Rattle.registry.specs.Verdict.{IsLegal, auth_of_number, maxes_fit}
 use Rattle.registry.proofs.Amended.{shares_with_other}
 use Rattle.registry.proofs.Held.{active-numbered}
 use Rattle.registry.proofs.Kept.{Keeps-unique}
-use Rattle.registry.proofs.Names.{held_by_itself, is_held_by-true}
 use Rattle.registry.proofs.Numbers.{Numbered}
 use Rattle.registry.proofs.Unregistered.{has_nothing}
 use Rattle.registry_laws.proofs.SharedVrps.{share_vrp-flips}
-use Rattle.store_tables.specs.TablesHold.{items_if_any}
 use Rattle.store_read.specs.declared.answers.Loaded.{Loaded}
-use Rattle.store_read.specs.Loads.{AreCounted, AreGrants, AreHoldings, AreInOrder, AreNumbered, AreRunsApart, HasRun, HaveSame, IsForCreate, IsForDelegate, IsForLoss, MeetsSome, auths_held, created_if_any, some_gives}
-use Rattle.store_read.proofs.Giving.{taken_iff}
-use Rattle.store.specs.Laws.{LoadsFactsOfHistories, LoadsListsOfHistories, LoadsNumberOfHistories, LoadsPartsOfHistories, LoadsRowsOfHistories}
 
 module _ {X : Type 0} (number : X → ℕ) where
   -- the numbers rise, from above one number up to another

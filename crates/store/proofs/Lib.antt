@@ -1,3 +1,4 @@
+mod InTurn
 mod StoreLemmas
 mod HistoryRows
 mod Gathering
@@ -7,3 +8,4 @@ mod ReadRows
 pub mod HeldOnce
 mod PartFound
 mod LossFound
+pub mod Vocabulary

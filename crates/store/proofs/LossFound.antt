@@ -1,27 +1,6 @@
 -- What is loaded of a holder that loses a prefix.
-use Rattle.std.proofs.Common.{◌≡◌, ℕ, ◌==◌, ◌&&◌, nat_le, Bool, true, false, List, [], map, filter, flat_map, IsPermutation, Option, Some, None, refl, sym, subst, ◌∙◌}
-use Rattle.std.specs.List.{list_any}
-use Rattle.std.proofs.lemmas.Bool.{false≢true}
-use Rattle.std.proofs.lemmas.List.Sorted.{Contains-permutation, IsPermutation-refl, IsPermutation-sym, list_any-IsPermutation}
-use Rattle.sqlite_rules.proofs.ListLemmas.{all_from, has_contained, has_filtered}
-use Rattle.sqlite_trees.proofs.ListLemmas.{filter_same}
-use Rattle.addr.specs.Address.{last_of, overlaps}
+use Rattle.store.proofs.Vocabulary.{◌≡◌, ℕ, ◌==◌, ◌&&◌, nat_le, Bool, true, false, List, [], map, filter, flat_map, IsPermutation, Option, Some, None, refl, sym, subst, ◌∙◌, list_any, false≢true, Contains-permutation, IsPermutation-refl, IsPermutation-sym, list_any-IsPermutation, all_from, has_contained, has_filtered, filter_same, last_of, overlaps, Prefix, Span, Auth, RoaPrefix, HolderRows, Rows, terms_overlap, claim_of, entry_rows_of, claim_entry, items_if_any, EntryRow, list_any-map, auths_held, begins_up_to, entries_up_to, AreHoldings, AreOverlapping, HaveSame, IsForLoss, any_and, any_each, any_kept, has_number, overlaps_numbered, AreOfNumbers}
 use Rattle.addr.specs.Family.{family_eq}
-use Rattle.addr.specs.declared.prefix.Prefix.{Prefix}
-use Rattle.addr.specs.declared.span.Span.{Span}
-use Rattle.registry.specs.declared.authorization.Auth.{Auth}
-use Rattle.addr.specs.declared.roa_prefix.RoaPrefix.{RoaPrefix}
-use Rattle.registry.specs.declared.rows.HolderRows.{HolderRows}
-use Rattle.registry.specs.Rows.{Rows}
-use Rattle.registry.specs.Terms.{terms_overlap}
-use Rattle.store_tables.specs.Authorizations.{claim_of, entry_rows_of}
-use Rattle.store_tables.specs.Groups.{claim_entry}
-use Rattle.store_tables.specs.TablesHold.{items_if_any}
-use Rattle.store_tables.specs.declared.entry.EntryRow.{EntryRow}
-use Rattle.store_tables.proofs.TreeRows.{list_any-map}
-use Rattle.store_read.specs.Loads.{auths_held, begins_up_to, entries_up_to, AreHoldings, AreOverlapping, HaveSame, IsForLoss}
-use Rattle.store_read.proofs.GivenAuths.{any_and, any_each, any_kept}
-use Rattle.store.specs.steps.PartNumbers.{has_number, overlaps_numbered, AreOfNumbers}
 use Rattle.store.proofs.PartFound.{in_order, passes_by_number, AreNumberedOnce}
 
 -- ---- the numbers of those that share an address with the prefix

@@ -1,15 +1,5 @@
 -- What an opened store holds.
-use Rattle.std.proofs.Common.{◌≡◌, IsTrue, sym, ap, subst, ◌∙◌}
-use Rattle.sqlite.specs.Effect.{Database}
-use Rattle.sqlite.specs.Held.{Held, state}
-use Rattle.sqlite.specs.State.{State, HasCleanDisk, IsLive}
-use Rattle.sqlite.specs.Store.{Ghosts}
-use Rattle.sqlite_trees.specs.Tree.{Trees}
-use Rattle.registry.specs.CharterSets.{CharterSets, IsCharter}
-use Rattle.store_tables.specs.TablesHold.{TablesHold}
-use Rattle.store.specs.StoreRows.{IsOpened}
-use Rattle.store_transactions.specs.Databases.{IsDeskTrees}
-use Rattle.store_open.specs.Opening.{OpensDesk}
+use Rattle.store.proofs.Vocabulary.{◌≡◌, IsTrue, sym, ap, subst, ◌∙◌, Database, Held, state, State, HasCleanDisk, IsLive, Ghosts, Trees, CharterSets, IsCharter, TablesHold, IsOpened, IsDeskTrees, OpensDesk}
 use Rattle.store_open.proofs.SameCharter.{same_charter}
 use Rattle.store.proofs.ReadRows.{rows_fit}
 use Rattle.store.proofs.StoreLemmas.{over}

@@ -1,42 +1,12 @@
 -- What is loaded for hypothetical changes, number by number.
-use Rattle.std.proofs.Common.{◌≡◌, ℕ, ◌+◌, ◌<◌, ◌≤◌, ◌==◌, ◌&&◌, ◌||◌, Bool, true, false, cond, List, [], ◌∷◌, ◌++◌, map, filter, drop, length, append_assoc, append-nil, get_or, is_lt, nat_cmp, IsPermutation, IsSortedByKey, Option, Some, None, is_some, not, suc, zero, inl, inr, ◌⊎◌, Less, refl, sym, ap, subst, ◌∙◌, arith}
+use Rattle.store.proofs.Vocabulary.{◌≡◌, ℕ, ◌+◌, ◌<◌, ◌≤◌, ◌==◌, ◌&&◌, ◌||◌, Bool, true, false, cond, List, [], ◌∷◌, ◌++◌, map, filter, drop, length, append_assoc, append-nil, get_or, is_lt, nat_cmp, IsPermutation, IsSortedByKey, Option, Some, None, is_some, not, suc, zero, inl, inr, ◌⊎◌, Less, refl, sym, ap, subst, ◌∙◌, arith, AllByRecursion, list_any, eq_by_cmp, cases_Bool, and_from, and_parts, eq-eqb, eqb-true, false≢true, nat_tests, drop_more, length-filter_both, IsPermutation-append, IsPermutation-cons, IsPermutation-middle, IsPermutation-refl, IsPermutation-sym, IsPermutation-trans, length_permutation, Database, IsDatabase, Has, all_from, has_filtered, some_from, some_has, IsAscending, all_weaker, all-permutation, ascending-append, filter_none, filter_same, all_of, CharterSets, Auth, Granted, MOST_AUTHORIZATIONS, HolderRows, looked_for, looks_for, Rows, AllRows, gives_some, desk_tables, TablesHold, items_if_any, EntryRow, list_any-map, ClaimsDiffer, AreCounted, AreGrants, AreInOrder, HaveSame, auths_held, created_shown, IsForChanges, AreOfNumbers, asks_for, has_number, some_asks_for}
 use Rattle.std.specs.Global.{Vec}
-use Rattle.std.specs.List.{AllByRecursion, list_any}
 use Rattle.std.specs.List.Sorted.{IsStrictlySortedBy}
-use Rattle.std.specs.Ordering.{eq_by_cmp}
 use Rattle.std.proofs.Math.Bool.{or-false}
-use Rattle.std.proofs.lemmas.Bool.{cases_Bool, and_from, and_parts, eq-eqb, eqb-true, false≢true}
-use Rattle.std.proofs.lemmas.Bool.Decides.{nat_tests}
-use Rattle.std.proofs.lemmas.List.{drop_more}
-use Rattle.std.proofs.lemmas.List.Filters.{length-filter_both}
 use Rattle.std.proofs.lemmas.List.Folds.{list_any-append}
-use Rattle.std.proofs.lemmas.List.Sorted.{IsPermutation-append, IsPermutation-cons, IsPermutation-middle, IsPermutation-refl, IsPermutation-sym, IsPermutation-trans, length_permutation}
-use Rattle.sqlite.specs.Effect.{Database, IsDatabase}
-use Rattle.sqlite_rules.specs.Lists.{Has}
-use Rattle.sqlite_rules.proofs.ListLemmas.{all_from, has_filtered, some_from, some_has}
-use Rattle.sqlite_trees.specs.Tree.{IsAscending}
-use Rattle.sqlite_trees.proofs.ListLemmas.{all_weaker, all-permutation, ascending-append, filter_none, filter_same, all_of}
-use Rattle.registry.specs.CharterSets.{CharterSets}
-use Rattle.registry.specs.declared.authorization.Auth.{Auth}
 use Rattle.registry.specs.declared.command.Proposed.{Proposed}
 use Rattle.registry.specs.declared.command.Proposed.TheVariants.{Create, Withdraw}
-use Rattle.registry.specs.declared.grant.Granted.{Granted}
-use Rattle.registry.specs.declared.limits.TheConstants.{MOST_AUTHORIZATIONS}
-use Rattle.registry.specs.declared.rows.HolderRows.{HolderRows}
-use Rattle.registry.specs.PartOfRows.{looked_for, looks_for}
-use Rattle.registry.specs.Rows.{Rows}
-use Rattle.registry.specs.RowsOfAll.{AllRows}
-use Rattle.registry.specs.Terms.{gives_some}
-use Rattle.store_tables.specs.Tables.{desk_tables}
-use Rattle.store_tables.specs.TablesHold.{TablesHold, items_if_any}
-use Rattle.store_tables.specs.declared.entry.EntryRow.{EntryRow}
-use Rattle.store_tables.proofs.TreeRows.{list_any-map}
-use Rattle.store_transactions.specs.Laws.{ClaimsDiffer}
-use Rattle.store_read.specs.Loads.{AreCounted, AreGrants, AreInOrder, HaveSame, auths_held}
-use Rattle.store_read.proofs.GivenAuths.{created_shown}
 use Rattle.store.proofs.HeldOnce.{one_of_number}
-use Rattle.store.specs.PartLoaded.{IsForChanges}
-use Rattle.store.specs.steps.PartNumbers.{AreOfNumbers, asks_for, has_number, some_asks_for}
 
 or_assoc : (a b c : Bool) → ((a || b) || c) ≡ (a || (b || c))
 or_assoc true b c = refl

@@ -1,53 +1,19 @@
 -- The rows of tables that read are in range.
-use Rattle.std.proofs.Common.{◌≡◌, ℕ, List, [], ◌∷◌, ◌++◌, map, filter, flat_map, Option, Some, None, IsTrue, refl, sym, ap, subst, ◌∙◌, arith}
-use Rattle.std.specs.Prelude.{length, ◌≤◌}
-use Rattle.std.specs.List.{AllByRecursion}
-use Rattle.std.proofs.lemmas.Bool.{and_from, le-leb}
-use Rattle.std.proofs.lemmas.List.Elements.{All-from_recursion, recursion_from_All}
-use Rattle.std.proofs.lemmas.List.Sorted.{IsPermutation-sym}
-use Rattle.sqlite_value.specs.declared.value.Value.TheVariants.{Text}
-use Rattle.sqlite_value.specs.Order.{Row, column}
-use Rattle.sqlite_trees.specs.Tree.{Trees}
-use Rattle.sqlite_trees.proofs.ListLemmas.{all-flat_map, all-map, all_from_map, all-permutation, all_weaker}
-use Rattle.sqlite_keyed.proofs.ListLemmas.{all-filter}
-use Rattle.sqlite_rules.specs.Lists.{Has}
-use Rattle.sqlite_rules.proofs.ListLemmas.{all_from, all_has, has_contained, test_from}
-use Rattle.sqlite_rules.proofs.ProbeLemmas.{mapped_has}
-use Rattle.addr.specs.Address.{fits_max_length}
-use Rattle.addr.specs.Name.{is_name}
+use Rattle.store.proofs.Vocabulary.{◌≡◌, ℕ, List, [], ◌∷◌, ◌++◌, map, filter, flat_map, Option, Some, None, IsTrue, refl, sym, ap, subst, ◌∙◌, arith, length, ◌≤◌, AllByRecursion, and_from, le-leb, All-from_recursion, recursion_from_All, IsPermutation-sym, Text, Row, column, Trees, all-flat_map, all-map, all_from_map, all-permutation, all_weaker, all-filter, Has, all_from, all_has, has_contained, test_from, mapped_has, fits_max_length, is_name, some_row, Auth, RoaPrefix, Granted, AreEntries, Rows, AuthFits, ExceptionsFit, FileFits, FilesFit, FilterFits, FitIfAny, GrantFits, IsCount, IsU32, VrpFits, EntryRow, OfHolder, claim_of, entry_rows_of, claim_entry, claim_row, entry_row, exception_cells, exception_row, granted_row, holder_row, kind_number, number_cell, claim, contents, entry, slurm, ArePlaced, HoldsExceptions, HoldsFiles, HoldsPart, is_of_file, Part, claim_part, entry_part, granted_part, holder_part, part_rows, claim_row_once, entry_row_once, HasSomeAuths, ShowsException, ShowsHolder, ShowsOfHolder, row_of_claim, rows_of_entries, RowsInRangeGive, RowsThatReadFit, gives_each, claim_fits, entries_of_fit}
 use Rattle.slurm.specs.Exceptions.{Exceptions}
 use Rattle.slurm.specs.SlurmSets.{exceptions_named}
 use Rattle.slurm.specs.declared.set.NamedSlurm.{NamedSlurm}
-use Rattle.store_transactions.proofs.HeldRows.{some_row}
 use Rattle.store_transactions.proofs.NamedFiles.{said}
 use Rattle.slurm.specs.declared.exceptions.TheConstants.{MOST_ENTRIES}
 use Rattle.slurm.specs.declared.filter.Filter.TheVariants.{Under, By, Both}
-use Rattle.registry.specs.declared.authorization.Auth.{Auth}
-use Rattle.addr.specs.declared.roa_prefix.RoaPrefix.{RoaPrefix}
-use Rattle.registry.specs.declared.grant.Granted.{Granted}
-use Rattle.registry.specs.RoaPrefixes.{AreEntries}
-use Rattle.registry.specs.Rows.{Rows}
-use Rattle.registry.specs.Values.{AuthFits, ExceptionsFit, FileFits, FilesFit, FilterFits, FitIfAny, GrantFits, IsCount, IsU32, VrpFits}
 use Rattle.store_tables.specs.declared.claim.Claim.{Claim}
-use Rattle.store_tables.specs.declared.entry.EntryRow.{EntryRow}
-use Rattle.store_tables.specs.declared.groups.OfHolder.{OfHolder}
-use Rattle.store_tables.specs.Authorizations.{claim_of, entry_rows_of}
-use Rattle.store_tables.specs.Groups.{claim_entry}
-use Rattle.store_tables.specs.Cells.{claim_row, entry_row, exception_cells, exception_row, granted_row, holder_row, kind_number, number_cell}
 use Rattle.store_tables.specs.Decode.{ClaimFits, EntryRowFits, ExceptionFits, exception_columns}
-use Rattle.store_tables.specs.Tables.{claim, contents, entry, slurm}
-use Rattle.store_tables.specs.TablesHold.{ArePlaced, HoldsExceptions, HoldsFiles, HoldsPart, is_of_file, Part, claim_part, entry_part, granted_part, holder_part, part_rows}
 use Rattle.store_tables.specs.declared.exception.Exception.{Exception}
 use Rattle.store_tables.specs.declared.exception.Exception.TheVariants.{Filter as FilterOf, Assertion}
 use Rattle.store_tables.specs.declared.exception.ExceptionRow.{ExceptionRow}
 use Rattle.store_tables.proofs.CellsOnce.{one_grant}
-use Rattle.store_tables.proofs.Once.{claim_row_once, entry_row_once}
 use Rattle.store_tables.proofs.HeldExceptions.{held_number}
-use Rattle.store_open.specs.TablesRead.{HasSomeAuths, ShowsException, ShowsHolder, ShowsOfHolder, row_of_claim, rows_of_entries}
 use Rattle.store_transactions.specs.Files.{AreFewOfEach}
-use Rattle.store.specs.Laws.{RowsInRangeGive, RowsThatReadFit}
-use Rattle.store_read.proofs.Giving.{gives_each}
-use Rattle.store_read.proofs.Loading.{claim_fits, entries_of_fit}
 
 -- what is so of each row of a table is so of each row of a holder in it
 part_shows : (part : Part) (rows : List ℕ → Option Rows) (table : List Row) (So : Row → Type 0)

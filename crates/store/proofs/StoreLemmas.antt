@@ -1,27 +1,9 @@
 -- What a change that was tried leaves of a store.
-use Rattle.std.proofs.Common.{◌≡◌, inl, inr, Result, Ok, Err, OnOk, OnErr, IfOk, IsTrue, true, false, arith, sym, ap, subst, ◌∙◌}
-use Rattle.sqlite.specs.Effect.{Database, IsDatabase}
-use Rattle.sqlite.specs.Held.{Held, state}
-use Rattle.sqlite.specs.State.{State, HasCleanDisk, IsLive, IsUnchanged, Survives, Shows}
-use Rattle.sqlite.proofs.Callers.{survives_begin}
+use Rattle.store.proofs.Vocabulary.{◌≡◌, inl, inr, Result, Ok, Err, OnOk, OnErr, IfOk, IsTrue, true, false, arith, sym, ap, subst, ◌∙◌, Database, IsDatabase, Held, state, State, HasCleanDisk, IsLive, IsUnchanged, Survives, Shows, survives_begin, Ghosts, Schema, Trees, CharterSets, AllRows, blank_rows, changed_rows, IsAsked, ClaimsDiffer, EntriesDiffer, GivenOnce, EachRows, OpenEachRows, StoreView, IsRead, MayLeave, LeavesOnly, LeavesPlaced, EachHeldRows, HoldsAfter, on_ok_weaker, earlier, PlacesExceptions, MakesChange, RowsBecome, HasDeskTables, IsNew, IsDeskTrees, IsDeskWhileOpen, LeavesNew, CommitsChange, MayCommit, TablesHold}
 use Rattle.sqlite.proofs.StateLemmas.{survives_then}
-use Rattle.sqlite.specs.Store.{Ghosts}
-use Rattle.sqlite_schema.specs.declared.schema.Schema.{Schema}
-use Rattle.sqlite_trees.specs.Tree.{Trees}
-use Rattle.registry.specs.CharterSets.{CharterSets}
 use Rattle.registry.specs.declared.change.Change.{Change}
-use Rattle.registry.specs.RowsOfAll.{AllRows, blank_rows, changed_rows}
 use Rattle.store_transactions.specs.Statements.{IsAsBefore}
-use Rattle.store_transactions.specs.Queries.{IsAsked}
-use Rattle.store_transactions.specs.Laws.{ClaimsDiffer, EntriesDiffer}
 use Rattle.store.proofs.HeldOnce.{held_once}
-use Rattle.store.specs.Given.{GivenOnce}
-use Rattle.store_read.specs.Loads.{EachRows, OpenEachRows}
-use Rattle.store.specs.StoreRows.{StoreView, Holds, IsRead, MayLeave, LeavesOnly, LeavesPlaced}
-use Rattle.store_write.specs.Changes.{PlacesExceptions, MakesChange, RowsBecome}
-use Rattle.store_transactions.specs.Databases.{HasDeskTables, IsNew, IsDeskTrees, IsDeskWhileOpen, LeavesNew}
-use Rattle.store.specs.steps.Commits.{CommitsChange, MayCommit}
-use Rattle.store_tables.specs.TablesHold.{TablesHold}
 
 pub kept_still : (old new : State) → (HasCleanDisk new → HasCleanDisk old) → (HasCleanDisk new → IsTrue new.is_open → IsAsBefore old new) → IsDeskWhileOpen old → IsDeskWhileOpen new
 kept_still old new before same kept clean opened =
@@ -43,54 +25,41 @@ schema_kept (Err e) change old new made failed = ap (λ (d : Database). d.schema
 abbrev pub over : {S : Type 0} → CharterSets → Held S → StoreView S
 over charter connection = record { connection = connection; charter = charter }
 
-module _ {S X E : Type 0} (g : Ghosts S) (r : Result X E) (change : Change) (charter : CharterSets) (old new : Held S) (clean : HasCleanDisk (state g new)) (before : HasCleanDisk (state g new) → HasCleanDisk (state g old)) where
-  pub holds_ok : OnOk r (CommitsChange change (state g old) (state g new)) → OnOk r ((rows : AllRows) → Holds g (over charter old) rows → Holds g (over charter new) (changed_rows change rows))
-  holds_ok = go r
-    where
-      go : (r : Result X E) → OnOk r (CommitsChange change (state g old) (state g new)) → OnOk r ((rows : AllRows) → Holds g (over charter old) rows → Holds g (over charter new) (changed_rows change rows))
-      go (Ok a) made = λ rows holds _ opened. (made.rows charter rows (holds (before clean) made.was_open)).0
-      go (Err e) made = tt
+module _ {S X E : Type 0} (g : Ghosts S) (r : Result X E) (change : Change) (charter : CharterSets) (old new : Held S) (clean : HasCleanDisk (state g new)) (crash : Survives (state g old) (state g new) (MayCommit change (state g old))) where
+  before : HasCleanDisk (state g old)
+  before = omega (arith, clean, crash.clean)
 
-  pub may_leave : Survives (state g old) (state g new) (MayCommit change (state g old)) → MayLeave g (over charter old) (over charter new) (changed_rows change)
-  may_leave survives trees left = elim (survives.crash clean trees left) [
+  pub holds_ok : OnOk r (CommitsChange change (state g old) (state g new)) → OnOk r (HoldsAfter g (over charter old) (over charter new) (changed_rows change))
+  holds_ok = on_ok_weaker r (λ (made : CommitsChange change (state g old) (state g new)) rows holds _ opened. (made.rows charter rows (holds before made.was_open)).0)
+
+  pub may_leave : MayLeave g (over charter old) (over charter new) (changed_rows change)
+  may_leave trees left = elim (crash.crash clean trees left) [
     | inl was ↦ inl was
-    | inr now ↦ inr (now.4, λ rows holds. subst (TablesHold charter (changed_rows change rows)) (sym now.3) (now.2 charter rows (holds (before clean) now.1)).0)
+    | inr now ↦ inr (now.4, λ rows holds. subst (TablesHold charter (changed_rows change rows)) (sym now.3) (now.2 charter rows (holds before now.1)).0)
   ]
 
   -- an open store leaves what it committed
   pub leaves_only : ((trees : Trees) → IsTrue (state g new).is_open → (state g new).may_leave trees → trees ≡ (state g new).committed.trees) → OnOk r (CommitsChange change (state g old) (state g new)) → OnOk r (LeavesOnly g (over charter old) (over charter new) (changed_rows change))
-  leaves_only settled = go r
-    where
-      go : (r : Result X E) → OnOk r (CommitsChange change (state g old) (state g new)) → OnOk r (LeavesOnly g (over charter old) (over charter new) (changed_rows change))
-      go (Ok a) made = λ rows holds trees left.
-          let shown : IsDeskTrees (state g new).now.trees = record { schema = (state g new).now.schema; tables = made.tables; sound = made.sound } in
-          subst (λ t. TablesHold charter (changed_rows change rows) t × IsDeskTrees t) (sym (settled trees made.is_open left ∙ ap (λ (d : Database). d.trees) made.committed))
-          ((made.rows charter rows (holds (before clean) made.was_open)).0, shown)
-      go (Err e) made = tt
+  leaves_only settled = on_ok_weaker r (λ (made : CommitsChange change (state g old) (state g new)) rows holds trees left.
+      let shown : IsDeskTrees (state g new).now.trees = record { schema = (state g new).now.schema; tables = made.tables; sound = made.sound } in
+      subst (λ t. TablesHold charter (changed_rows change rows) t × IsDeskTrees t) (sym (settled trees made.is_open left ∙ ap (λ (d : Database). d.trees) made.committed))
+      ((made.rows charter rows (holds before made.was_open)).0, shown))
 
   -- it places the exceptions, and they are left so
   pub leaves_placed : ((trees : Trees) → IsTrue (state g new).is_open → (state g new).may_leave trees → trees ≡ (state g new).committed.trees) → OnOk r (CommitsChange change (state g old) (state g new))
-      → OnOk r ((rows : AllRows) → Holds g (over charter old) rows → LeavesPlaced g change (over charter old) (over charter new))
-  leaves_placed settled = go r
-    where
-      go : (r : Result X E) → OnOk r (CommitsChange change (state g old) (state g new)) → OnOk r ((rows : AllRows) → Holds g (over charter old) rows → LeavesPlaced g change (over charter old) (over charter new))
-      go (Ok a) made = λ rows holds.
-          let placed = (made.rows charter rows (holds (before clean) made.was_open)).1 in
-          record {
-            shown = placed;
-            left = λ trees left. subst (PlacesExceptions change (state g old).now.trees) (sym (settled trees made.is_open left ∙ ap (λ (d : Database). d.trees) made.committed)) placed;
-          }
-      go (Err e) made = tt
+      → OnOk r (EachHeldRows g (over charter old) (λ _. LeavesPlaced g change (over charter old) (over charter new)))
+  leaves_placed settled = on_ok_weaker r (λ (made : CommitsChange change (state g old) (state g new)) rows holds.
+      let placed = (made.rows charter rows (holds before made.was_open)).1 in
+      record {
+        shown = placed;
+        left = λ trees left. subst (PlacesExceptions change (state g old).now.trees) (sym (settled trees made.is_open left ∙ ap (λ (d : Database). d.trees) made.committed)) placed;
+      })
 
   -- the rows before it give no VRP twice
-  pub once_before : EntriesDiffer → ClaimsDiffer → IsLive (state g old) → IsDeskWhileOpen (state g old) → OnOk r (CommitsChange change (state g old) (state g new)) → OnOk r ((rows : AllRows) → Holds g (over charter old) rows → GivenOnce rows)
-  once_before entries claims live desk = go r
-    where
-      go : (r : Result X E) → OnOk r (CommitsChange change (state g old) (state g new)) → OnOk r ((rows : AllRows) → Holds g (over charter old) rows → GivenOnce rows)
-      go (Ok a) made = λ rows holds.
-          let opened = made.was_open in
-          held_once entries claims charter rows (state g old).now (live opened).0 (desk (before clean) opened).tables (holds (before clean) opened)
-      go (Err e) made = tt
+  pub once_before : EntriesDiffer → ClaimsDiffer → IsLive (state g old) → IsDeskWhileOpen (state g old) → OnOk r (CommitsChange change (state g old) (state g new)) → OnOk r (EachHeldRows g (over charter old) GivenOnce)
+  once_before entries claims live desk = on_ok_weaker r (λ (made : CommitsChange change (state g old) (state g new)) rows holds.
+      let opened = made.was_open in
+      held_once entries claims charter rows (state g old).now (live opened).0 (desk before opened).tables (holds before opened))
 
 -- a new store leaves its charter and no holder
 pub leaves_new : {S : Type 0} (g : Ghosts S) (charter : CharterSets) (h : Held S) → ((trees : Trees) → IsTrue (state g h).is_open → (state g h).may_leave trees → trees ≡ (state g h).committed.trees) → IsNew charter (state g h)
@@ -101,6 +70,7 @@ leaves_new g charter h settled new trees left =
 
 -- ---- a read
 
+-- two reads in turn are one
 pub read_then : {S : Type 0} (g : Ghosts S) (a b c : StoreView S) → IsRead g a b → IsRead g b c → IsRead g a c
 read_then g a b c first second = record {
   clean = λ clean. first.clean (second.clean clean);
@@ -111,19 +81,19 @@ read_then g a b c first second = record {
 }
 
 -- a query of the tables is one of the rows that the store over them holds
-module _ {S : Type 0} (g : Ghosts S) (charter : CharterSets) (old : Held S) (store : StoreView S) (is : over charter old ≡ store) {X E : Type 0} (new : Held S) (r : Result X E) (asked : IsAsked g old new r) (clean : HasCleanDisk (state g new)) where
-  before : HasCleanDisk (state g old)
-  before = omega (arith, clean, asked.survives.clean)
+module _ {S : Type 0} (g : Ghosts S) {charter : CharterSets} {old : Held S} {store : StoreView S} (is : over charter old ≡ store) {X E : Type 0} {new : Held S} {r : Result X E} (asked : IsAsked g old new r) (clean : HasCleanDisk (state g new)) where
+  had_been : HasCleanDisk (state g old)
+  had_been = earlier g asked clean
 
-  pub found_held : (so : X → AllRows → Type 0) → IfOk r (λ x. EachRows (so x) (state g old)) → IfOk r (λ x. (rows : AllRows) → Holds g store rows → so x rows)
+  pub found_held : (so : X → AllRows → Type 0) → IfOk r (λ x. EachRows (so x) (state g old)) → IfOk r (λ x. EachHeldRows g store (so x))
   found_held so found = go r found (asked.same clean)
     where
-      go : (r : Result X E) → IfOk r (λ x. EachRows (so x) (state g old)) → OnOk r (IsUnchanged (state g old) (state g new)) → IfOk r (λ x. (rows : AllRows) → Holds g store rows → so x rows)
-      go (Ok x) found same = subst (λ held. (rows : AllRows) → Holds g held rows → so x rows) is (λ rows holds. found charter rows (holds before same.0.was_open))
+      go : (r : Result X E) → IfOk r (λ x. EachRows (so x) (state g old)) → OnOk r (IsUnchanged (state g old) (state g new)) → IfOk r (λ x. EachHeldRows g store (so x))
+      go (Ok x) found same = subst (λ held. EachHeldRows g held (so x)) is (λ rows holds. found charter rows (holds had_been same.0.was_open))
       go (Err e) found same = tt
 
-  pub refused_held : (so : AllRows → Type 0) → OpenEachRows so (state g old) → (rows : AllRows) → Holds g store rows → so rows
-  refused_held so refusal = subst (λ held. (rows : AllRows) → Holds g held rows → so rows) is (λ rows holds. refusal.1 charter rows (holds before refusal.0))
+  pub refused_held : (so : AllRows → Type 0) → OpenEachRows so (state g old) → EachHeldRows g store so
+  refused_held so refusal = subst (λ held. EachHeldRows g held so) is (λ rows holds. refusal.1 charter rows (holds had_been refusal.0))
 
 -- ---- a change within a transaction, and its commit
 

@@ -1,5 +1,5 @@
 -- What a store shows and holds, as it is and after a crash.
-use Rattle.std.specs.Prelude.{◌≡◌, ◌⊎◌, ℕ, List, false, IfSome, IsTrue, refl}
+use Rattle.std.specs.Prelude.{◌≡◌, ◌⊎◌, ℕ, List, false, Option, Result, Err, IfOk, IfSome, IsTrue, refl}
 use Rattle.std.specs.Coded.{Coded, code_by, coded×}
 use Rattle.sqlite.specs.Held.{Held, held_code, state}
 use Rattle.sqlite.specs.State.{State, HasCleanDisk}
@@ -10,12 +10,15 @@ use Rattle.registry.specs.CharterSets.{CharterSets, IsCharter}
 use Rattle.registry.specs.Answer.{holder_of, taker_of}
 use Rattle.registry.specs.declared.change.Change.{Change}
 use Rattle.registry.specs.declared.command.Command.{Command}
+use Rattle.registry.specs.Rows.{Rows}
 use Rattle.registry.specs.RowsOfAll.{AllRows}
 use Rattle.registry.specs.Values.{FilesFit, FitIfAny}
 use Rattle.store_tables.specs.Tables.{desk_tables}
 use Rattle.store_tables.specs.TablesHold.{TablesHold}
 use Rattle.store_schema.specs.EitherSchema.{AreOfEitherSchema, EitherSchemaHolds}
 use Rattle.store_transactions.specs.Databases.{IsDeskTrees}
+use Rattle.store_transactions.specs.declared.fault.StoreFault.{StoreFault}
+use Rattle.store_transactions.specs.declared.fault.StoreFault.TheVariants.{Schema}
 use Rattle.store_open.specs.Opening.{IsLeftAlone}
 use Rattle.store_open.specs.TablesRead.{TablesRead}
 use Rattle.store_write.specs.Changes.{RowChange, PlacesExceptions}
@@ -54,6 +57,25 @@ NamedFit command rows =
 -- this holds, unless the disk returned what was not written
 abbrev pub OnCleanStore : {S : Type 0} → Ghosts S → StoreView S → Type 0 → Type 0
 OnCleanStore g store so = HasCleanDisk (connection_state g store) → so
+
+-- ---- what a read of a store says, where the disk returned what was written
+
+-- what it answers is so of the rows that the store held, and of those of the holder
+abbrev pub FindsHeld : {S X E : Type 0} → Ghosts S → StoreView S → StoreView S → Result X E → (AllRows → X → Type 0) → Type 0
+FindsHeld g old new result so = OnCleanStore g new (IfOk result (λ x. EachHeldRows g old (λ rows. so rows x)))
+
+abbrev pub FindsHeldOf : {S X E : Type 0} → Ghosts S → StoreView S → StoreView S → List ℕ → Result X E → (Option Rows → X → Type 0) → Type 0
+FindsHeldOf g old new h result so = FindsHeld g old new result (λ rows. so (rows.of_holder h))
+
+-- where it answers fault `Schema`, this holds for the rows that the store held
+abbrev pub RefusesHeld : {S X : Type 0} → Ghosts S → StoreView S → StoreView S → Result X StoreFault → (AllRows → Type 0) → Type 0
+RefusesHeld g old new result so = OnCleanStore g new (result ≡ Err Schema → EachHeldRows g old so)
+
+-- and there the rows of the holder do not fit
+abbrev pub RefusesUnfitOf : {S X : Type 0} → Ghosts S → StoreView S → StoreView S → List ℕ → Result X StoreFault → Type 0
+RefusesUnfitOf g old new h result = RefusesHeld g old new result (λ rows. ¬ FitIfAny (rows.of_holder h))
+
+-- ---- what a change leaves
 
 -- the tables hold the rows after the change, if they held those before it
 abbrev pub HoldsAfter : {S : Type 0} → Ghosts S → StoreView S → StoreView S → RowChange → Type 0

@@ -1,12 +1,10 @@
 //! What is loaded of a holder that loses a prefix, by a transfer or a reclaim.
-ghost use Rattle.std.specs.Prelude.{◌≡◌, ℕ, map, filter, Err, IfOk};
+ghost use Rattle.std.specs.Prelude.{◌≡◌, ℕ, map, filter, IfOk};
 ghost use Rattle.std.specs.List.Sorted.{IsStrictlySortedBy};
 ghost use Rattle.std.specs.Ordering.{nat_cmp};
-ghost use Rattle.sqlite.specs.Held.{state};
 ghost use Rattle.addr.specs.Address.{overlaps};
-ghost use Rattle.registry.specs.Values.{FitIfAny};
-ghost use Rattle.store_transactions.specs.Queries.{IsAsked, IsClean, IsReadyToAsk};
-ghost use Rattle.store_read.specs.Loads.{AreOverlapping, IsForLoss, EachRowsOf, OpenEachRows, auths_held};
+ghost use Rattle.store_transactions.specs.Queries.{IsAsked, IsReadyToAsk};
+ghost use Rattle.store_read.specs.Loads.{AreOverlapping, FindsOf, IsForLoss, RefusesUnfit, auths_held};
 ghost use Rattle.store.specs.steps.PartNumbers.{has_number, overlaps_numbered};
 
 use crate::part::load_each;
@@ -43,12 +41,10 @@ fn load_numbers<S: Alter>(
 ) -> Result<Vec<u32>, StoreFault>
     requires { IsReadyToAsk S.Store conn.old }
     ensures asked { IsAsked S.Store conn.old conn.new result }
-    ensures found { IsClean S.Store conn.new → IfOk result (λ numbers. EachRowsOf (λ rows. (n : ℕ)
-        → has_number numbers.items n ≡ overlaps_numbered prefix.now (auths_held rows) n)
-        holder.now (state S.Store conn.old)) }
+    ensures found { FindsOf S.Store conn.old conn.new holder.now result (λ rows numbers. (n : ℕ)
+        → has_number numbers.items n ≡ overlaps_numbered prefix.now (auths_held rows) n) }
     ensures rising { IfOk result (λ numbers. IsStrictlySortedBy nat_cmp numbers.items) }
-    ensures schema { IsClean S.Store conn.new → result ≡ Err StoreFault.Schema
-        → OpenEachRows (λ all. ¬ FitIfAny (all.of_holder holder.now)) (state S.Store conn.old) }
+    ensures schema { RefusesUnfit S.Store conn.old conn.new holder.now result }
 {
     let entries = load_entries_up_to(conn, alloc, holder, prefix)?;
     let mut numbers = numbers_overlapping(alloc, &entries, prefix)?;
@@ -65,11 +61,9 @@ fn load_overlapping<S: Alter>(
 ) -> Result<Vec<Auth>, StoreFault>
     requires { IsReadyToAsk S.Store conn.old }
     ensures asked { IsAsked S.Store conn.old conn.new result }
-    ensures found { IsClean S.Store conn.new → IfOk result (λ auths. EachRowsOf (λ rows.
-        AreOverlapping prefix.now (auths_held rows) auths.items)
-        holder.now (state S.Store conn.old)) }
-    ensures schema { IsClean S.Store conn.new → result ≡ Err StoreFault.Schema
-        → OpenEachRows (λ all. ¬ FitIfAny (all.of_holder holder.now)) (state S.Store conn.old) }
+    ensures found { FindsOf S.Store conn.old conn.new holder.now result (λ rows auths.
+        AreOverlapping prefix.now (auths_held rows) auths.items) }
+    ensures schema { RefusesUnfit S.Store conn.old conn.new holder.now result }
 {
     // For the proof: its contract says that what the connection shows obeys the schema.
     let _schema = conn.schema();
@@ -87,10 +81,8 @@ pub(crate) fn load_for_loss<S: Alter>(
 ) -> Result<Option<HolderRows>, StoreFault>
     requires { IsReadyToAsk S.Store conn.old }
     ensures asked { IsAsked S.Store conn.old conn.new result }
-    ensures found { IsClean S.Store conn.new → IfOk result (λ part. EachRowsOf (λ rows.
-        IsForLoss prefix.now rows part) holder.now (state S.Store conn.old)) }
-    ensures schema { IsClean S.Store conn.new → result ≡ Err StoreFault.Schema
-        → OpenEachRows (λ all. ¬ FitIfAny (all.of_holder holder.now)) (state S.Store conn.old) }
+    ensures found { FindsOf S.Store conn.old conn.new holder.now result (IsForLoss prefix.now) }
+    ensures schema { RefusesUnfit S.Store conn.old conn.new holder.now result }
 {
     let Some(held) = load_holdings(conn, alloc, holder)? else {
         return Ok(None);

@@ -6,9 +6,8 @@ ghost use Rattle.sqlite.specs.Held.{state};
 ghost use Rattle.registry.specs.declared.authorization.Auth.{Auth};
 ghost use Rattle.registry.specs.declared.limits.TheConstants.{MOST_AUTHORIZATIONS};
 ghost use Rattle.registry.specs.PartOfRows.{looked_for};
-ghost use Rattle.registry.specs.Values.{FitIfAny};
 ghost use Rattle.store_transactions.specs.Queries.{IsAsked, IsClean, IsReadyToAsk};
-ghost use Rattle.store_read.specs.Loads.{AreInOrder, EachRowsOf, OpenEachRows, auths_held};
+ghost use Rattle.store_read.specs.Loads.{AreInOrder, EachRowsOf, FindsOf, RefusesUnfit, auths_held};
 ghost use Rattle.store.specs.PartLoaded.{IsForChanges};
 ghost use Rattle.store.specs.steps.PartNumbers.{AreOfNumbers, asks_for, gives_numbered, has_number, some_asks_for};
 
@@ -57,8 +56,7 @@ fn push_given<S: Alter>(
         → has_number numbers.new.items n ≡ (has_number numbers.old.items n
         || gives_numbered asn entries.now (auths_held rows) n))
         holder.now (state S.Store conn.old)) }
-    ensures schema { IsClean S.Store conn.new → result ≡ Err StoreFault.Schema
-        → OpenEachRows (λ all. ¬ FitIfAny (all.of_holder holder.now)) (state S.Store conn.old) }
+    ensures schema { RefusesUnfit S.Store conn.old conn.new holder.now result }
 {
     for entry in entries {
         let given = load_given(conn, alloc, holder, asn, entry)?;
@@ -82,8 +80,7 @@ fn push_looked_for<S: Alter>(
         → has_number numbers.new.items n
         ≡ (has_number numbers.old.items n || asks_for change.now (auths_held rows) n))
         holder.now (state S.Store conn.old)) }
-    ensures schema { IsClean S.Store conn.new → result ≡ Err StoreFault.Schema
-        → OpenEachRows (λ all. ¬ FitIfAny (all.of_holder holder.now)) (state S.Store conn.old) }
+    ensures schema { RefusesUnfit S.Store conn.old conn.new holder.now result }
 {
     match change {
         Proposed::Create(terms) => {
@@ -107,12 +104,10 @@ fn load_numbers<S: Alter>(
     requires ready { IsReadyToAsk S.Store conn.old }
     requires is_open { IsClean S.Store conn.old → IsTrue (state S.Store conn.old).is_open }
     ensures asked { IsAsked S.Store conn.old conn.new result }
-    ensures found { IsClean S.Store conn.new → IfOk result (λ numbers. EachRowsOf (λ rows. (n : ℕ)
-        → has_number numbers.items n ≡ some_asks_for changes.now (auths_held rows) n)
-        holder.now (state S.Store conn.old)) }
+    ensures found { FindsOf S.Store conn.old conn.new holder.now result (λ rows numbers. (n : ℕ)
+        → has_number numbers.items n ≡ some_asks_for changes.now (auths_held rows) n) }
     ensures rising { IfOk result (λ numbers. IsStrictlySortedBy nat_cmp numbers.items) }
-    ensures schema { IsClean S.Store conn.new → result ≡ Err StoreFault.Schema
-        → OpenEachRows (λ all. ¬ FitIfAny (all.of_holder holder.now)) (state S.Store conn.old) }
+    ensures schema { RefusesUnfit S.Store conn.old conn.new holder.now result }
 {
     let mut numbers = Vec::new(alloc);
     for change in changes {
@@ -133,11 +128,9 @@ pub(crate) fn load_each<S: Alter>(
     requires is_open { IsClean S.Store conn.old → IsTrue (state S.Store conn.old).is_open }
     requires rising { IsStrictlySortedBy nat_cmp numbers.now }
     ensures asked { IsAsked S.Store conn.old conn.new result }
-    ensures found { IsClean S.Store conn.new → IfOk result (λ auths. EachRowsOf (λ rows.
-        AreOfNumbers numbers.now (auths_held rows) auths.items)
-        holder.now (state S.Store conn.old)) }
-    ensures schema { IsClean S.Store conn.new → result ≡ Err StoreFault.Schema
-        → OpenEachRows (λ all. ¬ FitIfAny (all.of_holder holder.now)) (state S.Store conn.old) }
+    ensures found { FindsOf S.Store conn.old conn.new holder.now result (λ rows auths.
+        AreOfNumbers numbers.now (auths_held rows) auths.items) }
+    ensures schema { RefusesUnfit S.Store conn.old conn.new holder.now result }
 {
     let mut auths = Vec::new(alloc);
     for number in numbers {
@@ -157,11 +150,10 @@ fn load_looked_for<S: Alter>(
     requires ready { IsReadyToAsk S.Store conn.old }
     requires is_open { IsClean S.Store conn.old → IsTrue (state S.Store conn.old).is_open }
     ensures asked { IsAsked S.Store conn.old conn.new result }
-    ensures found { IsClean S.Store conn.new → IfOk result (λ auths. EachRowsOf (λ rows.
+    ensures found { FindsOf S.Store conn.old conn.new holder.now result (λ rows auths.
         AreInOrder (λ (x : Auth). x.number) (filter (looked_for changes.now) (auths_held rows))
-        auths.items) holder.now (state S.Store conn.old)) }
-    ensures schema { IsClean S.Store conn.new → result ≡ Err StoreFault.Schema
-        → OpenEachRows (λ all. ¬ FitIfAny (all.of_holder holder.now)) (state S.Store conn.old) }
+        auths.items) }
+    ensures schema { RefusesUnfit S.Store conn.old conn.new holder.now result }
 {
     // For the proof: its contract says that what the connection shows obeys the schema.
     let _schema = conn.schema();
@@ -182,10 +174,9 @@ fn count_others<S: Alter>(
     requires ready { IsReadyToAsk S.Store conn.old }
     requires is_open { IsClean S.Store conn.old → IsTrue (state S.Store conn.old).is_open }
     ensures asked { IsAsked S.Store conn.old conn.new result }
-    ensures found { IsClean S.Store conn.new → IfOk result (λ others. EachRowsOf (λ rows.
+    ensures found { FindsOf S.Store conn.old conn.new holder.now result (λ rows others.
         loaded ≤ length (auths_held rows) → (others + loaded ≡ length (auths_held rows))
-        ⊎ ((others ≡ 0) × (created + more < MOST_AUTHORIZATIONS)))
-        holder.now (state S.Store conn.old)) }
+        ⊎ ((others ≡ 0) × (created + more < MOST_AUTHORIZATIONS))) }
     ensures no_schema { result ≢ Err StoreFault.Schema }
 {
     if (created as usize).saturating_add(more) < MOST_AUTHORIZATIONS {
@@ -204,10 +195,9 @@ pub(crate) fn load_part<S: Alter>(
 ) -> Result<Part, StoreFault>
     requires { IsReadyToAsk S.Store conn.old }
     ensures asked { IsAsked S.Store conn.old conn.new result }
-    ensures found { IsClean S.Store conn.new → IfOk result (λ part. EachRowsOf (λ rows.
-        IsForChanges changes.now rows part) holder.now (state S.Store conn.old)) }
-    ensures schema { IsClean S.Store conn.new → result ≡ Err StoreFault.Schema
-        → OpenEachRows (λ all. ¬ FitIfAny (all.of_holder holder.now)) (state S.Store conn.old) }
+    ensures found { FindsOf S.Store conn.old conn.new holder.now result
+        (IsForChanges changes.now) }
+    ensures schema { RefusesUnfit S.Store conn.old conn.new holder.now result }
 {
     let Some(counted) = load_grants_counted(conn, alloc, holder)? else {
         return Ok(Part {

@@ -197,7 +197,8 @@ impl<S: Alter> Store<S> {
     ghost use Rattle.store.specs.PartLoaded.{IsForChanges};
     ghost use Rattle.store_read.specs.Loads.{AllGiveOn, AreCounted, AreFilesOf, AreLoaded};
     ghost use Rattle.store_read.specs.Loads.{AreHoldings, AreListed, AreNumbered, IsForLoss, IsLoadedFor};
-    ghost use Rattle.store.specs.StoreRows.{connection_state, Holds, IsRead, NamedFit, EachHeldRows};
+    ghost use Rattle.store.specs.StoreRows.{connection_state, IsRead, NamedFit, EachHeldRows};
+    ghost use Rattle.store.specs.StoreRows.{FindsHeld, FindsHeldOf, RefusesHeld, RefusesUnfitOf};
     ghost use Rattle.store_transactions.specs.Databases.{IsDeskWhileOpen};
     ghost use Rattle.store.specs.StoreRows.{OnCleanStore, HoldsAfter, MayLeave, LeavesOnly};
     ghost use Rattle.store.specs.StoreRows.{KeepsSchema, LeavesPlaced};
@@ -216,10 +217,8 @@ impl<S: Alter> Store<S> {
         holder: &Name,
     ) -> Result<Option<HolderRows>, StoreFault>
         ensures read { IsRead S.Store self.old self.new }
-        ensures found { OnCleanStore S.Store self.new (IfOk result (λ loaded.
-            EachHeldRows S.Store self.old (λ rows. AreLoaded (rows.of_holder holder.now) loaded))) }
-        ensures schema { OnCleanStore S.Store self.new (result ≡ Err StoreFault.Schema
-            → EachHeldRows S.Store self.old (λ rows. ¬ FitIfAny (rows.of_holder holder.now))) }
+        ensures found { FindsHeldOf S.Store self.old self.new holder.now result AreLoaded }
+        ensures schema { RefusesUnfitOf S.Store self.old self.new holder.now result }
     {
         load_rows(&mut self.conn, alloc, holder)
     }
@@ -233,11 +232,9 @@ impl<S: Alter> Store<S> {
         number: u32,
     ) -> Result<HolderRows, StoreFault>
         ensures read { IsRead S.Store self.old self.new }
-        ensures found { OnCleanStore S.Store self.new (IfOk result (λ part.
-            EachHeldRows S.Store self.old
-            (λ rows. AreNumbered number (rows.of_holder holder.now) part))) }
-        ensures schema { OnCleanStore S.Store self.new (result ≡ Err StoreFault.Schema
-            → EachHeldRows S.Store self.old (λ rows. ¬ FitIfAny (rows.of_holder holder.now))) }
+        ensures found { FindsHeldOf S.Store self.old self.new holder.now result
+            (AreNumbered number) }
+        ensures schema { RefusesUnfitOf S.Store self.old self.new holder.now result }
     {
         load_numbered(&mut self.conn, alloc, holder, number)
     }
@@ -246,10 +243,8 @@ impl<S: Alter> Store<S> {
     /// not registered.
     pub fn load_listed(&mut self, alloc: Global, holder: &Name) -> Result<HolderRows, StoreFault>
         ensures read { IsRead S.Store self.old self.new }
-        ensures found { OnCleanStore S.Store self.new (IfOk result (λ part.
-            EachHeldRows S.Store self.old (λ rows. AreListed (rows.of_holder holder.now) part))) }
-        ensures schema { OnCleanStore S.Store self.new (result ≡ Err StoreFault.Schema
-            → EachHeldRows S.Store self.old (λ rows. ¬ FitIfAny (rows.of_holder holder.now))) }
+        ensures found { FindsHeldOf S.Store self.old self.new holder.now result AreListed }
+        ensures schema { RefusesUnfitOf S.Store self.old self.new holder.now result }
     {
         load_listed(&mut self.conn, alloc, holder)
     }
@@ -257,11 +252,9 @@ impl<S: Alter> Store<S> {
     /// Whether the holder is registered.
     pub fn is_registered(&mut self, alloc: Global, holder: &Name) -> Result<bool, StoreFault>
         ensures read { IsRead S.Store self.old self.new }
-        ensures found { OnCleanStore S.Store self.new (IfOk result (λ registered.
-            EachHeldRows S.Store self.old
-            (λ rows. registered ≡ is_some (rows.of_holder holder.now)))) }
-        ensures schema { OnCleanStore S.Store self.new (result ≡ Err StoreFault.Schema
-            → EachHeldRows S.Store self.old (λ rows. ¬ FitIfAny (rows.of_holder holder.now))) }
+        ensures found { FindsHeldOf S.Store self.old self.new holder.now result (λ rows registered.
+            registered ≡ is_some rows) }
+        ensures schema { RefusesUnfitOf S.Store self.old self.new holder.now result }
     {
         is_registered(&mut self.conn, alloc, holder)
     }
@@ -274,14 +267,12 @@ impl<S: Alter> Store<S> {
         second: &Name,
     ) -> Result<(Option<HolderRows>, Option<HolderRows>), StoreFault>
         ensures read { IsRead S.Store self.old self.new }
-        ensures found { OnCleanStore S.Store self.new (IfOk result (λ both.
-            EachHeldRows S.Store self.old (λ rows.
+        ensures found { FindsHeld S.Store self.old self.new result (λ rows both.
             AreLoaded (rows.of_holder first.now) both.0
-            × AreLoaded (rows.of_holder second.now) both.1))) }
-        ensures schema { OnCleanStore S.Store self.new (result ≡ Err StoreFault.Schema
-            → EachHeldRows S.Store self.old
-            (λ rows. ¬ (FitIfAny (rows.of_holder first.now)
-            × FitIfAny (rows.of_holder second.now)))) }
+            × AreLoaded (rows.of_holder second.now) both.1) }
+        ensures schema { RefusesHeld S.Store self.old self.new result (λ rows.
+            ¬ (FitIfAny (rows.of_holder first.now)
+            × FitIfAny (rows.of_holder second.now))) }
     {
         let one = self.load_holder(alloc, first)?;
         let other = self.load_holder(alloc, second)?;
@@ -292,10 +283,9 @@ impl<S: Alter> Store<S> {
     /// commands a part of the holder's rows, by key.
     pub fn load_for(&mut self, alloc: Global, command: &Command) -> Result<Loaded, StoreFault>
         ensures read { IsRead S.Store self.old self.new }
-        ensures found { OnCleanStore S.Store self.new (IfOk result (λ loaded.
-            EachHeldRows S.Store self.old (λ rows. IsLoadedFor command.now rows loaded))) }
-        ensures schema { OnCleanStore S.Store self.new (result ≡ Err StoreFault.Schema
-            → EachHeldRows S.Store self.old (λ rows. ¬ NamedFit command.now rows)) }
+        ensures found { FindsHeld S.Store self.old self.new result (IsLoadedFor command.now) }
+        ensures schema { RefusesHeld S.Store self.old self.new result (λ rows.
+            ¬ NamedFit command.now rows) }
     {
         match command {
             Command::Register { holder } => self.load_counted(alloc, holder),
@@ -337,11 +327,9 @@ impl<S: Alter> Store<S> {
         changes: &[Proposed],
     ) -> Result<Part, StoreFault>
         ensures read { IsRead S.Store self.old self.new }
-        ensures found { OnCleanStore S.Store self.new (IfOk result (λ part.
-            EachHeldRows S.Store self.old
-            (λ rows. IsForChanges changes.now (rows.of_holder holder.now) part))) }
-        ensures schema { OnCleanStore S.Store self.new (result ≡ Err StoreFault.Schema
-            → EachHeldRows S.Store self.old (λ rows. ¬ FitIfAny (rows.of_holder holder.now))) }
+        ensures found { FindsHeldOf S.Store self.old self.new holder.now result
+            (IsForChanges changes.now) }
+        ensures schema { RefusesUnfitOf S.Store self.old self.new holder.now result }
     {
         load_part(&mut self.conn, alloc, holder, changes)
     }
@@ -349,11 +337,9 @@ impl<S: Alter> Store<S> {
     /// The grants of the holder and its counters.
     fn load_counted(&mut self, alloc: Global, holder: &Name) -> Result<Loaded, StoreFault>
         ensures read { IsRead S.Store self.old self.new }
-        ensures found { OnCleanStore S.Store self.new (IfOk result (λ loaded.
-            EachHeldRows S.Store self.old
-            (λ rows. AreCounted (rows.of_holder holder.now) loaded.rows))) }
-        ensures schema { OnCleanStore S.Store self.new (result ≡ Err StoreFault.Schema
-            → EachHeldRows S.Store self.old (λ rows. ¬ FitIfAny (rows.of_holder holder.now))) }
+        ensures found { FindsHeldOf S.Store self.old self.new holder.now result (λ rows loaded.
+            AreCounted rows loaded.rows) }
+        ensures schema { RefusesUnfitOf S.Store self.old self.new holder.now result }
     {
         Ok(alone(load_grants_counted(&mut self.conn, alloc, holder)?))
     }
@@ -365,11 +351,8 @@ impl<S: Alter> Store<S> {
         holder: &Name,
     ) -> Result<Option<HolderRows>, StoreFault>
         ensures read { IsRead S.Store self.old self.new }
-        ensures found { OnCleanStore S.Store self.new (IfOk result (λ part.
-            EachHeldRows S.Store self.old
-            (λ rows. AreHoldings (rows.of_holder holder.now) part))) }
-        ensures schema { OnCleanStore S.Store self.new (result ≡ Err StoreFault.Schema
-            → EachHeldRows S.Store self.old (λ rows. ¬ FitIfAny (rows.of_holder holder.now))) }
+        ensures found { FindsHeldOf S.Store self.old self.new holder.now result AreHoldings }
+        ensures schema { RefusesUnfitOf S.Store self.old self.new holder.now result }
     {
         load_holdings(&mut self.conn, alloc, holder)
     }
@@ -383,11 +366,9 @@ impl<S: Alter> Store<S> {
         prefix: &Prefix,
     ) -> Result<Option<HolderRows>, StoreFault>
         ensures read { IsRead S.Store self.old self.new }
-        ensures found { OnCleanStore S.Store self.new (IfOk result (λ part.
-            EachHeldRows S.Store self.old
-            (λ rows. IsForLoss prefix.now (rows.of_holder holder.now) part))) }
-        ensures schema { OnCleanStore S.Store self.new (result ≡ Err StoreFault.Schema
-            → EachHeldRows S.Store self.old (λ rows. ¬ FitIfAny (rows.of_holder holder.now))) }
+        ensures found { FindsHeldOf S.Store self.old self.new holder.now result
+            (IsForLoss prefix.now) }
+        ensures schema { RefusesUnfitOf S.Store self.old self.new holder.now result }
     {
         load_for_loss(&mut self.conn, alloc, holder, prefix)
     }
@@ -401,14 +382,12 @@ impl<S: Alter> Store<S> {
         taker: &Name,
     ) -> Result<Loaded, StoreFault>
         ensures read { IsRead S.Store self.old self.new }
-        ensures found { OnCleanStore S.Store self.new (IfOk result (λ loaded.
-            EachHeldRows S.Store self.old (λ rows.
+        ensures found { FindsHeld S.Store self.old self.new result (λ rows loaded.
             IsForLoss prefix.now (rows.of_holder giver.now) loaded.rows
-            × AreHoldings (rows.of_holder taker.now) loaded.taker))) }
-        ensures schema { OnCleanStore S.Store self.new (result ≡ Err StoreFault.Schema
-            → EachHeldRows S.Store self.old
-            (λ rows. ¬ (FitIfAny (rows.of_holder giver.now)
-            × FitIfAny (rows.of_holder taker.now)))) }
+            × AreHoldings (rows.of_holder taker.now) loaded.taker) }
+        ensures schema { RefusesHeld S.Store self.old self.new result (λ rows.
+            ¬ (FitIfAny (rows.of_holder giver.now)
+            × FitIfAny (rows.of_holder taker.now))) }
     {
         let rows = self.load_for_loss(alloc, giver, prefix)?;
         let taker = self.load_holdings(alloc, taker)?;
@@ -427,11 +406,9 @@ impl<S: Alter> Store<S> {
         prefix: &Prefix,
     ) -> Result<Loaded, StoreFault>
         ensures read { IsRead S.Store self.old self.new }
-        ensures found { OnCleanStore S.Store self.new (IfOk result (λ loaded.
-            EachHeldRows S.Store self.old
-            (λ rows. IsForLoss prefix.now (rows.of_holder holder.now) loaded.rows))) }
-        ensures schema { OnCleanStore S.Store self.new (result ≡ Err StoreFault.Schema
-            → EachHeldRows S.Store self.old (λ rows. ¬ FitIfAny (rows.of_holder holder.now))) }
+        ensures found { FindsHeldOf S.Store self.old self.new holder.now result (λ rows loaded.
+            IsForLoss prefix.now rows loaded.rows) }
+        ensures schema { RefusesUnfitOf S.Store self.old self.new holder.now result }
     {
         Ok(alone(self.load_for_loss(alloc, holder, prefix)?))
     }
@@ -439,11 +416,9 @@ impl<S: Alter> Store<S> {
     /// All rows of the holder.
     fn load_whole(&mut self, alloc: Global, holder: &Name) -> Result<Loaded, StoreFault>
         ensures read { IsRead S.Store self.old self.new }
-        ensures found { OnCleanStore S.Store self.new (IfOk result (λ loaded.
-            EachHeldRows S.Store self.old
-            (λ rows. AreLoaded (rows.of_holder holder.now) loaded.rows))) }
-        ensures schema { OnCleanStore S.Store self.new (result ≡ Err StoreFault.Schema
-            → EachHeldRows S.Store self.old (λ rows. ¬ FitIfAny (rows.of_holder holder.now))) }
+        ensures found { FindsHeldOf S.Store self.old self.new holder.now result (λ rows loaded.
+            AreLoaded rows loaded.rows) }
+        ensures schema { RefusesUnfitOf S.Store self.old self.new holder.now result }
     {
         Ok(alone(self.load_holder(alloc, holder)?))
     }
@@ -451,8 +426,8 @@ impl<S: Alter> Store<S> {
     /// Whether some holder holds an address of the prefix.
     pub fn overlapping(&mut self, prefix: &Prefix) -> Result<bool, StoreFault>
         ensures read { IsRead S.Store self.old self.new }
-        ensures found { OnCleanStore S.Store self.new (IfOk result (λ some.
-            EachHeldRows S.Store self.old (λ rows. IsTrue some ↔ IsTaken rows prefix.now))) }
+        ensures found { FindsHeld S.Store self.old self.new result (λ rows some.
+            IsTrue some ↔ IsTaken rows prefix.now) }
         ensures no_schema { result ≢ Err StoreFault.Schema }
     {
         Ok(some_overlap(&mut self.conn, prefix)?)
@@ -461,13 +436,12 @@ impl<S: Alter> Store<S> {
     /// The VRPs of the authorizations of all holders that are in force on the day, in no order.
     pub fn all_auths_on(&mut self, alloc: Global, day: Day) -> Result<Vec<Vrp>, StoreFault>
         ensures read { IsRead S.Store self.old self.new }
-        ensures found { OnCleanStore S.Store self.new (IfOk result (λ vrps.
-            EachHeldRows S.Store self.old (λ rows.
-            (v : Vrp) → Contains vrps.items v ↔ IsGivenOn rows day v))) }
-        ensures once { OnCleanStore S.Store self.new (IfOk result (λ vrps.
-            EachHeldRows S.Store self.old (λ _. AllPairs ◌≢◌ vrps.items))) }
-        ensures schema { OnCleanStore S.Store self.new (result ≡ Err StoreFault.Schema
-            → EachHeldRows S.Store self.old (λ rows. ¬ AllGiveOn rows day)) }
+        ensures found { FindsHeld S.Store self.old self.new result (λ rows vrps.
+            (v : Vrp) → Contains vrps.items v ↔ IsGivenOn rows day v) }
+        ensures once { FindsHeld S.Store self.old self.new result (λ _ vrps.
+            AllPairs ◌≢◌ vrps.items) }
+        ensures schema { RefusesHeld S.Store self.old self.new result (λ rows.
+            ¬ AllGiveOn rows day) }
     {
         load_vrps(&mut self.conn, alloc, day)
     }
@@ -475,10 +449,10 @@ impl<S: Alter> Store<S> {
     /// The SLURM files in force, rising by name; none if there is no exception.
     pub fn slurm_files(&mut self, alloc: Global) -> Result<Vec<Slurm>, StoreFault>
         ensures read { IsRead S.Store self.old self.new }
-        ensures found { OnCleanStore S.Store self.new (IfOk result (λ files.
-            EachHeldRows S.Store self.old (λ rows. AreFilesOf rows.files files.items))) }
-        ensures schema { OnCleanStore S.Store self.new (result ≡ Err StoreFault.Schema
-            → EachHeldRows S.Store self.old (λ rows. ¬ FilesFit rows.files)) }
+        ensures found { FindsHeld S.Store self.old self.new result (λ rows files.
+            AreFilesOf rows.files files.items) }
+        ensures schema { RefusesHeld S.Store self.old self.new result (λ rows.
+            ¬ FilesFit rows.files) }
     {
         load_files(&mut self.conn, alloc)
     }

@@ -1,8 +1,4 @@
-use Rattle.std.proofs.Common.{subst}
-use Rattle.std.proofs.lemmas.List.Elements.{All-contains}
-use Rattle.registry.specs.Rows.{RowsIfAny}
-use Rattle.registry.specs.Values.{AuthFits}
-use Rattle.store_read.proofs.Giving.{gives_each}
+use Rattle.store.proofs.Vocabulary.{subst, All-contains, RowsIfAny, AuthFits, gives_each}
 use Rattle.store.proofs.laws.auths_of_a_history_give.Goals as goal
 
 pub returns : goal.returns

@@ -1,4 +1,4 @@
-use Rattle.sqlite.proofs.Callers.{memory_is_clean}
+use Rattle.store.proofs.Vocabulary.{memory_is_clean}
 use Rattle.store.proofs.laws.memory_is_honest.Goals as goal
 
 pub returns : goal.returns

@@ -1,5 +1,4 @@
-use Rattle.std.proofs.Common.{refl}
-use Rattle.sqlite.proofs.Callers.{memory_is_clean}
+use Rattle.store.proofs.Vocabulary.{refl, memory_is_clean}
 use Rattle.store.proofs.laws.memory_stays_open.Goals as goal
 
 pub returns-clause-open : goal.returns-clause-open

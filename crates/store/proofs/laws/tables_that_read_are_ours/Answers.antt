@@ -1,11 +1,6 @@
-use Rattle.std.proofs.Common.{◌≡◌, ◌≢◌, true, false, inl, inr, ap, refl, subst, sym, arith, length, ◌∙◌}
-use Rattle.std.proofs.lemmas.Bool.{both_ways}
+use Rattle.store.proofs.Vocabulary.{◌≡◌, ◌≢◌, true, false, inl, inr, ap, refl, subst, sym, arith, length, ◌∙◌, both_ways, Schema, desk_tables, IsOldSchema, old_tables, HasOtherNames, has_new_table}
 use Rattle.sqlite_schema.specs.Names.{same_name}
-use Rattle.sqlite_schema.specs.declared.schema.Schema.{Schema}
 use Rattle.store_tables.specs.Schemas.{has_names}
-use Rattle.store_tables.specs.Tables.{desk_tables}
-use Rattle.store_schema.specs.OldTables.{IsOldSchema, old_tables}
-use Rattle.store_open.specs.Opening.{HasOtherNames, has_new_table}
 use Rattle.store.proofs.laws.tables_that_read_are_ours.Goals as goal
 
 -- schema 1 has not all tables of a desk

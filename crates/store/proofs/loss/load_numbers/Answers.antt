@@ -1,12 +1,10 @@
-use Rattle.std.proofs.Common.{ap, ◌∙◌}
-use Rattle.store_transactions.proofs.QueryLemmas.{refused_by}
-use Rattle.store.specs.steps.PartNumbers.{has_number}
+use Rattle.store.proofs.Vocabulary.{ap, ◌∙◌, refused_by, has_number}
 use Rattle.store.proofs.LossFound.{overlaps_out_of}
 use Rattle.store.proofs.PartFound.{has_sorted}
 use Rattle.store.proofs.loss.load_numbers.Goals as goal
 
 pub returns-in_err-entries-clause-schema : goal.returns-in_err-entries-clause-schema
-returns-in_err-entries-clause-schema g c clean is = c.load_entries_up_to.ensures.schema clean (refused_by c.load_entries_up_to.result c.from_residual.result c.in_err-entries.field-0.0 c.in_err-entries.was c.from_residual.ensures.1 is)
+returns-in_err-entries-clause-schema g c clean is = c.load_entries_up_to.ensures.schema clean (refused_by _ _ _ c.in_err-entries.was c.from_residual.ensures.1 is)
 
 pub returns-clause-found : goal.returns-clause-found
 returns-clause-found g c clean charter all holds n =

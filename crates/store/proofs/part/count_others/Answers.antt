@@ -1,4 +1,4 @@
-use Rattle.std.proofs.Common.{inl, arith}
+use Rattle.store.proofs.Vocabulary.{inl, arith}
 use Rattle.store.proofs.part.count_others.Goals as goal
 
 pub returns-clause-found : goal.returns-clause-found

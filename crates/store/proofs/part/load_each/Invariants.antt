@@ -1,12 +1,5 @@
-use Rattle.std.proofs.Common.{List, ◌++◌, Ok, drop, nat_cmp}
-use Rattle.std.specs.Prelude.{⊤}
+use Rattle.store.proofs.Vocabulary.{List, ◌++◌, Ok, drop, nat_cmp, ⊤, state, Auth, StoreFault, IsAsked, IsClean, EachRowsOf, auths_held, AreOfNumbers}
 use Rattle.std.specs.List.Sorted.{IsStrictlySortedBy}
-use Rattle.sqlite.specs.Held.{state}
-use Rattle.registry.specs.declared.authorization.Auth.{Auth}
-use Rattle.store_transactions.specs.declared.fault.StoreFault.{StoreFault}
-use Rattle.store_transactions.specs.Queries.{IsAsked, IsClean}
-use Rattle.store_read.specs.Loads.{EachRowsOf, auths_held}
-use Rattle.store.specs.steps.PartNumbers.{AreOfNumbers}
 use Rattle.store.proofs.part.load_each.Given as goal
 
 abbrev pub invariant-loop-number : goal.invariant-loop-number

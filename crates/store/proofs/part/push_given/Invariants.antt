@@ -1,10 +1,4 @@
-use Rattle.std.proofs.Common.{◌≡◌, ◌||◌, ℕ, Ok, drop}
-use Rattle.std.specs.Prelude.{⊤}
-use Rattle.sqlite.specs.Held.{state}
-use Rattle.store_transactions.specs.declared.fault.StoreFault.{StoreFault}
-use Rattle.store_transactions.specs.Queries.{IsAsked, IsClean}
-use Rattle.store_read.specs.Loads.{EachRowsOf, auths_held}
-use Rattle.store.specs.steps.PartNumbers.{gives_numbered, has_number}
+use Rattle.store.proofs.Vocabulary.{◌≡◌, ◌||◌, ℕ, Ok, drop, ⊤, state, StoreFault, IsAsked, IsClean, EachRowsOf, auths_held, gives_numbered, has_number}
 use Rattle.store.proofs.part.push_given.Given as goal
 
 abbrev pub invariant-loop-entry : goal.invariant-loop-entry

@@ -1,8 +1,4 @@
-use Rattle.std.proofs.Common.{◌≡◌, ◌∙◌, ◌||◌, ℕ, Bool, List, OnOk, ap, subst, sym}
-use Rattle.sqlite.specs.Held.{state}
-use Rattle.registry.specs.declared.authorization.Auth.{Auth}
-use Rattle.store_read.specs.Loads.{EachRowsOf, auths_held}
-use Rattle.store.specs.steps.PartNumbers.{asks_for, gives_numbered, has_number}
+use Rattle.store.proofs.Vocabulary.{◌≡◌, ◌∙◌, ◌||◌, ℕ, Bool, List, OnOk, ap, subst, sym, state, Auth, EachRowsOf, auths_held, asks_for, gives_numbered, has_number}
 use Rattle.store.proofs.part.push_looked_for.Goals as goal
 
 pub returns-in-Create-clause-found : goal.returns-in-Create-clause-found

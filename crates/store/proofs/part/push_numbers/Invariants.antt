@@ -1,5 +1,4 @@
-use Rattle.std.proofs.Common.{◌≡◌, ◌++◌, map, take}
-use Rattle.store_tables.specs.declared.entry.EntryRow.{EntryRow}
+use Rattle.store.proofs.Vocabulary.{◌≡◌, ◌++◌, map, take, EntryRow}
 use Rattle.store.proofs.part.push_numbers.Given as goal
 
 abbrev pub invariant-loop-row : goal.invariant-loop-row

@@ -1,5 +1,4 @@
-use Rattle.std.proofs.Common.{ap}
-use Rattle.sqlite_schema.specs.declared.schema.Schema.{Schema}
+use Rattle.store.proofs.Vocabulary.{ap, Schema}
 use Rattle.store.proofs.StoreLemmas.{leaves_new}
 use Rattle.store.proofs.store.Store.create_or_return.Goals as goal
 

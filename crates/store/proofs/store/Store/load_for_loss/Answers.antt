@@ -1,11 +1,9 @@
-use Rattle.registry.specs.Values.{FitIfAny}
-use Rattle.store_read.specs.Loads.{IsForLoss}
+use Rattle.store.proofs.Vocabulary.{FitIfAny, IsForLoss}
 use Rattle.store.proofs.StoreLemmas.{found_held, refused_held}
 use Rattle.store.proofs.store.Store.load_for_loss.Goals as goal
 
 pub returns-clause-schema : goal.returns-clause-schema
-returns-clause-schema g c clean refused = refused_held g.S.Store c.self.inside.charter c.self.inside.conn c.args.self.now c.self.view_is c.load_for_loss.new.conn c.load_for_loss.result c.load_for_loss.ensures.asked clean (λ rows. ¬ FitIfAny (rows.of_holder c.args.holder.now)) (c.load_for_loss.ensures.schema clean refused)
+returns-clause-schema g c clean refused = refused_held g.S.Store c.self.view_is c.load_for_loss.ensures.asked clean (λ rows. ¬ FitIfAny (rows.of_holder c.args.holder.now)) (c.load_for_loss.ensures.schema clean refused)
 
 pub returns-clause-found : goal.returns-clause-found
-returns-clause-found g c clean =
-    found_held g.S.Store c.self.inside.charter c.self.inside.conn c.args.self.now c.self.view_is c.load_for_loss.new.conn c.load_for_loss.result c.load_for_loss.ensures.asked clean (λ part rows. IsForLoss c.args.prefix.now (rows.of_holder c.args.holder.now) part) (c.load_for_loss.ensures.found clean)
+returns-clause-found g c clean = found_held g.S.Store c.self.view_is c.load_for_loss.ensures.asked clean (λ part rows. IsForLoss c.args.prefix.now (rows.of_holder c.args.holder.now) part) (c.load_for_loss.ensures.found clean)

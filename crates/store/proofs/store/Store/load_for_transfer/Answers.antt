@@ -1,21 +1,21 @@
-use Rattle.store_transactions.proofs.QueryLemmas.{refused_by}
+use Rattle.store.proofs.Vocabulary.{refused_by}
 use Rattle.store.proofs.StoreLemmas.{read_then}
 use Rattle.store.proofs.store.Store.load_for_transfer.Goals as goal
 
 pub returns-in_err-rows-clause-schema : goal.returns-in_err-rows-clause-schema
 returns-in_err-rows-clause-schema g c clean is rows holds fit =
-    c.load_for_loss.ensures.schema clean (refused_by c.load_for_loss.result c.from_residual.result c.in_err-rows.field-0.0 c.in_err-rows.was c.from_residual.ensures.1 is) rows holds fit.0
+    c.load_for_loss.ensures.schema clean (refused_by _ _ _ c.in_err-rows.was c.from_residual.ensures.1 is) rows holds fit.0
 
 pub returns-in_err-taker-clause-read : goal.returns-in_err-taker-clause-read
-returns-in_err-taker-clause-read g c = read_then g.S.Store c.args.self.now c.load_for_loss.new.self c.load_holdings.new.self c.load_for_loss.ensures.read c.load_holdings.ensures.read
+returns-in_err-taker-clause-read g c = read_then g.S.Store _ _ _ c.load_for_loss.ensures.read c.load_holdings.ensures.read
 
 pub returns-in_err-taker-clause-schema : goal.returns-in_err-taker-clause-schema
 returns-in_err-taker-clause-schema g c clean is rows holds fit =
     let mid = c.load_for_loss.ensures.read.rows (c.load_holdings.ensures.read.clean clean) rows holds in
-    c.load_holdings.ensures.schema clean (refused_by c.load_holdings.result c.from_residual-in_err-taker.result c.in_err-taker.field-0.0 c.in_err-taker.was c.from_residual-in_err-taker.ensures.1 is) rows mid fit.1
+    c.load_holdings.ensures.schema clean (refused_by _ _ _ c.in_err-taker.was c.from_residual-in_err-taker.ensures.1 is) rows mid fit.1
 
 pub returns-clause-read : goal.returns-clause-read
-returns-clause-read g c = read_then g.S.Store c.args.self.now c.load_for_loss.new.self c.load_holdings.new.self c.load_for_loss.ensures.read c.load_holdings.ensures.read
+returns-clause-read g c = read_then g.S.Store _ _ _ c.load_for_loss.ensures.read c.load_holdings.ensures.read
 
 pub returns-clause-found : goal.returns-clause-found
 returns-clause-found g c clean rows holds =
