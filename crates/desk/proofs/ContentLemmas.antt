@@ -1,20 +1,13 @@
 -- The ROA content of an authorization: its entries, which rise already.
-use Rattle.std.proofs.Common.{◌≡◌, true, List, [], ◌∷◌, length, Result, Ok, Err, refl, sym, ap, ◌∙◌, arith}
-use Rattle.std.specs.Prelude.{◌↔◌, IsPermutation, IsSome, IfSome, IfOk, IfErr}
+use Rattle.desk.proofs.Vocabulary.{◌≡◌, true, List, [], ◌∷◌, length, Result, Ok, Err, refl, sym, ap, ◌∙◌, arith, ◌↔◌, IsPermutation, IsSome, IfSome, IfOk, IfErr, list_all, false≢true, RoaPrefix, AreEntries, Rise, fit_lengths, Auth}
 use Rattle.std.specs.Ordering.{nat_cmp, ordering_then}
 use Rattle.std.specs.Result.{result_ok}
-use Rattle.std.specs.List.{list_all}
-use Rattle.std.proofs.lemmas.Bool.{false≢true}
 use Rattle.addr.specs.declared.asn.Asn.{Asn}
-use Rattle.addr.specs.declared.roa_prefix.RoaPrefix.{RoaPrefix}
-use Rattle.registry.specs.RoaPrefixes.{AreEntries, Rise}
-use Rattle.registry.specs.Verdict.{fit_lengths}
-use Rattle.registry.specs.declared.authorization.Auth.{Auth}
 use Rattle.roa.proofs.RisingEntries.{at_most_once, one_order}
 use Rattle.roa.specs.RoaContent.{RouteOriginAttestation, IsContent, IsLowestFault, Rises, is_in_range}
 use Rattle.roa.specs.declared.content.ContentFault.{ContentFault}
 use Rattle.roa.specs.declared.content.ContentFault.TheVariants.{Empty, TooMany, MaxLength, Repeated}
-use Rattle.desk.specs.ContentText.{content_of}
+use Rattle.desk.specs.ContentText.{attestation_of}
 
 -- entries that rise by prefix rise as those of a content
 entries_rise : (es : List RoaPrefix) → Rise es → Rises es
@@ -41,7 +34,7 @@ pub content_found : (x : Auth) (entries : List RoaPrefix) (r : Result RouteOrigi
     → AreEntries x.entries → entries ≡ x.entries
     → IfOk r (λ content. content.asn ≡ x.asn) → IfOk r (λ content. IsPermutation entries content.entries) → IfOk r IsContent
     → IfErr r (IsLowestFault entries)
-    → (IsSome (result_ok r) ↔ (fit_lengths x.entries ≡ true)) × IfSome (result_ok r) (λ content. content ≡ content_of x)
+    → (IsSome (result_ok r) ↔ (fit_lengths x.entries ≡ true)) × IfSome (result_ok r) (λ content. content ≡ attestation_of x)
 unfolding made
 content_found x entries (Ok content) are all asn moved is fault =
     let one : content.entries ≡ x.entries =

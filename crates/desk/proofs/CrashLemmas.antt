@@ -1,36 +1,8 @@
 -- What a crash may leave after a request.
-use Rattle.std.proofs.Common.{◌≡◌, inl, inr, ℕ, ◌+◌, ◌<◌, true, false, List, [], ◌∷◌, ◌++◌, length, get_or, take, arith, refl, sym, ◌∙◌, subst}
-use Rattle.std.specs.Prelude.{Contains}
-use Rattle.std.proofs.lemmas.Bool.{true≢false}
-use Rattle.std.proofs.lemmas.List.Elements.{Contains-append_right}
-use Rattle.sqlite.specs.State.{HasCleanDisk}
-use Rattle.sqlite.specs.Store.{Ghosts}
-use Rattle.sqlite_trees.specs.Tree.{Trees}
-use Rattle.registry.specs.declared.charter.Charter.{Charter}
-use Rattle.registry_laws.specs.Growth.{GrowthFits, GrowthIsLegal}
-use Rattle.registry.specs.Answer.{IsAccepted}
-use Rattle.registry.specs.Values.{EntryFits}
-use Rattle.registry.specs.History.{History}
-use Rattle.registry.specs.RowsOfAll.{AllRows, HasRows, changed_rows}
-use Rattle.registry.specs.Verdict.{IsLegal}
-use Rattle.registry.specs.declared.asked.Asked.{Asked}
-use Rattle.registry.specs.declared.asked.Request.{Request}
+use Rattle.desk.proofs.Vocabulary.{◌≡◌, inl, inr, ℕ, ◌+◌, ◌<◌, true, false, List, [], ◌∷◌, ◌++◌, length, get_or, take, arith, refl, sym, ◌∙◌, subst, Contains, true≢false, Contains-append_right, HasCleanDisk, Ghosts, Trees, Charter, GrowthFits, GrowthIsLegal, IsAccepted, EntryFits, History, AllRows, HasRows, changed_rows, IsLegal, Asked, Request, Change, Command, TablesHold, connection_state, HoldsAfter, IsRead, MayLeave, LeavesOnly, StoreView, is_accepted, AnswersCommand, AnswersRequest, IsAnswered, asked_on, AreDurablyAnswered, IsDurablyAnswered, LeavesAlong, MayBeLeft, StaysOpen, pending_after, pending_after_all, charter_of, HoldsHistory, HoldsRowsOf, IsOnCleanDisk, Runs, Desk, Reply, Denied, Done, Imported, Unavailable, AnswersAccepted, taken_more}
 use Rattle.registry.specs.declared.asked.Request.TheVariants.{Command as CommandRequest, Query as QueryRequest}
-use Rattle.registry.specs.declared.change.Change.{Change}
-use Rattle.registry.specs.declared.command.Command.{Command}
-use Rattle.store_tables.specs.TablesHold.{TablesHold}
 use Rattle.store_transactions.specs.Databases.{IsDeskTrees}
-use Rattle.store.specs.StoreRows.{connection_state, HoldsAfter, IsRead, MayLeave, LeavesOnly, StoreView}
-use Rattle.desk.specs.Answer.{is_accepted, AnswersCommand, AnswersRequest, IsAnswered}
-use Rattle.desk.specs.CrashOutcomes.{asked_on, AreDurablyAnswered, IsDurablyAnswered, LeavesAlong, MayBeLeft, StaysOpen, pending_after, pending_after_all}
-use Rattle.desk.specs.Desk.{charter_of, HoldsHistory, HoldsRowsOf, IsOnCleanDisk}
-use Rattle.desk.specs.Run.{Runs}
-use Rattle.desk.specs.declared.desk.Desk.{Desk}
-use Rattle.desk.specs.declared.reply.Reply.{Reply}
-use Rattle.desk.specs.declared.reply.Reply.TheVariants.{Denied, Done, Imported, Unavailable}
-use Rattle.desk.specs.steps.Accepting.{AnswersAccepted}
 use Rattle.desk.proofs.DeskLemmas.{rows_carried}
-use Rattle.store_transactions.proofs.StatementLemmas.{taken_more}
 use Rattle.desk.proofs.RunLemmas.{Runs-append}
 
 -- the newest of the pending requests

@@ -1,17 +1,6 @@
 -- What requests make of the day that is kept.
-use Rattle.std.proofs.Common.{◌≡◌, ℕ, Bool, true, false, List, [], ◌∷◌, ◌++◌, Option, Some, None, inr, refl, sym, ap, ◌∙◌, subst}
-use Rattle.std.specs.Prelude.{option_map}
-use Rattle.std.proofs.lemmas.Bool.{true≢false}
-use Rattle.std.proofs.lemmas.Option.{none-some}
-use Rattle.daily_vrps.specs.KeptDay.{KeptDay}
+use Rattle.desk.proofs.Vocabulary.{◌≡◌, ℕ, Bool, true, false, List, [], ◌∷◌, ◌++◌, Option, Some, None, inr, refl, sym, ap, ◌∙◌, subst, option_map, true≢false, none-some, KeptDay, Asked, Ghosts, DayAfter, DayAfterAll, MovesDay, day_of, IsPrepared, Desk, Reply, Unavailable}
 use Rattle.payload.specs.VrpSet as set
-use Rattle.registry.specs.declared.asked.Asked.{Asked}
-use Rattle.sqlite.specs.Store.{Ghosts}
-use Rattle.desk.specs.DayAfter.{DayAfter, DayAfterAll, MovesDay}
-use Rattle.desk.specs.Prepared.{day_of, IsPrepared}
-use Rattle.desk.specs.declared.desk.Desk.{Desk}
-use Rattle.desk.specs.declared.reply.Reply.{Reply}
-use Rattle.desk.specs.declared.reply.Reply.TheVariants.{Unavailable}
 
 -- the day is kept where VRPs are
 pub day_there : (kept : Option KeptDay) (day : ℕ) → None ≡ option_map (λ (k : KeptDay). k.vrps) kept → ¬ (day_of kept ≡ Some day)

@@ -1,33 +1,10 @@
 -- What the rows of a legal history say of it.
-use Rattle.std.proofs.Common.{◌≡◌, ℕ, Bool, true, false, List, refl, sym, ap, ◌∙◌, subst, arith, length, ◌-◌, Result, Ok, Err, IsErrAnd}
-use Rattle.std.specs.Global.{Vec}
-use Rattle.std.proofs.lemmas.Bool.{false≢true, true≢false}
-use Rattle.registry.specs.History.{History}
-use Rattle.registry.specs.Rows.{changed_files}
-use Rattle.registry.specs.Answer.{IsAccepted, IsAnswer, IsListRefusal, IsOfCommand, imported, number_made}
-use Rattle.registry.specs.declared.rule.Refusal.{Refusal}
-use Rattle.registry.specs.declared.rule.Refusal.TheVariants.{Denied, Memory}
-use Rattle.registry.specs.declared.change.Change.{Change}
-use Rattle.desk.specs.Answer.{is_accepted, is_import, only_reads, refused_with, AnswersCommand, AnswersList, AnswersQuery}
+use Rattle.desk.proofs.Vocabulary.{◌≡◌, ℕ, Bool, true, false, List, refl, sym, ap, ◌∙◌, subst, arith, length, ◌-◌, Result, Ok, Err, IsErrAnd, Vec, false≢true, true≢false, History, changed_files, IsAccepted, IsAnswer, IsListRefusal, IsOfCommand, imported, number_made, Refusal, Memory, Change, is_accepted, is_import, only_reads, refused_with, AnswersCommand, AnswersList, AnswersQuery, Reply, Desk, IsOnCleanDisk, RowsStay, EachHeld, may_change, may_except, OthersStay, AnswersAccepted, Decides, HasCleanDisk, Ghosts, connection_state, StoreView, IsRead, HoldsAfter, ImportRow, Command, Import, Query, IsLegal, Charter, AllRows, changed_rows, HasRows}
+use Rattle.registry.specs.declared.rule.Refusal.TheVariants.{Denied}
 use Rattle.registry.specs.declared.asked.Request.TheVariants.{Command as CommandRequest}
-use Rattle.desk.specs.declared.reply.Reply.{Reply}
 use Rattle.desk.specs.declared.reply.Reply.TheVariants.{Denied as DeniedReply, Done, Imported, Unavailable}
-use Rattle.desk.specs.declared.desk.Desk.{Desk}
 use Rattle.desk.specs.declared.desk.following.Decided.{Decided}
-use Rattle.desk.specs.Desk.{IsOnCleanDisk, RowsStay, EachHeld}
-use Rattle.desk.specs.HolderAnswers.{may_change, may_except, OthersStay}
-use Rattle.desk.specs.steps.Accepting.{AnswersAccepted, Decides}
-use Rattle.sqlite.specs.State.{HasCleanDisk}
-use Rattle.sqlite.specs.Store.{Ghosts}
-use Rattle.store.specs.StoreRows.{connection_state, StoreView, IsRead, HoldsAfter}
-use Rattle.registry.specs.declared.authorization.ImportRow.{ImportRow}
-use Rattle.registry.specs.declared.command.Command.{Command}
-use Rattle.registry.specs.declared.command.Command.TheVariants.{Import}
-use Rattle.registry.specs.declared.command.Query.{Query}
 use Rattle.registry.specs.declared.command.Query.TheVariants.{Show, Content, List as ListQuery, Payloads, Validity, WhatIf}
-use Rattle.registry.specs.Verdict.{IsLegal}
-use Rattle.registry.specs.declared.charter.Charter.{Charter}
-use Rattle.registry.specs.RowsOfAll.{AllRows, changed_rows, HasRows}
 use Rattle.desk.proofs.HolderLemmas.{others_left, files_left}
 
 -- the rows after an accepted command are those of the history that it leaves

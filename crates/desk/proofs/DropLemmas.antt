@@ -1,37 +1,7 @@
 -- What an accepted command makes of the day that is kept, over the histories before it and after it.
-use Rattle.std.proofs.Common.{◌≡◌, ℕ, ◌+◌, ◌<◌, List, [], ◌∷◌, ◌++◌, Option, length, get_or, take, refl, subst}
-use Rattle.std.specs.Global.{Vec}
-use Rattle.sqlite.specs.State.{HasCleanDisk}
-use Rattle.sqlite.specs.Store.{Ghosts}
-use Rattle.registry_laws.specs.Growth.{GrowthFits, GrowthIsLegal}
-use Rattle.registry.specs.Answer.{IsAccepted}
-use Rattle.registry.specs.Edits.{HasEditsOf}
-use Rattle.registry.specs.History.{History}
-use Rattle.registry.specs.RowsOfAll.{changed_rows}
-use Rattle.registry.specs.Values.{EntryFits}
-use Rattle.registry.specs.Verdict.{IsLegal}
+use Rattle.desk.proofs.Vocabulary.{◌≡◌, ℕ, ◌+◌, ◌<◌, List, [], ◌∷◌, ◌++◌, Option, length, get_or, take, refl, subst, Vec, HasCleanDisk, Ghosts, GrowthFits, GrowthIsLegal, IsAccepted, HasEditsOf, History, changed_rows, EntryFits, IsLegal, Auth, Change, Holders, Exceptions, Command, GivenOnce, connection_state, HoldsAfter, IsRead, EachHeldRows, StoreView, AnswersRequest, IsAnswered, StaysOpen, DayAfter, DropsForGainAll, DropsForGain, charter_of, HoldsHistory, IsOnCleanDisk, HoldsRowsAndDay, day_of, Charter, Asked, AreAnswered, taken_more, Desk, Reply, AnswersAccepted, AreEnoughFor, FollowsDay}
 use Rattle.registry.specs.declared.asked.Request.TheVariants.{Command as CommandRequest}
-use Rattle.registry.specs.declared.authorization.Auth.{Auth}
-use Rattle.registry.specs.declared.change.Change.{Change}
-use Rattle.registry.specs.declared.change.Change.TheVariants.{Holders, Exceptions}
-use Rattle.registry.specs.declared.command.Command.{Command}
-use Rattle.store.specs.Given.{GivenOnce}
-use Rattle.store.specs.StoreRows.{connection_state, HoldsAfter, IsRead, EachHeldRows, StoreView}
-use Rattle.desk.specs.Answer.{AnswersRequest, IsAnswered}
-use Rattle.desk.specs.CrashOutcomes.{StaysOpen}
-use Rattle.desk.specs.DayAfter.{DayAfter, DropsForGainAll, DropsForGain}
-use Rattle.desk.specs.Desk.{charter_of, HoldsHistory, IsOnCleanDisk}
-use Rattle.desk.specs.DeskView.{HoldsRowsAndDay}
-use Rattle.desk.specs.Prepared.{day_of}
-use Rattle.registry.specs.declared.charter.Charter.{Charter}
-use Rattle.registry.specs.declared.asked.Asked.{Asked}
-use Rattle.desk.specs.Run.{AreAnswered}
-use Rattle.store_transactions.proofs.StatementLemmas.{taken_more}
 use Rattle.desk.proofs.RunLemmas.{Runs-append}
-use Rattle.desk.specs.declared.desk.Desk.{Desk}
-use Rattle.desk.specs.declared.reply.Reply.{Reply}
-use Rattle.desk.specs.steps.Accepting.{AnswersAccepted}
-use Rattle.desk.specs.steps.Following.{AreEnoughFor, FollowsDay}
 use Rattle.desk.proofs.CrashLemmas.{accepted_answer}
 use Rattle.desk.proofs.DeskLemmas.{rows_carried}
 use Rattle.desk.proofs.FollowLemmas.{drops_for_gain, drops_for_files}

@@ -1,41 +1,11 @@
 -- The authorizations that changes at a holder would exchange.
-use Rattle.std.proofs.Common.{◌≡◌, ℕ, Bool, true, false, not, ◌⊎◌, inl, inr, List, [], ◌∷◌, map, Err, refl, sym, ap, ◌∙◌, subst, length, Contains, arith}
-use Rattle.std.proofs.lemmas.Bool.{cases_Bool, false≢true}
-use Rattle.addr.specs.OriginValidation.{validation_state}
-use Rattle.addr.specs.declared.route.Route.{Route}
-use Rattle.registry_laws.specs.Growth.{HypotheticalIsLegal}
+use Rattle.desk.proofs.Vocabulary.{◌≡◌, ℕ, Bool, true, false, not, ◌⊎◌, inl, inr, List, [], ◌∷◌, map, Err, refl, sym, ap, ◌∙◌, subst, length, Contains, arith, cases_Bool, false≢true, validation_state, Route, HypotheticalIsLegal, DifferAtMostAt, HypotheticalKeepsOthers, state_of, Validity, IsHypotheticalAnswer, IsVrpOn, History, HypotheticalHistory, not_kept, AllRows, HasRows, IsActive, IsLegal, Auth, Charter, Proposed, Refusal, Memory, union, Ghosts, OnCleanStore, StoreView, refused_with, AnswersWhatIf, EachHeld, AreStatesOver, IsDayOfHeld, WouldExchange, AreExchanged, auths_of_rows, KeptDay, day_of_history, in_filter, none_in_nil}
 use Rattle.registry_laws.specs.SharedVrps.{NoSharedVrp}
-use Rattle.registry_laws.specs.Isolation.{DifferAtMostAt, HypotheticalKeepsOthers}
 use Rattle.payload.specs.VrpSet as set
-use Rattle.payload.specs.ValidityState.{state_of}
-use Rattle.payload.specs.declared.validity.Validity.{Validity}
-use Rattle.registry.specs.Answer.{IsHypotheticalAnswer}
-use Rattle.registry.specs.DailyVrps.{IsVrpOn}
-use Rattle.registry.specs.History.{History}
-use Rattle.registry.specs.HypotheticalHistory.{HypotheticalHistory}
-use Rattle.registry.specs.PartOfRows.{not_kept}
-use Rattle.registry.specs.RowsOfAll.{AllRows, HasRows}
-use Rattle.registry.specs.Terms.{IsActive}
-use Rattle.registry.specs.Verdict.{IsLegal}
-use Rattle.registry.specs.declared.authorization.Auth.{Auth}
-use Rattle.registry.specs.declared.charter.Charter.{Charter}
-use Rattle.registry.specs.declared.command.Proposed.{Proposed}
-use Rattle.registry.specs.declared.rule.Refusal.{Refusal}
-use Rattle.registry.specs.declared.rule.Refusal.TheVariants.{Denied, Memory}
+use Rattle.registry.specs.declared.rule.Refusal.TheVariants.{Denied}
 use Rattle.policy.specs.PartAnswer.{ExchangesAuths}
-use Rattle.slurm.specs.SlurmSets.{union}
-use Rattle.sqlite.specs.Store.{Ghosts}
-use Rattle.store.specs.StoreRows.{OnCleanStore, StoreView}
-use Rattle.desk.specs.Answer.{refused_with, AnswersWhatIf}
-use Rattle.desk.specs.Desk.{EachHeld}
 use Rattle.desk.proofs.ExportLemmas.{states_on}
-use Rattle.desk.specs.steps.WhatIf.{AreStatesOver, IsDayOfHeld, WouldExchange}
-use Rattle.daily_vrps.specs.Changes.{AreExchanged}
-use Rattle.daily_vrps.specs.Giving.{auths_of_rows}
-use Rattle.daily_vrps.specs.KeptDay.{KeptDay}
-use Rattle.daily_vrps.proofs.DayLemmas.{day_of_history}
 use Rattle.daily_vrps.proofs.Exchanges.{exchanged_day}
-use Rattle.daily_vrps.proofs.Members.{in_filter, none_in_nil}
 use Rattle.daily_vrps.proofs.States.{states_such}
 use Rattle.daily_vrps.specs.States.{states_after, states_now, HaveStates}
 use Rattle.daily_vrps.proofs.Turns.{active_rows, has_active, in_force_then, is_active, EndsAndBegins}

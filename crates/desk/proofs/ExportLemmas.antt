@@ -1,13 +1,5 @@
 -- The states of routes over the VRPs of an index.
-use Rattle.std.proofs.Common.{◌≡◌, ℕ, ◌↔◌, List, [], ◌∷◌, sym, subst, map, Contains}
-use Rattle.addr.specs.OriginValidation.{HasState, validation_state}
-use Rattle.addr.specs.declared.route.Route.{Route}
-use Rattle.addr.specs.declared.vrp.Vrp.{Vrp}
-use Rattle.payload.specs.ValidityState.{state_of}
-use Rattle.payload.specs.declared.validity.Validity.{Validity}
-use Rattle.registry.specs.DailyVrps.{IsVrpOn}
-use Rattle.registry.specs.History.{History}
-use Rattle.desk.specs.Answer.{AreStatesOn}
+use Rattle.desk.proofs.Vocabulary.{◌≡◌, ℕ, ◌↔◌, List, [], ◌∷◌, sym, subst, map, Contains, HasState, validation_state, Route, Vrp, state_of, Validity, IsVrpOn, History, AreStatesOn}
 use Rattle.daily_vrps.proofs.RouteStates.{state_has}
 
 -- states that are those over a list are those of the VRPs of the day, where the list has just these

@@ -1,60 +1,16 @@
 -- What is kept of a day follows a change of the rows.
-use Rattle.std.proofs.Common.{◌≡◌, ◌⊎◌, inl, inr, ◌↔◌, ℕ, Bool, true, false, ◌||◌, List, [], ◌∷◌, Option, Some, None, Result, Ok, Err, refl, sym, ap, arith, ◌∙◌, ◌==◌, ◌≤◌, if◌then◌else◌, filter, length, subst, Contains}
-use Rattle.std.specs.Global.{Vec}
-use Rattle.std.specs.Prelude.{Any, IfSome, IsSomeAnd, OnErr, OnOk, IsPermutation, is_ok, is_err, option_map}
-use Rattle.std.proofs.lemmas.Bool.{false_from_ne_true, false≢true, true≢false}
+use Rattle.desk.proofs.Vocabulary.{◌≡◌, ◌⊎◌, inl, inr, ◌↔◌, ℕ, Bool, true, false, ◌||◌, List, [], ◌∷◌, Option, Some, None, Result, Ok, Err, refl, sym, ap, arith, ◌∙◌, ◌==◌, ◌≤◌, if◌then◌else◌, filter, length, subst, Contains, Vec, Any, IfSome, IsSomeAnd, OnErr, OnOk, IsPermutation, is_ok, is_err, option_map, false_from_ne_true, false≢true, true≢false, Vrp, has_same, rows_stay, after_alike, follow_keeps, none_given, none_joined, head_or_tail, none_in_nil, AreJoined, IsSpared, IsWithSame, IsDayOf, IsDayOfRows, Charter, IsVrpOn, History, IsLegal, Request, Query, Filter, NamedSlurm, AreGivingOn, kept_exceptions, HasExceptions, KeptDay, edit_imported, holder_of, imported, begun, ended, AreRuled, HasEditsOf, IsEditOf, IsHold, IsHoldEndingNone, Rows, AllRows, HasRows, IsGivenOn, changed_rows, Auth, RoaPrefix, AreInNumber, entries_have, items_if_any, Change, Holders, Exceptions, Edit, Command, HolderChange, HolderRows, union, GivenOnce, auths_held, AreCounted, AreHeld, AreLoaded, AreNumbered, IsLoadedFor, has_made_none, DayAfterCommand, DropsForGain, PutsOn, StaysUnless, day_of, Reply, auths_of, begun_if_any, ended_if_any, AreEnough, listed, AddsSome, AreEnoughFor, BeginsOn, EditsTwoApart, Follows, FollowsChange, FollowsDay, FollowsEdit, MayDrop}
 use Rattle.addr.specs.Address.{last_of, Address}
 use Rattle.addr.proofs.AddressLemmas.{between_at, first-last}
-use Rattle.addr.specs.declared.vrp.Vrp.{Vrp}
-use Rattle.daily_vrps.proofs.DayLemmas.{has_same}
-use Rattle.daily_vrps.proofs.Edits.{rows_stay}
-use Rattle.daily_vrps.proofs.ExceptionLemmas.{after_alike}
-use Rattle.daily_vrps.proofs.Follows.{follow_keeps, none_given, none_joined}
-use Rattle.daily_vrps.proofs.Members.{head_or_tail, none_in_nil}
-use Rattle.daily_vrps.specs.Changes.{AreJoined, IsSpared, IsWithSame}
-use Rattle.daily_vrps.specs.Days.{IsDayOf, IsDayOfRows}
 use Rattle.daily_vrps.proofs.VrpsOfDay.{given_on}
-use Rattle.registry.specs.declared.charter.Charter.{Charter}
-use Rattle.registry.specs.DailyVrps.{IsVrpOn}
-use Rattle.registry.specs.History.{History}
-use Rattle.registry.specs.Verdict.{IsLegal}
-use Rattle.registry.specs.declared.asked.Request.{Request}
 use Rattle.registry.specs.declared.asked.Request.TheVariants.{Command as CommandRequest, Query as QueryRequest}
-use Rattle.registry.specs.declared.command.Query.{Query}
 use Rattle.slurm.specs.Filter.{FilterMatches}
-use Rattle.slurm.specs.declared.filter.Filter.{Filter}
-use Rattle.slurm.specs.declared.set.NamedSlurm.{NamedSlurm}
-use Rattle.daily_vrps.specs.Giving.{AreGivingOn}
-use Rattle.daily_vrps.specs.KeptDay.{kept_exceptions, HasExceptions, KeptDay}
-use Rattle.registry.specs.Answer.{edit_imported, holder_of, imported}
 use Rattle.payload.specs.VrpSet as set
-use Rattle.registry.specs.Edits.{begun, ended, AreRuled, HasEditsOf, IsEditOf, IsHold, IsHoldEndingNone}
-use Rattle.registry.specs.Rows.{Rows}
-use Rattle.registry.specs.RowsOfAll.{AllRows, HasRows, IsGivenOn, changed_rows}
-use Rattle.registry.specs.declared.authorization.Auth.{Auth}
 use Rattle.registry.specs.declared.authorization.AuthTerms.{AuthTerms}
-use Rattle.addr.specs.declared.roa_prefix.RoaPrefix.{RoaPrefix}
-use Rattle.registry.specs.RoaPrefixes.{AreInNumber}
-use Rattle.registry.specs.Terms.{entries_have}
-use Rattle.store_tables.specs.TablesHold.{items_if_any}
-use Rattle.registry.specs.declared.change.Change.{Change}
-use Rattle.registry.specs.declared.change.Change.TheVariants.{Holders, Exceptions}
-use Rattle.registry.specs.declared.change.Edit.{Edit}
 use Rattle.registry.specs.declared.change.Edit.TheVariants.{Hold, Grant as GrantEdit, Create as CreateEdit, Import as ImportEdit, Amend as AmendEdit, Revoke as RevokeEdit, Withdraw as WithdrawEdit}
-use Rattle.registry.specs.declared.command.Command.{Command}
 use Rattle.registry.specs.declared.command.Command.TheVariants.{Register, Delegate, Transfer, Reclaim, Grant, Revoke, Create, Amend, Withdraw, Import, Slurm as SlurmCommand}
-use Rattle.registry.specs.declared.change.HolderChange.{HolderChange}
-use Rattle.registry.specs.declared.rows.HolderRows.{HolderRows}
-use Rattle.slurm.specs.SlurmSets.{union}
-use Rattle.store.specs.Given.{GivenOnce}
 use Rattle.store_read.specs.declared.answers.Loaded.{Loaded}
-use Rattle.store_read.specs.Loads.{auths_held, AreCounted, AreHeld, AreLoaded, AreNumbered, IsLoadedFor}
 use Rattle.desk.proofs.GivenEdits.{edits_given_by_enough, ending_keeps_once, enough_amended, enough_created, enough_loaded, enough_lost, enough_of_any, enough_of_runs, enough_withdrawn}
-use Rattle.desk.specs.DayAfter.{has_made_none, DayAfterCommand, DropsForGain, PutsOn, StaysUnless}
-use Rattle.desk.specs.Prepared.{day_of}
-use Rattle.desk.specs.declared.reply.Reply.{Reply}
-use Rattle.desk.specs.steps.EditsGiven.{auths_of, begun_if_any, ended_if_any, AreEnough}
-use Rattle.desk.specs.steps.Following.{listed, AddsSome, AreEnoughFor, BeginsOn, EditsTwoApart, Follows, FollowsChange, FollowsDay, FollowsEdit, MayDrop}
 
 -- ---- an edit of one holder
 

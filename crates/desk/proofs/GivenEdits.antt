@@ -1,34 +1,12 @@
 -- What an edit of a holder's rows does to the VRPs that are given.
-use Rattle.std.proofs.Common.{◌≡◌, ℕ, Bool, true, false, ◌==◌, List, [], ◌∷◌, Option, Some, None, Contains, map, filter, ◌↔◌, inl, inr, refl, sym, ap, subst, ◌∙◌, IsPermutation}
-use Rattle.std.specs.Prelude.{option_map, if◌then◌else◌}
-use Rattle.std.specs.List.{list_any}
-use Rattle.std.proofs.lemmas.Bool.{eqb-true, false≢true, true≢false}
+use Rattle.desk.proofs.Vocabulary.{◌≡◌, ℕ, Bool, true, false, ◌==◌, List, [], ◌∷◌, Option, Some, None, Contains, map, filter, ◌↔◌, inl, inr, refl, sym, ap, subst, ◌∙◌, IsPermutation, option_map, if◌then◌else◌, list_any, eqb-true, false≢true, true≢false, Vrp, Auth, Holders, Edit, HolderChange, HolderRows, same_name, Rows, auths_if_any, edited, edited_if_any, AllRows, IsGivenOn, changed_rows, IsVrpOf, terms_overlap, GivenOnce, auths_held, AreLoaded, AreOverlapping, IsForLoss, begun, ended, ends, IsHoldEnding, IsHoldEndingNone, auths_of, ended_if_any, begun_if_any, AreEnough, HaveSameAuths, IsGivenAfter, EditsGiven, EditsGivenByEnough, EditsNothing, EndingKeepsOnce, listed, AreGivingOn, begins, rows_edited, rows_stay, stays, was_or_begun, none_given, in_filter, none_in_nil}
 use Rattle.std.proofs.lemmas.Map.Views.{any-filter_same}
 use Rattle.std.proofs.lemmas.List.Sorted.{Contains-permutation, IsPermutation-sym, list_any-IsPermutation}
 use Rattle.sqlite_rules.proofs.ListLemmas.{contains_had, has_filtered, some_has}
 use Rattle.addr.specs.declared.prefix.Prefix.{Prefix}
-use Rattle.addr.specs.declared.vrp.Vrp.{Vrp}
-use Rattle.registry.specs.declared.authorization.Auth.{Auth}
-use Rattle.registry.specs.declared.change.Change.TheVariants.{Holders}
-use Rattle.registry.specs.declared.change.Edit.{Edit}
 use Rattle.registry.specs.declared.change.Edit.TheVariants.{Hold, Create, Amend, Withdraw}
-use Rattle.registry.specs.declared.change.HolderChange.{HolderChange}
-use Rattle.registry.specs.declared.rows.HolderRows.{HolderRows}
-use Rattle.registry.specs.History.{same_name}
-use Rattle.registry.specs.Rows.{Rows, auths_if_any, edited, edited_if_any}
-use Rattle.registry.specs.RowsOfAll.{AllRows, IsGivenOn, changed_rows}
-use Rattle.registry.specs.Terms.{IsVrpOf, terms_overlap}
 use Rattle.registry.proofs.Names.{same_name-same, same_name-true}
-use Rattle.store.specs.Given.{GivenOnce}
 use Rattle.store_tables.proofs.TreeRows.{list_any-map}
-use Rattle.store_read.specs.Loads.{auths_held, AreLoaded, AreOverlapping, IsForLoss}
-use Rattle.registry.specs.Edits.{begun, ended, ends, IsHoldEnding, IsHoldEndingNone}
-use Rattle.desk.specs.steps.EditsGiven.{auths_of, ended_if_any, begun_if_any, AreEnough, HaveSameAuths, IsGivenAfter, EditsGiven, EditsGivenByEnough, EditsNothing, EndingKeepsOnce}
-use Rattle.desk.specs.steps.Following.{listed}
-use Rattle.daily_vrps.specs.Giving.{AreGivingOn}
-use Rattle.daily_vrps.proofs.Edits.{begins, rows_edited, rows_stay, stays, was_or_begun}
-use Rattle.daily_vrps.proofs.Follows.{none_given}
-use Rattle.daily_vrps.proofs.Members.{in_filter, none_in_nil}
 
 module _ (rows : AllRows) (change : HolderChange) (mine : Rows) (day : ℕ) (v : Vrp) (once : GivenOnce rows) (of : rows.of_holder change.holder ≡ Some mine) where
   -- an authorization that gives what an ended one gave is that one

@@ -1,38 +1,12 @@
 -- Replies by the entries that decide them, and the rows that a request leaves.
-use Rattle.std.proofs.Common.{◌≡◌, ℕ, Bool, true, false, ◌↔◌, cond, List, [], ◌∷◌, Option, Some, None, IfSome, inl, inr, refl, sym, ap, ◌∙◌, subst}
-use Rattle.std.specs.Global.{Vec}
-use Rattle.std.proofs.lemmas.Bool.{cases_Bool, cond-false, or_parts, true≢false}
-use Rattle.registry_laws.specs.Growth.{GrowthIsLegal}
-use Rattle.registry_laws.specs.Isolation.{concerns_all_holders, AreJudgedAlike, AreSeenAlike, GrowAlike, CommandsByEntries, HypotheticalByEntries, ImportsByEntries, QueriesByEntries}
-use Rattle.addr.specs.declared.route.Route.{Route}
-use Rattle.registry.specs.declared.authorization.ImportRow.{ImportRow}
-use Rattle.registry.specs.declared.change.Change.{Change}
+use Rattle.desk.proofs.Vocabulary.{◌≡◌, ℕ, Bool, true, false, ◌↔◌, cond, List, [], ◌∷◌, Option, Some, None, IfSome, inl, inr, refl, sym, ap, ◌∙◌, subst, Vec, cases_Bool, cond-false, or_parts, true≢false, GrowthIsLegal, concerns_all_holders, AreJudgedAlike, AreSeenAlike, GrowAlike, CommandsByEntries, HypotheticalByEntries, ImportsByEntries, QueriesByEntries, Route, ImportRow, Change, HolderChange, Charter, Command, Import, Proposed, Query, holder_of, taker_of, AreCounts, IsDenied, IsOfCommand, Leaves, History, JudgesChange, Rows, changed, changed_by_one, changed_by_second, changed_files, Verdict, IsLegal, NamedSlurm, is_import, AnswersCommand, AnswersShow, AnswersContent, AnswersList, AnswersQuery, AnswersRequest, IsAnswerOn, IsAnswerByEntries, AnswersByEntries, RunsByEntries, Runs, Asked, Request, Reply, Done, Imported, Shown, Content, Listed, Report, Denied, Unavailable}
 use Rattle.registry.specs.declared.change.Change.TheVariants.{Holders, Exceptions as Replace}
-use Rattle.registry.specs.declared.change.HolderChange.{HolderChange}
-use Rattle.registry.specs.declared.charter.Charter.{Charter}
-use Rattle.registry.specs.declared.command.Command.{Command}
-use Rattle.registry.specs.declared.command.Command.TheVariants.{Import}
-use Rattle.registry.specs.declared.command.Proposed.{Proposed}
-use Rattle.registry.specs.declared.command.Query.{Query}
 use Rattle.registry.specs.declared.command.Query.TheVariants.{Show as ShowQuery, Content as ContentQuery, List as ListQuery, Payloads as PayloadsQuery, Validity as ValidityQuery, WhatIf as WhatIfQuery}
 use Rattle.registry.specs.declared.rule.Rule.{Rule}
-use Rattle.registry.specs.Answer.{holder_of, taker_of, AreCounts, IsDenied, IsOfCommand, Leaves}
 use Rattle.registry.specs.ExceptionsInForce.{brings_exceptions}
-use Rattle.registry.specs.History.{History}
-use Rattle.registry.specs.HypotheticalHistory.{JudgesChange}
 use Rattle.registry.specs.Import.{JudgesRow}
 use Rattle.registry.specs.HolderEntries.{is_this, names_holder, entries_naming, entries_for}
-use Rattle.registry.specs.Rows.{Rows, changed, changed_by_one, changed_by_second, changed_files}
-use Rattle.registry.specs.Verdict.{Verdict, IsLegal}
-use Rattle.slurm.specs.declared.set.NamedSlurm.{NamedSlurm}
-use Rattle.desk.specs.Answer.{is_import, AnswersCommand, AnswersShow, AnswersContent, AnswersList, AnswersQuery, AnswersRequest}
-use Rattle.desk.specs.HolderAnswers.{IsAnswerOn, IsAnswerByEntries, AnswersByEntries, RunsByEntries}
-use Rattle.desk.specs.Run.{Runs}
-use Rattle.registry.specs.declared.asked.Asked.{Asked}
-use Rattle.registry.specs.declared.asked.Request.{Request}
 use Rattle.registry.specs.declared.asked.Request.TheVariants.{Command as CommandRequest, Query as QueryRequest}
-use Rattle.desk.specs.declared.reply.Reply.{Reply}
-use Rattle.desk.specs.declared.reply.Reply.TheVariants.{Done, Imported, Shown, Content, Listed, Report, Denied, Unavailable}
 
 -- ---- replies
 

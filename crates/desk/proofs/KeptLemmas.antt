@@ -1,44 +1,11 @@
 -- What a desk keeps of a day is what its tables give, and what a history gives that it holds.
-use Rattle.std.proofs.Common.{◌≡◌, ℕ, ◌<◌, List, [], ◌∷◌, ◌++◌, map, flat_map, Bool, true, false, inl, inr, Option, Some, None, refl, sym, ap, subst, ◌∙◌, arith}
-use Rattle.std.specs.Global.{Vec}
-use Rattle.std.specs.Prelude.{IfSome, IsTrue, is_some}
-use Rattle.std.proofs.lemmas.Bool.{true≢false}
-use Rattle.addr.specs.declared.vrp.Vrp.{Vrp}
-use Rattle.registry.specs.CharterSets.{CharterSets}
-use Rattle.daily_vrps.proofs.ExceptionLemmas.{after_alike}
-use Rattle.daily_vrps.proofs.DayLemmas.{day_of_history}
-use Rattle.daily_vrps.specs.Days.{IsDayOf, IsDayOfRows}
-use Rattle.daily_vrps.specs.KeptDay.{kept_exceptions, HasExceptions, KeptDay}
-use Rattle.registry.specs.History.{History}
-use Rattle.registry.specs.RowsOfAll.{AllRows, HasRows, blank_rows, changed_rows}
-use Rattle.registry.specs.Rows.{Rows, RowsIfAny}
-use Rattle.registry.specs.Terms.{authorizations_made}
-use Rattle.registry.specs.declared.authorization.Auth.{Auth}
-use Rattle.registry.specs.declared.change.Change.{Change}
-use Rattle.registry.specs.declared.change.Change.TheVariants.{Holders}
-use Rattle.registry.specs.declared.change.HolderChange.{HolderChange}
-use Rattle.registry.specs.Verdict.{IsLegal}
+use Rattle.desk.proofs.Vocabulary.{◌≡◌, ℕ, ◌<◌, List, [], ◌∷◌, ◌++◌, map, flat_map, Bool, true, false, inl, inr, Option, Some, None, refl, sym, ap, subst, ◌∙◌, arith, Vec, IfSome, IsTrue, is_some, true≢false, Vrp, CharterSets, after_alike, day_of_history, IsDayOf, IsDayOfRows, kept_exceptions, HasExceptions, KeptDay, History, AllRows, HasRows, blank_rows, changed_rows, Rows, RowsIfAny, authorizations_made, Auth, Change, Holders, HolderChange, IsLegal, union, Filter, NamedSlurm, Ghosts, HasCleanDisk, Trees, TablesHold, GivenOnce, AreFilesOf, connection_state, Holds, HoldsAfter, IsRead, EachHeldRows, OnCleanStore, StoreView, charter_of, HoldsHistory, IsOnCleanDisk, RowsStay, EachHistory, EachHeld, HoldsRowsAndDay, Desk, AreEnoughFor, Follows, IsDayOfHeld}
 use Rattle.registry.proofs.Held.{active-numbered}
 use Rattle.registry.proofs.Numbers.{Numbered, later}
 use Rattle.slurm.specs.Exceptions.{Exceptions}
-use Rattle.slurm.specs.SlurmSets.{union}
-use Rattle.slurm.specs.declared.filter.Filter.{Filter}
-use Rattle.slurm.specs.declared.set.NamedSlurm.{NamedSlurm}
-use Rattle.sqlite.specs.Store.{Ghosts}
-use Rattle.sqlite.specs.State.{HasCleanDisk}
 use Rattle.sqlite_rules.specs.Lists.{Has}
-use Rattle.sqlite_trees.specs.Tree.{Trees}
-use Rattle.store_tables.specs.TablesHold.{TablesHold}
 use Rattle.store_read.proofs.HeldAlike.{held_alike}
 use Rattle.store_tables.proofs.Once.{AreNumberedOnce, given_alike, once_by_numbers}
-use Rattle.store.specs.Given.{GivenOnce}
-use Rattle.store_read.specs.Loads.{AreFilesOf}
-use Rattle.store.specs.StoreRows.{connection_state, Holds, HoldsAfter, IsRead, EachHeldRows, OnCleanStore, StoreView}
-use Rattle.desk.specs.Desk.{charter_of, HoldsHistory, IsOnCleanDisk, RowsStay, EachHistory, EachHeld}
-use Rattle.desk.specs.DeskView.{HoldsRowsAndDay}
-use Rattle.desk.specs.declared.desk.Desk.{Desk}
-use Rattle.desk.specs.steps.Following.{AreEnoughFor, Follows}
-use Rattle.desk.specs.steps.WhatIf.{IsDayOfHeld}
 
 -- ---- rows, and histories of them
 

@@ -1,24 +1,11 @@
 -- What a desk keeps and lends after a question about a day.
-use Rattle.std.proofs.Common.{◌≡◌, ◌≢◌, ℕ, Bool, true, false, ◌↔◌, Option, Some, None, Result, Ok, Err, refl, sym, ap, ◌∙◌, subst, Contains}
-use Rattle.std.specs.Prelude.{IfSome, is_ok, option_copied, option_map, OnErr, OnOk}
-use Rattle.std.proofs.lemmas.Bool.{true≢false}
-use Rattle.std.proofs.lemmas.Option.{none-some, same_Some}
-use Rattle.daily_vrps.specs.Days.{IsDayOf}
-use Rattle.daily_vrps.specs.KeptDay.{KeptDay}
+use Rattle.desk.proofs.Vocabulary.{◌≡◌, ◌≢◌, ℕ, Bool, true, false, ◌↔◌, Option, Some, None, Result, Ok, Err, refl, sym, ap, ◌∙◌, subst, Contains, IfSome, is_ok, option_copied, option_map, OnErr, OnOk, true≢false, none-some, same_Some, IsDayOf, KeptDay, IsVrpOn, Ghosts, IsRead, StoreView, AreVrpsOn, EachHistory, EachHeld, HoldsRowsAndDay, day_of, IsPrepared, Desk}
 use Rattle.payload.proofs.Sets.{items_rise}
 use Rattle.payload.specs.VrpSet as set
-use Rattle.registry.specs.DailyVrps.{IsVrpOn}
-use Rattle.sqlite.specs.Store.{Ghosts}
-use Rattle.store.specs.StoreRows.{IsRead, StoreView}
 use Rattle.desk.proofs.DayLemmas.{day_there}
 use Rattle.desk.proofs.FollowLemmas.{when_ok}
 use Rattle.desk.proofs.KeptLemmas.{kept_of}
-use Rattle.desk.specs.Answer.{AreVrpsOn}
-use Rattle.desk.specs.Desk.{EachHistory, EachHeld}
-use Rattle.desk.specs.DeskView.{HoldsRowsAndDay}
 use Rattle.desk.specs.Lent.{HasLent}
-use Rattle.desk.specs.Prepared.{day_of, IsPrepared}
-use Rattle.desk.specs.declared.desk.Desk.{Desk}
 use denote.Ref.{Bor}
 
 abbrev vrps_of : Option KeptDay → Option set.VrpSet

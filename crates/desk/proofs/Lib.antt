@@ -12,3 +12,4 @@ pub mod FollowLemmas
 pub mod ExchangeLemmas
 pub mod DayLemmas
 pub mod DropLemmas
+pub mod Vocabulary

@@ -1,30 +1,11 @@
 -- What a desk holds that was opened over what a stop left.
-use Rattle.std.proofs.Common.{All, ℕ, inl, inr, List, [], ◌∷◌, refl, subst, sym}
-use Rattle.std.proofs.lemmas.List.Elements.{All-cons, All-contains, All-head, All-nil, All-tail}
+use Rattle.desk.proofs.Vocabulary.{All, ℕ, inl, inr, List, [], ◌∷◌, refl, subst, sym, All-cons, All-contains, All-head, All-nil, All-tail, State, IsLive, Ghosts, Trees, IsCharter, Charter, GrowthFits, GrowthIsLegal, History, AskedFits, HistoryFits, RequestFits, IsLegal, Asked, Request, IsOpened, AnswersRequest, pending_after, pending_after_all, HasNonePending, HoldDesk, LeavesAtMost, MayBeLeft, store_of, ContinuesHistories, Represents, Desk, Reply, Done, Imported, Denied, Unavailable}
 use Rattle.sqlite.specs.Effect.{IsDatabase}
-use Rattle.sqlite.specs.State.{State, IsLive}
-use Rattle.sqlite.specs.Store.{Ghosts}
-use Rattle.sqlite_trees.specs.Tree.{Trees}
-use Rattle.registry.specs.CharterSets.{IsCharter}
-use Rattle.registry.specs.declared.charter.Charter.{Charter}
-use Rattle.registry_laws.specs.Growth.{GrowthFits, GrowthIsLegal}
-use Rattle.registry.specs.History.{History}
-use Rattle.registry.specs.Values.{AskedFits, HistoryFits, RequestFits}
-use Rattle.registry.specs.Verdict.{IsLegal}
-use Rattle.registry.specs.declared.asked.Asked.{Asked}
-use Rattle.registry.specs.declared.asked.Request.{Request}
 use Rattle.registry.specs.declared.asked.Request.TheVariants.{Command as CommandRequest, Query as QueryRequest}
 use Rattle.store_open.specs.Opening.{IsOfAnotherSchema}
 use Rattle.store_open.specs.Laws.{DeskTreesHaveTables, OldDeskTreesHaveSchema}
 use Rattle.store.specs.Laws.{HistoriesRead, OldHistoriesRead, OldTablesThatReadAreOurs, TablesThatReadAreOurs}
-use Rattle.store.specs.StoreRows.{IsOpened}
-use Rattle.desk.specs.Answer.{AnswersRequest}
-use Rattle.desk.specs.CrashOutcomes.{pending_after, pending_after_all, HasNonePending, HoldDesk, LeavesAtMost, MayBeLeft}
-use Rattle.desk.specs.Desk.{store_of, ContinuesHistories, Represents}
 use Rattle.desk.specs.Resumed.{FindsLeft, HoldHistory, HoldOldDesk, IsAtMostOneMore, MayBeFound, MayBeLeftInEitherSchema, PendingFits, ResumesHistories}
-use Rattle.desk.specs.declared.desk.Desk.{Desk}
-use Rattle.desk.specs.declared.reply.Reply.{Reply}
-use Rattle.desk.specs.declared.reply.Reply.TheVariants.{Done, Imported, Denied, Unavailable}
 use Rattle.desk.proofs.HolderLemmas.{legal_after}
 
 -- what a crash of a desk may leave may be found

@@ -1,18 +1,6 @@
 -- Runs that go on by one request.
-use Rattle.std.proofs.Common.{◌≡◌, ℕ, Bool, false, ◌+◌, ◌<◌, ◌||◌, List, [], ◌∷◌, ◌++◌, length, get_or, take, refl, sym, ap, ◌∙◌, subst}
-use Rattle.std.specs.List.{list_any}
-use Rattle.std.proofs.lemmas.Bool.{or_parts}
+use Rattle.desk.proofs.Vocabulary.{◌≡◌, ℕ, Bool, false, ◌+◌, ◌<◌, ◌||◌, List, [], ◌∷◌, ◌++◌, length, get_or, take, refl, sym, ap, ◌∙◌, subst, list_any, or_parts, History, Charter, is_accepted, AnswersRequest, Ghosts, IsOnCleanDisk, RowsStay, Desk, may_change, may_change_any, may_except, may_except_any, OthersStay, Runs, Asked, Reply}
 use Rattle.std.proofs.lemmas.List.Folds.{list_any-append, list_any_more}
-use Rattle.registry.specs.History.{History}
-use Rattle.registry.specs.declared.charter.Charter.{Charter}
-use Rattle.desk.specs.Answer.{is_accepted, AnswersRequest}
-use Rattle.sqlite.specs.Store.{Ghosts}
-use Rattle.desk.specs.Desk.{IsOnCleanDisk, RowsStay}
-use Rattle.desk.specs.declared.desk.Desk.{Desk}
-use Rattle.desk.specs.HolderAnswers.{may_change, may_change_any, may_except, may_except_any, OthersStay}
-use Rattle.desk.specs.Run.{Runs}
-use Rattle.registry.specs.declared.asked.Asked.{Asked}
-use Rattle.desk.specs.declared.reply.Reply.{Reply}
 
 -- one more request at the end
 pub Runs-append : (charter : Charter) (before middle after : History) (asked : List Asked) (replies : List Reply) (a : Asked) (reply : Reply)

@@ -3,7 +3,7 @@
 ghost use Rattle.std.specs.Prelude.{◌≡◌, ◌↔◌, true, IsSome, IfSome, IfOk};
 ghost use Rattle.std.specs.String.{string_bytes};
 ghost use Rattle.registry.specs.Verdict.{fit_lengths};
-ghost use Rattle.desk.specs.ContentText.{content_of, IsContentText};
+ghost use Rattle.desk.specs.ContentText.{attestation_of, IsContentText};
 
 use registry::Auth;
 use roa::{Content, encode};
@@ -14,7 +14,7 @@ use std::alloc::{AllocError, Global};
 fn content_of(alloc: Global, auth: &Auth) -> Result<Option<Content>, AllocError>
     ensures some { IfOk result (λ found.
         IsSome found ↔ (fit_lengths auth.now.entries ≡ true)) }
-    ensures value { IfOk result (λ found. IfSome found (λ content. content ≡ content_of auth.now)) }
+    ensures value { IfOk result (λ found. IfSome found (λ content. content ≡ attestation_of auth.now)) }
 {
     let entries = auth.entries.as_slice().to_vec(alloc)?;
     Ok(Content::make(auth.asn, entries).ok())

@@ -25,7 +25,7 @@ use Rattle.desk.specs.Answer.{AnswersCommand, AnswersShow, AnswersContent, Answe
 use Rattle.hex.specs.Hex.{encode_lower}
 use Rattle.roa.specs.ContentOctets.{content_octets}
 use Rattle.roa.specs.RoaContent.{RouteOriginAttestation, Encodes, IsContent}
-use Rattle.desk.specs.ContentText.{content_of, IsContentText}
+use Rattle.desk.specs.ContentText.{attestation_of, IsContentText}
 use Rattle.desk.specs.HolderAnswers.{deciding_entries, IsAnswerOn}
 use Rattle.desk_laws.specs.OneReply.{SaySame, OneReply}
 use Rattle.registry.specs.declared.asked.Request.{Request}
@@ -121,7 +121,7 @@ OneSpelling =
 one_text : OneSpelling → (x y : Auth) (text other : List ℕ) → x ≡ y → IsContentText x text → IsContentText y other → text ≡ other
 one_text spelling x y text other same a b =
     let b' : IsContentText x other = subst (λ (auth : Auth). IsContentText auth other) (sym same) b in
-    a.3 ∙ ap encode_lower ((spelling (content_of x) a.1 a.0).0 a.2 ∙ sym ((spelling (content_of x) b'.1 b'.0).0 b'.2)) ∙ sym b'.3
+    a.3 ∙ ap encode_lower ((spelling (attestation_of x) a.1 a.0).0 a.2 ∙ sym ((spelling (attestation_of x) b'.1 b'.0).0 b'.2)) ∙ sym b'.3
 
 one_of_content : OneSpelling → (history : History) (h : List ℕ) (day : ℕ) (caller : List ℕ) (n : ℕ) (a b : Reply)
     → AnswersContent history h day caller n a → AnswersContent history h day caller n b → SaySame a b

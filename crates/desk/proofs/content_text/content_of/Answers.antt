@@ -1,4 +1,4 @@
-use Rattle.std.proofs.Common.{◌∙◌}
+use Rattle.desk.proofs.Vocabulary.{◌∙◌}
 use Rattle.desk.proofs.ContentLemmas.{content_found}
 use Rattle.desk.proofs.content_text.content_of.Goals as goal
 

@@ -1,14 +1,9 @@
-use Rattle.std.proofs.Common.{refl, sym, ap, ◌∙◌}
-use Rattle.std.proofs.lemmas.Bool.{false≢true, true≢false}
-use Rattle.desk.specs.CrashOutcomes.{asked_on}
-use Rattle.desk.specs.HolderAnswers.{may_change, may_except}
-use Rattle.desk.specs.declared.desk.Desk.{Desk}
+use Rattle.desk.proofs.Vocabulary.{refl, sym, ap, ◌∙◌, false≢true, true≢false, asked_on, may_change, may_except, Desk, day_of}
 use Rattle.registry.specs.declared.asked.Request.TheVariants.{Command as CommandRequest}
 use Rattle.desk.proofs.CrashLemmas.{accepted_kept, failed_kept, read_kept}
 use Rattle.desk.proofs.DeskLemmas.{accepted_acts, all_kept, changed_kept}
 use Rattle.desk.proofs.DropLemmas.{accepted_drops}
 use Rattle.desk.proofs.FollowLemmas.{apart_by, day_by, drops_nothing}
-use Rattle.desk.specs.Prepared.{day_of}
 use Rattle.desk.proofs.KeptLemmas.{held_read, held_where, kept_followed, kept_read, kept_where}
 use Rattle.desk.proofs.desk.Desk.carry_out.Goals as goal
 

@@ -1,4 +1,4 @@
-use Rattle.std.proofs.Common.{inl}
+use Rattle.desk.proofs.Vocabulary.{inl}
 use Rattle.desk.proofs.DayLemmas.{moved_nowhere, moved_to}
 use Rattle.desk.proofs.LentLemmas.{lent_kept}
 use Rattle.desk.proofs.desk.Desk.export.Goals as goal

@@ -1,12 +1,8 @@
-use Rattle.std.proofs.Common.{refl}
-use Rattle.desk.specs.Desk.{charter_of}
-use Rattle.desk.specs.HolderAnswers.{may_change, may_except}
+use Rattle.desk.proofs.Vocabulary.{refl, charter_of, may_change, may_except, asked_on, day_of}
 use Rattle.registry.specs.declared.asked.Request.TheVariants.{Command as CommandRequest}
-use Rattle.desk.specs.CrashOutcomes.{asked_on}
 use Rattle.desk.proofs.CrashLemmas.{kept_crash, read_kept}
 use Rattle.desk.proofs.DeskLemmas.{all_kept}
 use Rattle.desk.proofs.FollowLemmas.{drops_by_query}
-use Rattle.desk.specs.Prepared.{day_of}
 use Rattle.desk.proofs.desk.Desk.handle.Goals as goal
 
 pub returns-in-Query-clause-left : goal.returns-in-Query-clause-left

@@ -1,18 +1,6 @@
-use Rattle.std.proofs.Common.{◌≡◌, ℕ, false, List, Option, Result, Ok, Err, IfOk, refl}
-use Rattle.daily_vrps.specs.KeptDay.{KeptDay}
-use Rattle.registry.specs.declared.command.Query.{Query}
+use Rattle.desk.proofs.Vocabulary.{◌≡◌, ℕ, false, List, Option, Result, Ok, Err, IfOk, refl, KeptDay, Query, Ghosts, IsRead, StoreView, is_accepted, AnswersQuery, DayAfterQuery, charter_of, HoldsHistory, EachHistory, EachHeld, HoldsRowsAndDay, day_of, reply_of, Desk, Reply}
 use Rattle.registry.specs.declared.command.Query.TheVariants.{Show, Content, List as ListQuery, Payloads, Validity, WhatIf}
-use Rattle.sqlite.specs.Store.{Ghosts}
-use Rattle.store.specs.StoreRows.{IsRead, StoreView}
-use Rattle.desk.specs.Answer.{is_accepted, AnswersQuery}
-use Rattle.desk.specs.DayAfter.{DayAfterQuery}
-use Rattle.desk.specs.Desk.{charter_of, HoldsHistory, EachHistory, EachHeld}
-use Rattle.desk.specs.DeskView.{HoldsRowsAndDay}
-use Rattle.desk.specs.Prepared.{day_of}
-use Rattle.desk.specs.steps.Following.{reply_of}
 use Rattle.desk.specs.steps.LookedUp.{IsLookedUp}
-use Rattle.desk.specs.declared.desk.Desk.{Desk}
-use Rattle.desk.specs.declared.reply.Reply.{Reply}
 use Rattle.desk.proofs.DeskLemmas.{query_unavailable}
 use Rattle.desk.proofs.KeptLemmas.{held_read, kept_read}
 use Rattle.desk.proofs.desk.Desk.look_up.Goals as goal

@@ -1,4 +1,4 @@
-use Rattle.std.specs.Prelude.{None}
+use Rattle.desk.proofs.Vocabulary.{None}
 use Rattle.sqlite.specs.Held.{state}
 use Rattle.desk.proofs.ResumedLemmas.{left_is_ours, opened_none_pending, resumes}
 use Rattle.desk.proofs.desk.Desk.open_or_return.Goals as goal

@@ -1,4 +1,4 @@
-use Rattle.std.proofs.Common.{refl}
+use Rattle.desk.proofs.Vocabulary.{refl}
 use Rattle.desk.proofs.LentLemmas.{has_lent}
 use Rattle.desk.proofs.desk.Desk.payloads.Goals as goal
 

@@ -1,12 +1,8 @@
-use Rattle.std.proofs.Common.{◌∙◌, refl, arith, take, take_all}
-use Rattle.std.specs.Prelude.{IsOk}
-use Rattle.desk.specs.Desk.{charter_of}
+use Rattle.desk.proofs.Vocabulary.{◌∙◌, refl, arith, take, take_all, IsOk, charter_of, day_of, taken_more}
 use Rattle.desk.proofs.CrashLemmas.{left_more}
 use Rattle.desk.proofs.HolderLemmas.{runs_by_entries}
-use Rattle.desk.specs.Prepared.{day_of}
 use Rattle.desk.proofs.DayLemmas.{day_more}
 use Rattle.desk.proofs.DropLemmas.{drop_next}
-use Rattle.store_transactions.proofs.StatementLemmas.{taken_more}
 use Rattle.desk.proofs.RunLemmas.{kept_more, others_more}
 use Rattle.desk.proofs.desk.Desk.run.Goals as goal
 

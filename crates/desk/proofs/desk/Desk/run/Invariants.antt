@@ -1,13 +1,4 @@
-use Rattle.std.proofs.Common.{◌≡◌, ◌≤◌, false, take, length}
-use Rattle.std.specs.List.{list_any}
-use Rattle.std.specs.Prelude.{vec_len, vec_capacity}
-use Rattle.desk.specs.Answer.{is_accepted}
-use Rattle.desk.specs.DayAfter.{DayAfterAll, DropsForGainAll}
-use Rattle.desk.specs.Run.{AreAnswered}
-use Rattle.desk.specs.Prepared.{day_of}
-use Rattle.desk.specs.Desk.{charter_of, store_of, IsOnCleanDisk, RowsStay, EachHistory}
-use Rattle.desk.specs.HolderAnswers.{may_change_any, may_except_any, OthersStay}
-use Rattle.desk.specs.CrashOutcomes.{AreDurablyAnswered}
+use Rattle.desk.proofs.Vocabulary.{◌≡◌, ◌≤◌, false, take, length, list_any, vec_len, vec_capacity, is_accepted, DayAfterAll, DropsForGainAll, AreAnswered, day_of, charter_of, store_of, IsOnCleanDisk, RowsStay, EachHistory, may_change_any, may_except_any, OthersStay, AreDurablyAnswered}
 use Rattle.desk.proofs.desk.Desk.run.Given as goal
 
 abbrev pub invariant-loop-one : goal.invariant-loop-one

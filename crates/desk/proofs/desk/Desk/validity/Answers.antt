@@ -1,4 +1,4 @@
-use Rattle.std.proofs.Common.{inl}
+use Rattle.desk.proofs.Vocabulary.{inl}
 use Rattle.payload.specs.VrpSet as set
 use Rattle.desk.proofs.DayLemmas.{moved_nowhere, moved_to}
 use Rattle.desk.proofs.ExportLemmas.{states_on}

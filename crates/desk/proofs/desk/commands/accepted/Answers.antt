@@ -1,4 +1,4 @@
-use Rattle.std.proofs.Common.{◌≡◌, length, arith}
+use Rattle.desk.proofs.Vocabulary.{◌≡◌, length, arith}
 use Rattle.desk.proofs.DeskLemmas.{done_accepted, imported_accepted}
 use Rattle.desk.proofs.desk.commands.accepted.Goals as goal
 

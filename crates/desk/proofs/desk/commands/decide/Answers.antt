@@ -1,6 +1,4 @@
-use Rattle.std.proofs.Common.{◌≡◌, Err, subst, ◌∙◌}
-use Rattle.registry.specs.declared.charter.Charter.{Charter}
-use Rattle.registry.specs.Answer.{IsAccepted, IsAnswer}
+use Rattle.desk.proofs.Vocabulary.{◌≡◌, Err, subst, ◌∙◌, Charter, IsAccepted, IsAnswer}
 use Rattle.desk.proofs.DeskLemmas.{refuses}
 use Rattle.desk.proofs.FollowLemmas.{enough_for}
 use Rattle.desk.proofs.desk.commands.decide.Goals as goal

@@ -1,4 +1,4 @@
-use Rattle.daily_vrps.proofs.DayLemmas.{day_of_found}
+use Rattle.desk.proofs.Vocabulary.{day_of_found}
 use Rattle.desk.proofs.KeptLemmas.{together}
 use Rattle.desk.proofs.desk.daily.kept_on.Goals as goal
 

@@ -1,4 +1,4 @@
-use Rattle.std.proofs.Common.{sym, ◌∙◌}
+use Rattle.desk.proofs.Vocabulary.{sym, ◌∙◌}
 use Rattle.desk.proofs.FollowLemmas.{followed}
 use Rattle.desk.proofs.desk.following.follow.Goals as goal
 

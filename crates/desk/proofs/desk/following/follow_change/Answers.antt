@@ -1,4 +1,4 @@
-use Rattle.std.proofs.Common.{inr, sym, ◌∙◌}
+use Rattle.desk.proofs.Vocabulary.{inr, sym, ◌∙◌}
 use Rattle.desk.proofs.FollowLemmas.{drops_first, when_err, when_no_error, when_not_ok, when_ok}
 use Rattle.desk.proofs.desk.following.follow_change.Goals as goal
 

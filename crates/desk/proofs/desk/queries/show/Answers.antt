@@ -1,4 +1,4 @@
-use Rattle.std.proofs.Common.{refl}
+use Rattle.desk.proofs.Vocabulary.{refl}
 use Rattle.desk.proofs.desk.queries.show.Goals as goal
 
 pub returns-in-Ok-clause-answered : goal.returns-in-Ok-clause-answered

@@ -1,7 +1,5 @@
-use Rattle.std.proofs.Common.{sym, ◌∙◌}
-use Rattle.std.proofs.lemmas.Bool.{eqb-true}
+use Rattle.desk.proofs.Vocabulary.{sym, ◌∙◌, eqb-true, looked_for}
 use Rattle.std.proofs.lemmas.Result.{err_from_is_err_and}
-use Rattle.registry.specs.PartOfRows.{looked_for}
 use Rattle.desk.proofs.ExchangeLemmas.{exchanges_nothing, hypothetical_refused, would_exchange}
 use Rattle.desk.proofs.desk.what_if.suppose.Goals as goal
 

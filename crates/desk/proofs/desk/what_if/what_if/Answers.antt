@@ -1,6 +1,4 @@
-use Rattle.registry.specs.History.{History}
-use Rattle.daily_vrps.specs.Days.{ExchangesVrps}
-use Rattle.desk.specs.steps.WhatIf.{AreStatesOver}
+use Rattle.desk.proofs.Vocabulary.{History, ExchangesVrps, AreStatesOver}
 use Rattle.desk.proofs.DeskLemmas.{found_later, read_then}
 use Rattle.desk.proofs.KeptLemmas.{kept_read}
 use Rattle.desk.proofs.desk.what_if.what_if.Goals as goal
