@@ -1,37 +1,15 @@
 -- What an end and a stop leave of a desk's files, and what the next open finds there.
-use Rattle.std.proofs.Common.{◌≡◌, inl, ap, sym, subst, ◌∙◌, IsTrue, List, Result, Ok, Err, IfOk, arith}
-use Rattle.std.proofs.Math.Logic.{∥∥₁_elim, ∥∥₁_map}
-use Rattle.sqlite_disk.specs.declared.Disk.{Ghosts}
-use Rattle.sqlite_disk.specs.declared.Files.{Files}
+use Rattle.desk_files.proofs.Vocabulary.{◌≡◌, inl, ap, sym, subst, ◌∙◌, IsTrue, List, Result, Ok, Err, IfOk, arith, ∥∥₁_elim, ∥∥₁_map, Ghosts, Files, AreClean, Image, Trees, IsClean, IsQuiet, FileStore, FailsToClose, file_state, image_of, over_files, Finds, HoldsDatabase, IsOpened, AreDatabases, Held, HasCleanDisk, IsLive, History, Asked, Charter, IsDeskTrees, IsDeskWhileOpen, LeavesAtMost, charter_of, ContinuesHistories, HoldsHistory, IsOnCleanDisk, Represents, FindsLeft, HoldHistory, MayBeFound, MayBeLeftInEitherSchema, ResumesHistories, Desk, UnclosedLeaves, CloseFault, AreLeftFiles, AreLeftFilesInEitherSchema, AreLeftOfLegal, ContinuesFiles, HoldLeft, IsOpenOver, FilesHoldDesk, HeldLeaves, ResumesFiles, StoppedLeaves}
 use Rattle.sqlite_wal.specs.Files.{outcomes}
-use Rattle.sqlite_wal.specs.Reads.{AreClean}
-use Rattle.sqlite_wal.specs.Recovery.{Image}
 use Rattle.sqlite_pool.proofs.StateLemmas.{clean_is, may_leave_is}
 use Rattle.sqlite_trees.specs.Props.{Trees-set}
-use Rattle.sqlite_trees.specs.Tree.{Trees}
-use Rattle.sqlite_trees.specs.View.{IsClean, IsQuiet}
 use Rattle.sqlite_trees.proofs.Doubt.{no_doubt}
 use Rattle.sqlite_store.specs.FileStore.{faults, files, is_shielded, recovers, view}
-use Rattle.sqlite_store.specs.declared.store.FileStore.{FileStore}
 use Rattle.sqlite.specs.Closing.{IsCopied}
-use Rattle.sqlite.specs.Files.{FailsToClose, file_state, image_of, over_files, Finds, HoldsDatabase, IsOpened}
-use Rattle.sqlite.specs.Held.{AreDatabases, Held}
 use Rattle.sqlite.specs.Start.{FindsIn}
-use Rattle.sqlite.specs.State.{HasCleanDisk, IsLive}
 use Rattle.sqlite.proofs.Theorems.{opens_again}
 use Rattle.registry.specs.CharterSets.{IsCharter}
-use Rattle.registry.specs.History.{History}
-use Rattle.registry.specs.declared.asked.Asked.{Asked}
-use Rattle.registry.specs.declared.charter.Charter.{Charter}
 use Rattle.store_tables.specs.TablesHold.{TablesHold}
-use Rattle.store_transactions.specs.Databases.{IsDeskTrees, IsDeskWhileOpen}
-use Rattle.desk.specs.CrashOutcomes.{LeavesAtMost}
-use Rattle.desk.specs.Desk.{charter_of, ContinuesHistories, HoldsHistory, IsOnCleanDisk, Represents}
-use Rattle.desk.specs.Resumed.{FindsLeft, HoldHistory, MayBeFound, MayBeLeftInEitherSchema, ResumesHistories}
-use Rattle.desk.specs.declared.desk.Desk.{Desk}
-use Rattle.desk_files.specs.Refused.{UnclosedLeaves}
-use Rattle.desk_files.specs.declared.file.CloseFault.{CloseFault}
-use Rattle.desk_files.specs.DeskFiles.{AreLeftFiles, AreLeftFilesInEitherSchema, AreLeftOfLegal, ContinuesFiles, HoldLeft, IsOpenOver, FilesHoldDesk, HeldLeaves, ResumesFiles, StoppedLeaves}
 
 -- a disk that returned what was written until the close did so before
 pub closed_clean : {D : Type 0} {g : Ghosts D} (desk : Desk (FileStore D g)) (conn : Held (FileStore D g)) (files : Files D)

@@ -1,25 +1,14 @@
 -- What a desk has after a crash, and after lives with a crash after each.
-use Rattle.std.proofs.Common.{All, ◌≡◌, ℕ, ◌+◌, ◌<◌, IsTrue, List, [], ◌∷◌, ◌++◌, length, get_or, map, take, inl, inr, refl, sym, ap, ◌∙◌, subst}
+use Rattle.desk_files.proofs.Vocabulary.{All, ◌≡◌, ℕ, ◌+◌, ◌<◌, IsTrue, List, [], ◌∷◌, ◌++◌, length, get_or, map, take, inl, inr, refl, sym, ap, ◌∙◌, subst, Held, state, IsQuiet, Charter, History, Asked, pending_after_all, AreDurablyAnswered, LeavesAtMost, MayBeLeft, charter_of, HoldsHistory, Represents, FindsLeft, IsAtMostOneMore, PendingFits, ResumesHistories, Desk, left_found, pending_after_all_fits, HoldsLegal, LeavesLegal, LeavesLives, Lives, LivesOn, ResumesAfter, StoreLeavesAtMost}
 use Rattle.std.specs.Borrow.{Bor}
 use Rattle.std.specs.Global.{Vec}
 use Rattle.std.proofs.lemmas.List.{map-append, take-map, take_more}
 use Rattle.std.proofs.lemmas.List.Elements.{All-nil}
-use Rattle.sqlite.specs.Held.{Held, state}
 use Rattle.sqlite.specs.Store.{Ghosts}
-use Rattle.sqlite_trees.specs.View.{IsQuiet}
-use Rattle.registry.specs.declared.charter.Charter.{Charter}
-use Rattle.registry.specs.History.{History}
 use Rattle.registry.specs.Values.{AskedFits}
 use Rattle.registry.specs.Verdict.{IsLegal}
-use Rattle.registry.specs.declared.asked.Asked.{Asked}
-use Rattle.desk.specs.CrashOutcomes.{pending_after_all, AreDurablyAnswered, LeavesAtMost, MayBeLeft}
-use Rattle.desk.specs.Desk.{charter_of, HoldsHistory, Represents}
-use Rattle.desk.specs.Resumed.{FindsLeft, IsAtMostOneMore, PendingFits, ResumesHistories}
 use Rattle.desk.specs.Run.{Runs}
-use Rattle.desk.specs.declared.desk.Desk.{Desk}
 use Rattle.desk.specs.declared.reply.Reply.{Reply}
-use Rattle.desk.proofs.ResumedLemmas.{left_found, pending_after_all_fits}
-use Rattle.desk_files.specs.Lives.{HoldsLegal, LeavesLegal, LeavesLives, Lives, LivesOn, ResumesAfter, StoreLeavesAtMost}
 
 abbrev requests : Bor (List Asked) → List Asked
 requests asked = asked.now

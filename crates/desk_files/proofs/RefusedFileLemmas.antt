@@ -1,37 +1,13 @@
 -- What is left of the files of a desk that was refused.
-use Rattle.std.proofs.Common.{◌≡◌, ◌⊎◌, ◌∙◌, inl, inr, List, [], Result, Ok, Err, IfErr, refl, subst, sym}
-use Rattle.std.proofs.Math.Logic.{∥∥₁_elim, ∥∥₁_map}
-use Rattle.sqlite_disk.specs.declared.Disk.{Ghosts}
-use Rattle.sqlite_disk.specs.declared.Files.{Files}
-use Rattle.sqlite_wal.specs.Reads.{AreClean}
-use Rattle.sqlite_wal.specs.Recovery.{Image}
+use Rattle.desk_files.proofs.Vocabulary.{◌≡◌, ◌⊎◌, ◌∙◌, inl, inr, List, [], Result, Ok, Err, IfErr, refl, subst, sym, ∥∥₁_elim, ∥∥₁_map, Ghosts, Files, AreClean, Image, Trees, FileStore, file_state, HoldsDatabase, image_of, over_files, Held, HasCleanDisk, Charter, History, Asked, IsNew, IsUnused, AreMoved, HoldDesk, LeavesAtMost, IsOnCleanDisk, store_of, MayBeFound, MayBeLeftInEitherSchema, Resumes, Desk, left_found, AreLeftFilesInEitherSchema, FilesLeaveAtMost, HoldLeft, IsOpenOver, LeavesNoMore, ResumesFiles, ResumesLeft, RefusedLeaves, RefusedLeavesOver, UnclosedLeaves, LeavesUnmade, RefusedDatabase, RefusesNoLeft, RefusesNoLegal, CloseFault, File, Path, Store}
 use Rattle.sqlite_wal.proofs.LogLemmas.{SeenMayStay}
-use Rattle.sqlite_trees.specs.Tree.{Trees}
 use Rattle.sqlite_store.specs.Laws.{settled_at}
-use Rattle.sqlite_store.specs.declared.store.FileStore.{FileStore}
-use Rattle.sqlite.specs.Files.{file_state, HoldsDatabase, image_of, over_files}
-use Rattle.sqlite.specs.Held.{Held}
-use Rattle.sqlite.specs.State.{HasCleanDisk}
-use Rattle.registry.specs.declared.charter.Charter.{Charter}
-use Rattle.registry.specs.History.{History}
-use Rattle.registry.specs.declared.asked.Asked.{Asked}
 use Rattle.registry.specs.RowsOfAll.{blank_rows, HasRows}
-use Rattle.store_transactions.specs.Databases.{IsNew, IsUnused}
 use Rattle.store_transactions.specs.declared.fault.StoreFault.{StoreFault}
-use Rattle.store_open.specs.Opening.{AreMoved}
 use Rattle.store.specs.StoreRows.{connection_state, OnCleanStore}
 use Rattle.store.specs.RefusedOpening.{IsGivenBack, IsNotMade}
-use Rattle.desk.specs.CrashOutcomes.{HoldDesk, LeavesAtMost}
-use Rattle.desk.specs.Desk.{IsOnCleanDisk, store_of}
-use Rattle.desk.specs.Resumed.{MayBeFound, MayBeLeftInEitherSchema, Resumes}
-use Rattle.desk.specs.declared.desk.Desk.{Desk}
-use Rattle.desk.proofs.ResumedLemmas.{left_found}
-use Rattle.desk_files.specs.DeskFiles.{AreLeftFilesInEitherSchema, FilesLeaveAtMost, HoldLeft, IsOpenOver, LeavesNoMore, ResumesFiles, ResumesLeft}
-use Rattle.desk_files.specs.Refused.{RefusedLeaves, RefusedLeavesOver, UnclosedLeaves, LeavesUnmade, RefusedDatabase, RefusesNoLeft, RefusesNoLegal}
-use Rattle.desk_files.specs.declared.file.CloseFault.{CloseFault}
 use Rattle.desk_files.specs.declared.file.MakeFault.TheVariants as unmade
 use Rattle.desk_files.specs.declared.file.OpenFault.{OpenFault}
-use Rattle.desk_files.specs.declared.file.OpenFault.TheVariants.{File, Path, Store}
 use Rattle.desk_files.proofs.DeskFileLemmas.{shown_trees}
 use Rattle.desk_files.proofs.RefusedLemmas.{leaves_shown, moved_left}
 

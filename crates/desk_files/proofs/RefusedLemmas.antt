@@ -1,17 +1,6 @@
 -- What an opening that was refused leaves of what it found.
-use Rattle.std.proofs.Common.{◌≡◌, ◌∙◌, inl, inr, IsTrue, List, ap, subst, sym}
-use Rattle.sqlite.specs.Held.{Held, state}
-use Rattle.sqlite.specs.State.{Opens, State}
+use Rattle.desk_files.proofs.Vocabulary.{◌≡◌, ◌∙◌, inl, inr, IsTrue, List, ap, subst, sym, Held, state, Opens, State, Trees, IsQuiet, Charter, History, Asked, AreMoved, LeavesOldOrMoved, HoldDesk, MayBeLeft, MayBeFound, left_found}
 use Rattle.sqlite.specs.Store.{Ghosts}
-use Rattle.sqlite_trees.specs.Tree.{Trees}
-use Rattle.sqlite_trees.specs.View.{IsQuiet}
-use Rattle.registry.specs.declared.charter.Charter.{Charter}
-use Rattle.registry.specs.History.{History}
-use Rattle.registry.specs.declared.asked.Asked.{Asked}
-use Rattle.store_open.specs.Opening.{AreMoved, LeavesOldOrMoved}
-use Rattle.desk.specs.CrashOutcomes.{HoldDesk, MayBeLeft}
-use Rattle.desk.specs.Resumed.{MayBeFound}
-use Rattle.desk.proofs.ResumedLemmas.{left_found}
 
 -- the trees that were moved hold what was found
 pub moved_left : (charter : Charter) (before : History) (pending : List Asked) (found : State) (trees : Trees)

@@ -1,23 +1,12 @@
 -- What the desk replies to a request.
-use Rattle.std.proofs.Common.{◌≡◌, ◌↔◌, ℕ, false, IsTrue, Option, Some, None, refl, sym, ap, inl, inr, true≢false, Bor}
-use Rattle.std.proofs.lemmas.Bool.{false≢true}
-use Rattle.sqlite.specs.Store.{Ghosts}
-use Rattle.desk.specs.Answer.{is_accepted}
-use Rattle.desk.specs.CrashOutcomes.{IsDurablyAnswered}
+use Rattle.web.proofs.Vocabulary.{◌≡◌, ◌↔◌, ℕ, false, IsTrue, Option, Some, None, refl, sym, ap, inl, inr, true≢false, Bor, false≢true, Ghosts, is_accepted, IsDurablyAnswered, charter_of, RowsStay, EachHistory, AskedFits, Asked, Desk, Reply, Payloads, Unavailable, IsLaterDesk, RepliesAt}
 use Rattle.desk.specs.DayAfter.{DayAfter, MovesDay}
-use Rattle.desk.specs.Desk.{charter_of, RowsStay, EachHistory}
 use Rattle.desk.specs.Lent.{HasLent}
 use Rattle.desk.specs.Prepared.{day_of}
 use Rattle.desk.proofs.CrashLemmas.{read_kept}
 use Rattle.payload.specs.VrpSet as set
-use Rattle.registry.specs.Values.{AskedFits}
-use Rattle.registry.specs.declared.asked.Asked.{Asked}
 use Rattle.registry.specs.declared.asked.Request.TheVariants.{Query as QueryRequest}
 use Rattle.registry.specs.declared.command.Query.TheVariants.{Payloads as PayloadsQuery}
-use Rattle.desk.specs.declared.desk.Desk.{Desk}
-use Rattle.desk.specs.declared.reply.Reply.{Reply}
-use Rattle.desk.specs.declared.reply.Reply.TheVariants.{Payloads, Unavailable}
-use Rattle.web.specs.ScriptAnswer.{IsLaterDesk, RepliesAt}
 
 -- what is so exactly if false is true, is not so
 pub unless_so : {P : Type 0} → (IsTrue false ↔ P) → P → ⊥

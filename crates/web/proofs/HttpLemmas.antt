@@ -1,43 +1,24 @@
 -- The answers to HTTP requests and the responses that give them.
-use Rattle.std.proofs.Common.{◌≡◌, ℕ, Bool, true, false, List, [], ◌∷◌, length, ◌++◌, codes, Option, Some, None, Result, Ok, Err, refl, ap, subst, ◌∙◌, append_assoc, get_or, inl, inr, is_some, sym, true≢false, option_copied, Bor}
+use Rattle.web.proofs.Vocabulary.{◌≡◌, ℕ, Bool, true, false, List, [], ◌∷◌, length, ◌++◌, codes, Option, Some, None, Result, Ok, Err, refl, ap, subst, ◌∙◌, append_assoc, get_or, inl, inr, is_some, sym, true≢false, option_copied, Bor, append-nil, append_cancel_left, IfSome, OnErr, OnOk, Ghosts, Vrp, History, Charter, Head, SaysHead, AnswersRequest, is_accepted, charter_of, RowsStay, Asked, LeavesAtMost, pending_after, Desk, Reply, Done, Imported, Listed, Payloads, Denied, Unavailable, HasErrorStatus, json_response, MayStayUnsent, reply_body, reply_response, reply_status, line_text, short_text, RepliesAt, AnswersNext, extent_of, IsResponseUnless, ReadsNext}
 use Rattle.std.specs.Fmt.{digits}
 use Rattle.std.specs.Global.{Vec}
-use Rattle.std.proofs.lemmas.List.{append-nil, append_cancel_left}
 use Rattle.std.proofs.lemmas.Option.{same_Some}
 use Rattle.http_messages.specs.declared.head.TheConstants.{HEAD_LIMIT}
-use Rattle.std.specs.Prelude.{IfSome}
-use Rattle.std.specs.Result.{OnErr, OnOk}
-use Rattle.sqlite.specs.Store.{Ghosts}
-use Rattle.addr.specs.declared.vrp.Vrp.{Vrp}
 use Rattle.registry.specs.declared.authorization.Auth.{Auth}
-use Rattle.registry.specs.History.{History}
-use Rattle.registry.specs.declared.charter.Charter.{Charter}
 use Rattle.http_messages.specs.HeadEnd.{IsWholeHead}
 use Rattle.http_messages.specs.Input.{Gives}
-use Rattle.requests.specs.RequestHeads.{Head, SaysHead}
 use Rattle.http_messages.specs.ResponseText.{response_head, status_line}
 use Rattle.http_messages.specs.declared.response.ContentType.{ContentType}
 use Rattle.http_messages.specs.declared.response.ContentType.TheVariants.{Csv}
 use Rattle.http_messages.specs.declared.status.Status.TheVariants.{Done as DoneStatus, Forbidden, ServiceUnavailable}
-use Rattle.desk.specs.Answer.{AnswersRequest, is_accepted}
-use Rattle.desk.specs.Desk.{charter_of, RowsStay}
-use Rattle.registry.specs.declared.asked.Asked.{Asked}
 use Rattle.registry.specs.declared.asked.Request.{Request}
 use Rattle.registry.specs.declared.asked.Request.TheVariants.{Command as CommandRequest, Query as QueryRequest}
 use Rattle.registry.specs.declared.command.Query.TheVariants.{Payloads as PayloadsQuery}
-use Rattle.desk.specs.CrashOutcomes.{LeavesAtMost, pending_after}
-use Rattle.desk.specs.declared.desk.Desk.{Desk}
-use Rattle.desk.specs.declared.reply.Reply.{Reply}
-use Rattle.desk.specs.declared.reply.Reply.TheVariants.{Done, Imported, Listed, Payloads, Denied, Unavailable}
 use Rattle.web.specs.HttpAnswers.{AllStays, RespondsTo}
 use Rattle.requests.specs.Actions.{takes_body}
 use Rattle.requests.specs.HttpRequests.{asked, IsMessage, malformed, NeedsMemory, refused}
 use Rattle.requests.proofs.HeadLemmas.{says-length}
-use Rattle.web.specs.HttpResponses.{HasErrorStatus, json_response, MayStayUnsent, reply_body, reply_response, reply_status}
-use Rattle.web.specs.ReplyText.{line_text, short_text}
 use Rattle.web.specs.RequestExtent.{HasExtent}
-use Rattle.web.specs.ScriptAnswer.{RepliesAt}
-use Rattle.web.specs.steps.HttpAnswering.{AnswersNext, extent_of, IsResponseUnless, ReadsNext}
 use Rattle.web.specs.declared.http.reading.Next.{Next}
 use Rattle.web.specs.declared.http.reading.Next.TheVariants.{Asked as AskedNext, Malformed, NotRead, Refused}
 

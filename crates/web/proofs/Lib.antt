@@ -8,3 +8,4 @@ pub mod ScriptAlong
 pub mod ScriptLemmas
 pub mod SessionLemmas
 pub mod VrpLemmas
+pub mod Vocabulary

@@ -1,14 +1,11 @@
 -- The lines that pieces of a script complete, one piece after the other, are the lines of the script.
-use Rattle.std.proofs.Common.{◌≡◌, ℕ, ◌+◌, ◌<◌, ◌≤◌, ◌==◌, List, [], ◌∷◌, ◌++◌, Bool, true, false, cond, Some, None, nat_eq, nat_le, length, take, drop, get_or, refl, sym, ◌∙◌, ap, subst, append_assoc, arith, le_refl}
-use Rattle.std.proofs.lemmas.Bool.{eq-eqb, ne_eqb}
-use Rattle.std.proofs.lemmas.List.{append-nil, drop_more, get_or-take, length-take, take-append-drop, take_all}
+use Rattle.web.proofs.Vocabulary.{◌≡◌, ℕ, ◌+◌, ◌<◌, ◌≤◌, ◌==◌, List, [], ◌∷◌, ◌++◌, Bool, true, false, cond, Some, None, nat_eq, nat_le, length, take, drop, get_or, refl, sym, ◌∙◌, ap, subst, append_assoc, arith, le_refl, eq-eqb, ne_eqb, append-nil, drop_more, get_or-take, length-take, take-append-drop, take_all, all_but_last, last_piece, pieces, whole_lines, script_lines, unless_empty, behind, completed_lines, unfinished_line}
 use Rattle.std.proofs.lemmas.List.Elements.{All-from_get_or}
 use Rattle.std.proofs.lemmas.List.Splits.{slice_split_at, slice_split_none}
 use Rattle.std.specs.List.{All, onto_first}
 use Rattle.memchr.specs.Find.{Nowhere, NoneBefore, Passes, is_byte}
-use Rattle.web.specs.ScriptLines.{all_but_last, last_piece, pieces, whole_lines, script_lines, unless_empty, within_limit}
+use Rattle.web.specs.ScriptLines.{within_limit}
 use Rattle.requests.specs.declared.request.TheConstants.{LINE_LENGTH_LIMIT}
-use Rattle.web.specs.steps.LineSplitting.{behind, completed_lines, unfinished_line}
 
 -- ---- the first line feed
 

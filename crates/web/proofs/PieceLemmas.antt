@@ -1,12 +1,5 @@
 -- Lemmas on texts that are gathered in pieces and written, until the drain fails.
-use Rattle.std.proofs.Common.{◌≡◌, ℕ, Bool, true, false, List, [], ◌++◌, Result, Ok, Err, refl, sym, ap, subst, ◌∙◌, append_assoc}
-use Rattle.std.specs.Result.{OnErr, OnOk}
-use Rattle.std.proofs.lemmas.Bool.{false≢true}
-use Rattle.std.proofs.lemmas.List.{append-nil}
-use Rattle.streams.proofs.StreamLemmas.{on-err}
-use Rattle.streams.specs.Streams.{AppendsBeginning}
-use Rattle.web.specs.declared.pieces.Pieces.{Pieces}
-use Rattle.web.specs.steps.PieceWriting.{added_then, HasAdded}
+use Rattle.web.proofs.Vocabulary.{◌≡◌, ℕ, Bool, true, false, List, [], ◌++◌, Result, Ok, Err, refl, sym, ap, subst, ◌∙◌, append_assoc, OnErr, OnOk, false≢true, append-nil, on-err, AppendsBeginning, Pieces, added_then, HasAdded}
 
 -- there was room for the text
 pub added-whole : {D : Type 0} (written : D → List ℕ) (fails : D → Bool) (a b : Pieces D) (text : List ℕ)

@@ -1,17 +1,8 @@
 -- What a desk replies is replied on each history that it represents, of which a crash leaves no more than the reply
 -- allows.
-use Rattle.std.proofs.Common.{All, refl, subst}
-use Rattle.sqlite.specs.Store.{Ghosts}
-use Rattle.registry.specs.History.{History}
-use Rattle.registry.specs.Values.{AskedFits, HistoryFits}
-use Rattle.registry.specs.declared.asked.Asked.{Asked}
-use Rattle.registry.specs.declared.charter.Charter.{Charter}
-use Rattle.desk.specs.CrashOutcomes.{LeavesAlong, LeavesAtMost, pending_after}
-use Rattle.desk.specs.Desk.{IsOnCleanDisk, Represents}
-use Rattle.desk.specs.declared.desk.Desk.{Desk}
-use Rattle.desk.specs.declared.reply.Reply.{Reply}
+use Rattle.web.proofs.Vocabulary.{refl, subst, Ghosts, History, AskedFits, HistoryFits, Asked, Charter, LeavesAlong, LeavesAtMost, pending_after, IsOnCleanDisk, Represents, Desk, Reply, RepliesAt, RepliesLeaving, RepliesOn, Standing}
+use Rattle.std.proofs.Common.{All}
 use Rattle.desk.proofs.ResumedLemmas.{pending_after_fits}
-use Rattle.web.specs.ScriptAnswer.{RepliesAt, RepliesLeaving, RepliesOn, Standing}
 
 module _ {S : Type 0} (g : Ghosts S) where
   -- the desk represents a history that goes on from a first one

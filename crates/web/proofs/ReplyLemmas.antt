@@ -1,10 +1,6 @@
 -- Lemmas on texts that are written piece by piece.
-use Rattle.std.proofs.Common.{◌≡◌, ℕ, ◌+◌, ◌<◌, Bool, true, false, List, [], ◌∷◌, ◌++◌, length, map, drop, get_or, refl, sym, ap, ◌∙◌, append_assoc, add-one, drop-cons}
-use Rattle.std.proofs.lemmas.List.{append-nil}
-use Rattle.web.specs.steps.ReplyItems.{after_commas, item_after, items_left}
+use Rattle.web.proofs.Vocabulary.{◌≡◌, ℕ, ◌+◌, ◌<◌, Bool, true, false, List, [], ◌∷◌, ◌++◌, length, map, drop, get_or, refl, sym, ap, ◌∙◌, append_assoc, add-one, drop-cons, append-nil, after_commas, item_after, items_left, comma_joined, entries_list, entries_text, AppendsBeginning}
 use Rattle.addr.specs.declared.roa_prefix.RoaPrefix.{RoaPrefix}
-use Rattle.web.specs.ReplyText.{comma_joined, entries_list, entries_text}
-use Rattle.streams.specs.Streams.{AppendsBeginning}
 
 -- a beginning of a text is one of a longer text
 pub AppendsBeginning-longer : (old new first rest : List ℕ) → AppendsBeginning old new first → AppendsBeginning old new (first ++ rest)

@@ -1,12 +1,7 @@
 -- A script over states is a script over what the states represent, as histories: where each answer is
 -- one there, so are the replies to all lines. Of an answer something is known only where the state after it
 -- is sound, and then the state before it was so too.
-use Rattle.std.proofs.Common.{ℕ, List, [], ◌∷◌, Option, Some, None, refl, inl, inr}
-use Rattle.registry.specs.declared.asked.Asked.{Asked}
-use Rattle.desk.specs.declared.reply.Reply.{Reply}
-use Rattle.web.specs.ScriptAnswer.{AnswersLine}
-use Rattle.web.specs.ScriptLines.{within_limit}
-use Rattle.web.specs.Script.{Replies, AnswersEach, BreaksOff}
+use Rattle.web.proofs.Vocabulary.{ℕ, List, [], ◌∷◌, Option, Some, None, refl, inl, inr, Asked, Reply, AnswersLine, within_limit, Replies, AnswersEach, BreaksOff}
 
 module _ {State : Type 0}
     (answers : State → Option (List ℕ) → List ℕ → State → Type 0)

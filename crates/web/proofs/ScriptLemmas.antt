@@ -1,9 +1,5 @@
 -- Replies to lines that come one after the other.
-use Rattle.std.proofs.Common.{◌≡◌, ℕ, List, [], ◌∷◌, ◌++◌, Option, refl, sym, ◌∙◌, ap, append_assoc}
-use Rattle.std.proofs.lemmas.List.{append-nil}
-use Rattle.streams.specs.Streams.{AppendsBeginning}
-use Rattle.web.specs.ScriptLines.{within_limit}
-use Rattle.web.specs.Script.{Replies, AnswersEach, BreaksOff}
+use Rattle.web.proofs.Vocabulary.{◌≡◌, ℕ, List, [], ◌∷◌, ◌++◌, Option, refl, sym, ◌∙◌, ap, append_assoc, append-nil, AppendsBeginning, within_limit, Replies, AnswersEach, BreaksOff}
 
 module _ {State : Type 0} (answers : State → Option (List ℕ) → List ℕ → State → Type 0) where
   pub Replies-append : (old middle new : State) (xs ys : List (List ℕ)) (s t : List ℕ)

@@ -1,17 +1,7 @@
 -- A script over a desk is a script over the histories that the desk represents.
-use Rattle.std.proofs.Common.{◌≡◌, ◌≢◌, ◌∙◌, ℕ, Bool, true, false, List, [], ◌∷◌, ◌++◌, Option, Some, None, Result, Ok, Err, OnOk, refl, sym, ap, append_assoc, inl, inr}
+use Rattle.web.proofs.Vocabulary.{◌≡◌, ◌≢◌, ◌∙◌, ℕ, Bool, true, false, List, [], ◌∷◌, ◌++◌, Option, Some, None, Result, Ok, Err, refl, sym, ap, append_assoc, inl, inr, Ghosts, History, Charter, is_accepted, charter_of, IsOnCleanDisk, RowsStay, appended_bytes-append, line_text, AnswersEach, BreaksOff, Replies, AnswersLineAt, AnswersLineLeaving, AnswersLineOn, AnswersLines, BreaksOffLines, IsLaterDesk, RepliesAt, RepliesLeaving, RepliesOn, SaysAccepted, Standing, within_limit, Desk}
+use Rattle.std.proofs.Common.{OnOk}
 use Rattle.std.specs.Io.{appended_bytes}
-use Rattle.sqlite.specs.Store.{Ghosts}
-use Rattle.registry.specs.History.{History}
-use Rattle.registry.specs.declared.charter.Charter.{Charter}
-use Rattle.desk.specs.Answer.{is_accepted}
-use Rattle.desk.specs.Desk.{charter_of, IsOnCleanDisk, RowsStay}
-use Rattle.streams.proofs.StreamLemmas.{appended_bytes-append}
-use Rattle.web.specs.ReplyText.{line_text}
-use Rattle.web.specs.Script.{AnswersEach, BreaksOff, Replies}
-use Rattle.web.specs.ScriptAnswer.{AnswersLineAt, AnswersLineLeaving, AnswersLineOn, AnswersLines, BreaksOffLines, IsLaterDesk, RepliesAt, RepliesLeaving, RepliesOn, SaysAccepted, Standing}
-use Rattle.web.specs.ScriptLines.{within_limit}
-use Rattle.desk.specs.declared.desk.Desk.{Desk}
 use Rattle.web.specs.declared.script.ScriptFault.{ScriptFault}
 use Rattle.web.specs.declared.script.ScriptFault.TheVariants as script
 use Rattle.web.proofs.RepliesAlong.{replied_leaving, replied_on, RepresentsFrom, StandsFrom}

@@ -1,21 +1,9 @@
 -- Lemmas on VRPs that are counted and written as an index gives them.
-use Rattle.std.proofs.Common.{◌≡◌, ◌≤◌, ◌^◌, ℕ, Bool, true, List, ◌++◌, length, take, drop, None, Result, Ok, Err, sym, ap, ◌∙◌, append_assoc, arith}
-use Rattle.std.proofs.lemmas.List.{take-append-drop}
-use Rattle.std.specs.Result.{OnErr, OnOk}
-use Rattle.addr.specs.declared.vrp.Vrp.{Vrp}
-use Rattle.daily_vrps.specs.CsvLength.{csv_of, IsCsvLength}
+use Rattle.web.proofs.Vocabulary.{◌≡◌, ◌≤◌, ◌^◌, ℕ, Bool, true, List, ◌++◌, length, take, drop, None, Result, Ok, Err, sym, ap, ◌∙◌, append_assoc, arith, take-append-drop, OnErr, OnOk, Vrp, csv_of, IsCsvLength, csv_line, csv_text, payload_header, payload_row, payload_rows, AppendsBeginning, Pieces, HasAdded, codes, Payloads, line_text, all_items, first_after, items_text}
 use Rattle.payload.specs.VrpSet as set
 use Rattle.csv_records.proofs.LineLemmas.{rows-split}
-use Rattle.csv_records.specs.Lines.{csv_line, csv_text, payload_header, payload_row, payload_rows}
-use Rattle.streams.specs.Streams.{AppendsBeginning}
 use Rattle.web.proofs.PieceLemmas.{AppendsBeginning-added}
 use Rattle.web.proofs.ReplyLemmas.{AppendsBeginning-longer}
-use Rattle.web.specs.declared.pieces.Pieces.{Pieces}
-use Rattle.web.specs.steps.PieceWriting.{HasAdded}
-use Rattle.std.specs.Prelude.{codes}
-use Rattle.desk.specs.declared.reply.Reply.TheVariants.{Payloads}
-use Rattle.web.specs.ReplyText.{line_text}
-use Rattle.web.specs.steps.VrpWriting.{all_items, first_after, items_text}
 
 -- what follows in each case
 pub on-ok-then : {T E : Type 0} (r : Result T E) (P Q : Type 0) → (P → Q) → OnOk r P → OnOk r Q

@@ -1,6 +1,4 @@
-use Rattle.std.proofs.Common.{false, subst, sym}
-use Rattle.sqlite.specs.Files.{IsBlankAs}
-use Rattle.desk_files.specs.DeskFiles.{IsOpenOver}
+use Rattle.desk_files.proofs.Vocabulary.{false, subst, sym, IsBlankAs, IsOpenOver}
 use Rattle.desk_files.proofs.file.connect.Goals as goal
 
 pub returns-in-Ok-connect_files-clause-over : goal.returns-in-Ok-connect_files-clause-over

@@ -1,5 +1,4 @@
-use Rattle.std.proofs.Common.{subst, []}
-use Rattle.desk_files.specs.DeskFiles.{FilesHoldDesk}
+use Rattle.desk_files.proofs.Vocabulary.{subst, [], FilesHoldDesk}
 use Rattle.desk_files.proofs.RefusedFileLemmas.{unmade_closed, unmade_left}
 use Rattle.desk_files.proofs.file.make_desk.Goals as goal
 

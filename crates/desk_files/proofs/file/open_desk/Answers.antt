@@ -1,9 +1,5 @@
-use Rattle.std.proofs.Common.{IfErr, IfOk, subst}
+use Rattle.desk_files.proofs.Vocabulary.{IfErr, IfOk, subst, over_files, IsOnCleanDisk, ContinuesFiles, OpensFiles, ResumesFiles, RefusesFiles, RefusesNoLeft}
 use Rattle.std.proofs.lemmas.Result.{IfErr-weaker}
-use Rattle.sqlite.specs.Files.{over_files}
-use Rattle.desk.specs.Desk.{IsOnCleanDisk}
-use Rattle.desk_files.specs.DeskFiles.{ContinuesFiles, OpensFiles, ResumesFiles}
-use Rattle.desk_files.specs.Refused.{RefusesFiles, RefusesNoLeft}
 use Rattle.desk_files.proofs.RefusedFileLemmas.{keeps_over}
 use Rattle.desk_files.proofs.file.open_desk.Goals as goal
 

@@ -1,5 +1,4 @@
-use Rattle.sqlite.specs.Files.{image_of}
-use Rattle.desk_files.specs.declared.file.OpenFault.TheVariants.{Store}
+use Rattle.desk_files.proofs.Vocabulary.{image_of, Store}
 use Rattle.desk_files.proofs.RefusedFileLemmas.{refused_keeps, refuses_no_legal, resumes_left}
 use Rattle.desk_files.proofs.file.open_files.Goals as goal
 

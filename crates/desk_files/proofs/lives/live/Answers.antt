@@ -1,7 +1,4 @@
-use Rattle.std.proofs.Common.{◌∙◌, [], refl, ap, subst, arith, map, take, take_all}
-use Rattle.std.specs.Prelude.{IsOk}
-use Rattle.sqlite_trees.specs.View.{IsClean}
-use Rattle.desk.specs.Desk.{IsOnCleanDisk}
+use Rattle.desk_files.proofs.Vocabulary.{◌∙◌, [], refl, ap, subst, arith, map, take, take_all, IsOk, IsClean, IsOnCleanDisk}
 use Rattle.desk_files.proofs.LifeLemmas.{live_more, lives_leave, none_more, not_opened}
 use Rattle.desk_files.proofs.lives.live.Goals as goal
 

@@ -1,7 +1,4 @@
-use Rattle.std.proofs.Common.{◌≡◌, ◌≤◌, length, map, take}
-use Rattle.std.specs.Prelude.{vec_len, vec_capacity}
-use Rattle.desk.specs.Desk.{IsOnCleanDisk}
-use Rattle.desk_files.specs.Lives.{LivesOn}
+use Rattle.desk_files.proofs.Vocabulary.{◌≡◌, ◌≤◌, length, map, take, vec_len, vec_capacity, IsOnCleanDisk, LivesOn}
 use Rattle.desk_files.proofs.lives.live.Given as goal
 
 abbrev pub invariant-loop-asked : goal.invariant-loop-asked

@@ -1,5 +1,4 @@
-use Rattle.std.proofs.Common.{arith, subst}
-use Rattle.sqlite_trees.specs.View.{IsClean}
+use Rattle.desk_files.proofs.Vocabulary.{arith, subst, IsClean}
 use Rattle.desk_files.proofs.LifeLemmas.{crash_finds, crash_left, crash_resumes}
 use Rattle.desk_files.proofs.RefusedLemmas.{refused_left}
 use Rattle.desk_files.proofs.lives.restart.Goals as goal

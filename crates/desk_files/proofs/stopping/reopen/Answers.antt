@@ -1,4 +1,4 @@
-use Rattle.std.proofs.Common.{inl, inr, refl}
+use Rattle.desk_files.proofs.Vocabulary.{inl, inr, refl}
 use Rattle.desk_files.proofs.RefusedFileLemmas.{if_err_both}
 use Rattle.desk_files.proofs.DeskFileLemmas.{if_ok_both, reopened_same}
 use Rattle.desk_files.proofs.stopping.reopen.Goals as goal

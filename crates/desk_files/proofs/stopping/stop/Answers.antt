@@ -1,6 +1,4 @@
-use Rattle.std.proofs.Common.{subst}
-use Rattle.sqlite.specs.Files.{file_state}
-use Rattle.sqlite.specs.State.{HasCleanDisk}
+use Rattle.desk_files.proofs.Vocabulary.{subst, file_state, HasCleanDisk}
 use Rattle.desk_files.proofs.DeskFileLemmas.{desk_left}
 use Rattle.desk_files.proofs.stopping.stop.Goals as goal
 

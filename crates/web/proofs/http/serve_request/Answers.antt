@@ -1,4 +1,4 @@
-use Rattle.streams.proofs.StreamLemmas.{appended_bytes-append}
+use Rattle.web.proofs.Vocabulary.{appended_bytes-append}
 use Rattle.web.proofs.HttpLemmas.{extent-read, keeps_rows, longer_error, responds}
 use Rattle.web.proofs.http.serve_request.Goals as goal
 

@@ -1,5 +1,4 @@
-use Rattle.std.proofs.Common.{ap, ◌∙◌, sym, ◌∷◌, ◌+◌, ◌-◌, ◌≡◌, length, take, drop, take_all, arith, length-drop}
-use Rattle.web.specs.ScriptLines.{pieces}
+use Rattle.web.proofs.Vocabulary.{ap, ◌∙◌, sym, ◌∷◌, ◌+◌, ◌-◌, ◌≡◌, length, take, drop, take_all, arith, length-drop, pieces}
 use Rattle.web.proofs.LineSplits.{pieces-first, pieces-none}
 use Rattle.web.proofs.lines.cut_at_line_feed.Goals as goal
 

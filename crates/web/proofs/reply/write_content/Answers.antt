@@ -1,6 +1,4 @@
-use Rattle.std.proofs.Common.{◌++◌, ap, ◌∙◌, append_assoc}
-use Rattle.std.specs.Prelude.{codes}
-use Rattle.streams.proofs.StreamLemmas.{on-err, passes-more}
+use Rattle.web.proofs.Vocabulary.{◌++◌, ap, ◌∙◌, append_assoc, codes, on-err, passes-more}
 use Rattle.web.proofs.ReplyLemmas.{AppendsBeginning-after, AppendsBeginning-longer}
 use Rattle.web.proofs.reply.write_content.Goals as goal
 

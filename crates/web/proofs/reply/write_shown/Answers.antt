@@ -1,8 +1,4 @@
-use Rattle.std.proofs.Common.{rules, ap}
-use Rattle.std.specs.Prelude.{codes}
-use Rattle.std.specs.Result.{OnErr}
-use Rattle.streams.specs.Streams.{AppendsBeginning}
-use Rattle.web.specs.ReplyText.{auth_text, shown_text}
+use Rattle.web.proofs.Vocabulary.{rules, ap, codes, OnErr, AppendsBeginning, auth_text, shown_text}
 use Rattle.web.proofs.PieceLemmas.{closed-err}
 use Rattle.web.proofs.reply.write_shown.Goals as goal
 

@@ -1,7 +1,5 @@
-use Rattle.std.proofs.Common.{◌≡◌, [], ◌∷◌, ◌++◌, refl, ap, ◌∙◌}
+use Rattle.web.proofs.Vocabulary.{◌≡◌, [], ◌∷◌, ◌++◌, refl, ap, ◌∙◌, all_but_last, last_piece, pieces, behind, completed_lines, unfinished_line}
 use Rattle.payload.proofs.Visits.{on-err}
-use Rattle.web.specs.ScriptLines.{all_but_last, last_piece, pieces}
-use Rattle.web.specs.steps.LineSplitting.{behind, completed_lines, unfinished_line}
 use Rattle.web.proofs.LineSplits.{all_but_last-append, all_but_last-one, last_of-one, behind-cut, behind-rest}
 use Rattle.web.proofs.ScriptLemmas.{AnswersEach-append, AnswersEach-nil, AnswersEach-one, BreaksOff-after, BreaksOff-before, BreaksOff-one}
 use Rattle.web.proofs.script.answer_completed.Goals as goal

@@ -1,7 +1,4 @@
-use Rattle.std.proofs.Common.{◌≡◌, ℕ, List, ◌++◌, length}
-use Rattle.web.specs.Script.{AnswersEach}
-use Rattle.web.specs.ScriptLines.{pieces, within_limit}
-use Rattle.web.specs.steps.LineSplitting.{behind}
+use Rattle.web.proofs.Vocabulary.{◌≡◌, ℕ, List, ◌++◌, length, AnswersEach, pieces, within_limit, behind}
 use Rattle.web.proofs.script.answer_completed.Given as goal
 
 -- the lines before the rest were answered, and of the next one these bytes are kept

@@ -1,5 +1,4 @@
-use Rattle.std.proofs.Common.{◌≡◌, [], ◌∙◌, ap, sym, refl, true, false}
-use Rattle.web.specs.ScriptLines.{within_limit}
+use Rattle.web.proofs.Vocabulary.{◌≡◌, [], ◌∙◌, ap, sym, refl, true, false, within_limit}
 use Rattle.web.proofs.LineSplits.{unless_empty-lem, within_limit-nil}
 use Rattle.payload.proofs.Visits.{on-err}
 use Rattle.web.proofs.ScriptLemmas.{AnswersEach-nil, BreaksOff-one}

@@ -1,10 +1,6 @@
-use Rattle.std.proofs.Common.{◌≡◌, ℕ, List, [], ◌++◌, ◌==◌, ◌&&◌, false, true, nat_lt, length, take, ◌∙◌, ap}
-use Rattle.std.proofs.lemmas.Bool.{ne_eqb}
-use Rattle.web.specs.ScriptLines.{unless_empty}
-use Rattle.web.specs.steps.LineSplitting.{completed_lines, unfinished_line}
+use Rattle.web.proofs.Vocabulary.{◌≡◌, ℕ, List, [], ◌++◌, ◌==◌, ◌&&◌, false, true, nat_lt, length, take, ◌∙◌, ap, ne_eqb, unless_empty, completed_lines, unfinished_line, appended_bytes-append, passes-more, passes-nothing}
 use Rattle.web.proofs.LineSplits.{completed_lines-append, unfinished_line-append, whole_lines-lem, script_lines-lem}
 use Rattle.web.proofs.ScriptLemmas.{AnswersEach-append, BreaksOff-after}
-use Rattle.streams.proofs.StreamLemmas.{appended_bytes-append, passes-more, passes-nothing}
 use Rattle.web.proofs.script.run_lines.Goals as goal
 
 pub returns-in_default-read-clause-read : goal.returns-in_default-read-clause-read

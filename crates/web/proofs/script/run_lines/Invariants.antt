@@ -1,7 +1,4 @@
-use Rattle.std.proofs.Common.{◌≡◌, ℕ, List, [], ◌++◌, length}
-use Rattle.web.specs.ScriptLines.{within_limit}
-use Rattle.web.specs.steps.LineSplitting.{completed_lines, unfinished_line}
-use Rattle.web.specs.Script.{AnswersEach}
+use Rattle.web.proofs.Vocabulary.{◌≡◌, ℕ, List, [], ◌++◌, length, within_limit, completed_lines, unfinished_line, AnswersEach}
 use Rattle.web.proofs.script.run_lines.Given as goal
 
 abbrev pub invariant-loop-count : goal.invariant-loop-count

@@ -1,4 +1,4 @@
-use Rattle.desk.specs.declared.reply.Reply.TheVariants.{Payloads, Unavailable}
+use Rattle.web.proofs.Vocabulary.{Payloads, Unavailable}
 use Rattle.payload.specs.VrpSet as set
 use Rattle.web.proofs.DeskReplies.{lent_replies}
 use Rattle.web.proofs.VrpLemmas.{on-err-then, on-ok-then}

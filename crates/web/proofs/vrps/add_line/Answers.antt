@@ -1,6 +1,4 @@
-use Rattle.std.proofs.Common.{[], refl}
-use Rattle.csv_records.specs.Lines.{csv_line, payload_row}
-use Rattle.web.specs.steps.PieceWriting.{added_then}
+use Rattle.web.proofs.Vocabulary.{[], refl, csv_line, payload_row, added_then}
 use Rattle.web.proofs.PieceLemmas.{added-whole}
 use Rattle.web.proofs.vrps.add_line.Goals as goal
 

@@ -1,8 +1,5 @@
-use Rattle.std.proofs.Common.{rules, ap, ◌≡◌, ◌++◌, ◌∙◌}
-use Rattle.csv_records.specs.Lines.{csv_line, csv_text, payload_header, payload_row, payload_rows}
+use Rattle.web.proofs.Vocabulary.{rules, ap, ◌≡◌, ◌++◌, ◌∙◌, csv_line, csv_text, payload_header, payload_row, payload_rows, AppendsBeginning, OnErr, OnOk}
 use Rattle.payload.specs.VrpSet as set
-use Rattle.streams.specs.Streams.{AppendsBeginning}
-use Rattle.std.specs.Result.{OnErr, OnOk}
 use Rattle.web.proofs.PieceLemmas.{finished-err, finished-ok}
 use Rattle.web.proofs.VrpLemmas.{csv-after, lines-broken}
 use Rattle.web.proofs.vrps.write_csv.Goals as goal

@@ -1,11 +1,5 @@
-use Rattle.std.proofs.Common.{rules, ap, true, ◌≡◌, ◌++◌}
-use Rattle.std.specs.Prelude.{codes}
-use Rattle.std.specs.Result.{OnErr, OnOk}
-use Rattle.desk.specs.declared.reply.Reply.TheVariants.{Payloads}
+use Rattle.web.proofs.Vocabulary.{rules, ap, true, ◌≡◌, ◌++◌, codes, OnErr, OnOk, Payloads, AppendsBeginning, line_text, items_text}
 use Rattle.payload.specs.VrpSet as set
-use Rattle.streams.specs.Streams.{AppendsBeginning}
-use Rattle.web.specs.ReplyText.{line_text}
-use Rattle.web.specs.steps.VrpWriting.{items_text}
 use Rattle.web.proofs.PieceLemmas.{closed-err, closed-ok}
 use Rattle.web.proofs.VrpLemmas.{items-broken}
 use Rattle.web.proofs.vrps.write_line.Goals as goal

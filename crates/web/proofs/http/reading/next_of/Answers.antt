@@ -1,6 +1,5 @@
-use Rattle.std.proofs.Common.{Err, ap}
+use Rattle.web.proofs.Vocabulary.{Err, ap, head_view}
 use Rattle.std.specs.Option.{option_copied}
-use Rattle.requests.specs.RequestHeads.{head_view}
 use Rattle.web.proofs.HttpLemmas.{unread-needs}
 use Rattle.web.proofs.http.reading.next_of.Goals as goal
 

@@ -1,5 +1,4 @@
-use Rattle.std.proofs.Common.{◌++◌, Err, Ok, ap, refl, inr}
-use Rattle.requests.specs.RequestHeads.{SaysHead, head_view}
+use Rattle.web.proofs.Vocabulary.{◌++◌, Err, Ok, ap, refl, inr, SaysHead, head_view}
 use Rattle.web.proofs.HttpLemmas.{gives-more, limit-given, next-given, next-read, whole-given}
 use Rattle.web.proofs.http.reading.read_by.Goals as goal
 

@@ -1,6 +1,4 @@
-use Rattle.std.proofs.Common.{◌++◌, [], Err, sym, ap, ◌∙◌, refl, inl, inr}
-use Rattle.std.proofs.lemmas.List.{append-nil}
-use Rattle.requests.specs.RequestHeads.{head_view}
+use Rattle.web.proofs.Vocabulary.{◌++◌, [], Err, sym, ap, ◌∙◌, refl, inl, inr, append-nil, head_view}
 use Rattle.web.proofs.http.reading.read_rest.Goals as goal
 
 pub returns-in_default-clause-some : goal.returns-in_default-clause-some

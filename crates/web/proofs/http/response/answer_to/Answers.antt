@@ -1,6 +1,4 @@
-use Rattle.std.proofs.Common.{◌≡◌, ◌++◌, None}
-use Rattle.streams.specs.Streams.{AppendsBeginning}
-use Rattle.web.specs.ReplyText.{short_text}
+use Rattle.web.proofs.Vocabulary.{◌≡◌, ◌++◌, None, AppendsBeginning, short_text}
 use Rattle.web.proofs.DeskReplies.{replies_at, unless_so}
 use Rattle.web.proofs.HttpLemmas.{asked-err, asked-ok, others-unsent}
 use Rattle.web.proofs.http.response.answer_to.Goals as goal

@@ -1,6 +1,4 @@
-use Rattle.std.proofs.Common.{refl}
-use Rattle.streams.specs.Streams.{AppendsBeginning}
-use Rattle.web.specs.steps.HttpAnswering.{AnswersNext}
+use Rattle.web.proofs.Vocabulary.{refl, AppendsBeginning, AnswersNext}
 use Rattle.web.proofs.HttpLemmas.{text-err}
 use Rattle.web.proofs.http.response.respond.Goals as goal
 

@@ -1,9 +1,5 @@
-use Rattle.std.proofs.Common.{◌≡◌, ◌++◌, ◌≤◌, ◌^◌, length, inl, refl}
-use Rattle.desk.specs.declared.reply.Reply.TheVariants.{Payloads, Unavailable}
-use Rattle.daily_vrps.specs.CsvLength.{csv_of}
+use Rattle.web.proofs.Vocabulary.{◌≡◌, ◌++◌, ◌≤◌, ◌^◌, length, inl, refl, Payloads, Unavailable, csv_of, AppendsBeginning, unavailable_response}
 use Rattle.payload.specs.VrpSet as set
-use Rattle.streams.specs.Streams.{AppendsBeginning}
-use Rattle.web.specs.HttpResponses.{unavailable_response}
 use Rattle.web.proofs.DeskReplies.{lent_replies}
 use Rattle.web.proofs.HttpLemmas.{asked-err, asked-ok}
 use Rattle.web.proofs.VrpLemmas.{on-err-then, on-ok-then}

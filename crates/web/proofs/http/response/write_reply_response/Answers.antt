@@ -1,6 +1,4 @@
-use Rattle.std.proofs.Common.{inl, inr, refl, sym}
-use Rattle.streams.specs.Streams.{AppendsBeginning}
-use Rattle.web.specs.steps.HttpAnswering.{IsReplyResponse}
+use Rattle.web.proofs.Vocabulary.{inl, inr, refl, sym, AppendsBeginning, IsReplyResponse}
 use Rattle.web.proofs.HttpLemmas.{long-status, short-response, text-err}
 use Rattle.web.proofs.http.response.write_reply_response.Goals as goal
 

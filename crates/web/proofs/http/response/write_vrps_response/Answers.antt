@@ -1,8 +1,5 @@
-use Rattle.std.proofs.Common.{◌≡◌, ◌++◌, inl, inr, refl}
-use Rattle.csv_records.specs.Lines.{csv_text, payload_header, payload_row}
-use Rattle.desk.specs.declared.reply.Reply.TheVariants.{Payloads}
+use Rattle.web.proofs.Vocabulary.{◌≡◌, ◌++◌, inl, inr, refl, csv_text, payload_header, payload_row, Payloads, reply_response, unavailable_response}
 use Rattle.payload.specs.VrpSet as set
-use Rattle.web.specs.HttpResponses.{reply_response, unavailable_response}
 use Rattle.web.proofs.VrpLemmas.{on-err-then, on-ok-then, uncounted}
 use Rattle.web.proofs.http.response.write_vrps_response.Goals as goal
 

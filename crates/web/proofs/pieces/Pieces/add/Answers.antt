@@ -1,5 +1,4 @@
-use Rattle.std.proofs.Common.{[], refl}
-use Rattle.web.specs.steps.PieceWriting.{added_then}
+use Rattle.web.proofs.Vocabulary.{[], refl, added_then}
 use Rattle.web.proofs.PieceLemmas.{added-whole}
 use Rattle.web.proofs.pieces.Pieces.add.Goals as goal
 

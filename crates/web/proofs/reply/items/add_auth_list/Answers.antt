@@ -1,8 +1,4 @@
-use Rattle.std.proofs.Common.{◌≡◌, ◌++◌, map, ◌∙◌}
-use Rattle.std.specs.Prelude.{codes}
-use Rattle.web.specs.ReplyText.{auth_end, auth_start, comma_joined, entries_list, entry_text}
-use Rattle.web.specs.steps.PieceWriting.{added_then}
-use Rattle.web.specs.steps.ReplyItems.{auth_item, list_closing, list_opening, separator}
+use Rattle.web.proofs.Vocabulary.{◌≡◌, ◌++◌, map, ◌∙◌, codes, auth_end, auth_start, comma_joined, entries_list, entry_text, added_then, auth_item, list_closing, list_opening, separator}
 use Rattle.web.proofs.ReplyLemmas.{auth-parts}
 use Rattle.web.proofs.reply.items.add_auth_list.Goals as goal
 

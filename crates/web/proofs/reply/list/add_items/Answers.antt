@@ -1,6 +1,4 @@
-use Rattle.std.proofs.Common.{◌+◌, ◌++◌, [], false, map, drop, ap, refl, sym, ◌∙◌, append_assoc}
-use Rattle.web.specs.steps.PieceWriting.{added_none, added_then}
-use Rattle.web.specs.steps.ReplyItems.{item_after, items_left}
+use Rattle.web.proofs.Vocabulary.{◌+◌, ◌++◌, [], false, map, drop, ap, refl, sym, ◌∙◌, append_assoc, added_none, added_then, item_after, items_left}
 use Rattle.web.proofs.PieceLemmas.{added-lost}
 use Rattle.web.proofs.ReplyLemmas.{items_left-at}
 use Rattle.web.proofs.reply.list.add_items.Goals as goal

@@ -1,7 +1,4 @@
-use Rattle.std.proofs.Common.{◌≡◌, ℕ, List, ◌++◌, map, drop}
-use Rattle.web.specs.ReplyText.{comma_joined}
-use Rattle.web.specs.steps.PieceWriting.{HasAdded}
-use Rattle.web.specs.steps.ReplyItems.{items_left}
+use Rattle.web.proofs.Vocabulary.{◌≡◌, ℕ, List, ◌++◌, map, drop, comma_joined, HasAdded, items_left}
 use Rattle.web.proofs.reply.list.add_items.Given as goal
 
 abbrev pub invariant-loop-item : goal.invariant-loop-item

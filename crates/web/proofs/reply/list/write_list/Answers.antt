@@ -1,8 +1,4 @@
-use Rattle.std.proofs.Common.{rules, ap, map}
-use Rattle.std.specs.Prelude.{codes}
-use Rattle.std.specs.Result.{OnErr}
-use Rattle.streams.specs.Streams.{AppendsBeginning}
-use Rattle.web.specs.ReplyText.{comma_joined, list_text}
+use Rattle.web.proofs.Vocabulary.{rules, ap, map, codes, OnErr, AppendsBeginning, comma_joined, list_text}
 use Rattle.web.proofs.PieceLemmas.{closed-err}
 use Rattle.web.proofs.reply.list.write_list.Goals as goal
 

@@ -1,6 +1,5 @@
-use Rattle.std.proofs.Common.{Err, ap, inl, inr, refl}
+use Rattle.web.proofs.Vocabulary.{Err, ap, inl, inr, refl, line_text, unavailable_text}
 use Rattle.requests.specs.MalformedText.{malformed_text}
-use Rattle.web.specs.ReplyText.{line_text, unavailable_text}
 use Rattle.web.proofs.VrpLemmas.{on-err-then}
 use Rattle.web.proofs.session.DeskAnswerLines.answer.Goals as goal
 
