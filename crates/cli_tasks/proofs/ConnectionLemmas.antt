@@ -1,11 +1,5 @@
 -- Connections that are accepted and answered in turn, and the lines for those that failed.
-use Rattle.std.proofs.Common.{◌≡◌, ◌∙◌, ◌+◌, ℕ, suc, Bool, List, [], ◌∷◌, ◌++◌, length, Option, Some, None, ap, append_assoc, arith, refl, subst, sym}
-use Rattle.std.proofs.lemmas.List.{append-nil}
-use Rattle.std.specs.Io.KnownBytes.{Appends}
-use Rattle.std.specs.Result.{result_err}
-use Rattle.web.specs.declared.http.WebFault.{WebFault}
-use Rattle.cli_tasks.specs.Connections.{Accepts, Logs}
-use Rattle.cli_tasks.specs.Serving.{AnswersInTurn, fault_lines, line_for, Transcript}
+use Rattle.cli_tasks.proofs.Vocabulary.{◌≡◌, ◌∙◌, ◌+◌, ℕ, suc, Bool, List, [], ◌∷◌, ◌++◌, length, Option, Some, None, ap, append_assoc, arith, refl, subst, sym, append-nil, Appends, result_err, WebFault, Accepts, Logs, AnswersInTurn, fault_lines, line_for, Transcript}
 
 -- ---- what is known
 

@@ -1,7 +1,6 @@
 -- What was given of known bytes, or came to them.
-use Rattle.std.proofs.Common.{◌≡◌, ℕ, List, ◌++◌, Option, Some, None, refl, sym}
+use Rattle.cli_tasks.proofs.Vocabulary.{◌≡◌, ℕ, List, ◌++◌, Option, Some, None, refl, sym, Appends, Consumes, prepend_known}
 use Rattle.std.proofs.lemmas.Option.{same_Some}
-use Rattle.std.specs.Io.KnownBytes.{Appends, Consumes, prepend_known}
 
 pub given-first : (known left : Option (List ℕ)) (bytes : List ℕ)
     → ((all : List ℕ) → known ≡ Some all → prepend_known bytes left ≡ Some all) → (rest : Option (List ℕ)) × Consumes known rest bytes

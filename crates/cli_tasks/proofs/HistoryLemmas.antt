@@ -1,25 +1,10 @@
 -- The histories that a desk has after connections.
-use Rattle.std.proofs.Common.{◌≡◌, ◌∙◌, ◌≤◌, ◌<◌, ℕ, Bool, true, false, List, [], ◌∷◌, ◌++◌, Option, Some, None, Result, Ok, Err, IfOk, OnOk, OnErr, ap, arith, refl, subst, sym, inl, inr}
-use Rattle.std.specs.Result.{result_err}
-use Rattle.sqlite.specs.Store.{Ghosts}
-use Rattle.registry.specs.declared.charter.Charter.{Charter}
-use Rattle.registry.specs.History.{History}
-use Rattle.registry.specs.Values.{HistoryFits}
+use Rattle.cli_tasks.proofs.Vocabulary.{◌≡◌, ◌∙◌, ◌≤◌, ◌<◌, ℕ, Bool, true, false, List, [], ◌∷◌, ◌++◌, Option, Some, None, Result, Ok, Err, IfOk, OnOk, OnErr, ap, arith, refl, subst, sym, inl, inr, result_err, Ghosts, Charter, History, HistoryFits, Asked, asked, HttpRequest, malformed, ReadsHttp, refused, IsOnCleanDisk, Represents, Desk, AnswersHttp, RespondsTo, RepliesAt, RepliesLeaving, RepliesOn, Standing, WebFault, Read, Write, ConnectionLeads, LeavesInTurn, RespondsBy, AnswersInTurn, EndsWith, IsReadied, ReadiesAgain, ServesInTurn, Transcript}
 use Rattle.registry.specs.Verdict.{IsLegal}
-use Rattle.registry.specs.declared.asked.Asked.{Asked}
-use Rattle.requests.specs.HttpRequests.{asked, HttpRequest, malformed, ReadsHttp, refused}
-use Rattle.desk.specs.Desk.{IsOnCleanDisk, Represents}
-use Rattle.desk.specs.declared.desk.Desk.{Desk}
 use Rattle.desk.specs.declared.reply.Reply.{Reply}
 use Rattle.web.proofs.RepliesAlong.{replied_leaving, replied_on, RepresentsFrom, StandsFrom}
 use Rattle.web.proofs.HttpLemmas.{long-keeps, shown-pending, unsent-shows}
-use Rattle.web.specs.HttpAnswers.{AnswersHttp, RespondsTo}
 use Rattle.web.specs.ReplyText.{short_text}
-use Rattle.web.specs.ScriptAnswer.{RepliesAt, RepliesLeaving, RepliesOn, Standing}
-use Rattle.web.specs.declared.http.WebFault.{WebFault}
-use Rattle.web.specs.declared.http.WebFault.TheVariants.{Read, Write}
-use Rattle.cli_tasks.specs.ServedHistories.{ConnectionLeads, LeavesInTurn, RespondsBy}
-use Rattle.cli_tasks.specs.Serving.{AnswersInTurn, EndsWith, IsReadied, ReadiesAgain, ServesInTurn, Transcript}
 use Rattle.cli_tasks.proofs.ServingLemmas.{later_again, later_in_turn, ServesReady}
 
 -- connections of the desk are connections of what it represents, as histories, where its replies are replies there, of

@@ -4,3 +4,4 @@ pub mod ServingLemmas
 pub mod HistoryLemmas
 pub mod ServedFileLemmas
 pub mod LivesLemmas
+pub mod Vocabulary

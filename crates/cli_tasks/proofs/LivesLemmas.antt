@@ -1,49 +1,22 @@
 -- The lives of `serve` on files whose disk may crash.
-use Rattle.std.proofs.Common.{◌≡◌, ◌<◌, ◌≤◌, ◌+◌, ◌∙◌, ℕ, Bool, List, [], ◌∷◌, ◌++◌, inl, inr, Option, Result, Ok, Err, IfOk, IfErr, OnOk, OnErr, arith, length, length-append, get_or, take, true, false, ap, refl, subst, sym}
+use Rattle.cli_tasks.proofs.Vocabulary.{◌≡◌, ◌<◌, ◌≤◌, ◌+◌, ◌∙◌, ℕ, Bool, List, [], ◌∷◌, ◌++◌, inl, inr, Option, Result, Ok, Err, IfOk, IfErr, OnOk, OnErr, arith, length, length-append, get_or, take, true, false, ap, refl, subst, sym, flat_map_more, take_more, flat_map, ErrorKind, image_of, over_files, Files, view, FileStore, IsClean, AreClean, Image, Charter, History, AskedFits, Asked, IsOnCleanDisk, Desk, FilesLeaveAtMost, LeavesFiles, ResumesLeft, RefusedLeaves, RefusesNoLegal, CloseFault, Standing, Accepts, Logs, LeavesInTurn, FailsToCloseOver, IfClosed, IfUnclosed, IsCauseOf, IsServedCount, FilesGoOn, LeavesUnclosed, end_of_close, end_of_serve, EndsLife, EndsLives, HasLifeCount, LeavesEnded, LeavesRefused, LifeLeads, LivesAllow, LivesLead, ServesLife, ServesLives, fault_lines, Transcript, ServeFault, Accept, Bind, Close, Open}
 use Rattle.std.proofs.Math.Logic.{∥∥₁_elim, ∥∥₁_map}
 use Rattle.std.proofs.lemmas.Bool.{false≢true}
-use Rattle.std.proofs.lemmas.List.{flat_map_more, take_more}
 use Rattle.std.proofs.lemmas.List.Elements.{All-nil}
-use Rattle.std.specs.List.{flat_map}
 use Rattle.std.specs.Prelude.{is_some}
-use Rattle.std.specs.declared.io.ErrorKind.{ErrorKind}
-use Rattle.sqlite.specs.Files.{image_of, over_files}
 use Rattle.sqlite.specs.declared.file.Leftover.TheVariants as left
 use Rattle.sqlite_disk.specs.declared.Disk.{Ghosts}
-use Rattle.sqlite_disk.specs.declared.Files.{Files}
-use Rattle.sqlite_store.specs.FileStore.{view}
-use Rattle.sqlite_store.specs.declared.store.FileStore.{FileStore}
 use Rattle.sqlite_trees.specs.Props.{Trees-set}
-use Rattle.sqlite_trees.specs.View.{IsClean}
 use Rattle.sqlite_wal.proofs.LogLemmas.{SeenMayStay}
 use Rattle.sqlite_wal.specs.Files.{outcomes}
-use Rattle.sqlite_wal.specs.Reads.{AreClean}
-use Rattle.sqlite_wal.specs.Recovery.{Image}
-use Rattle.registry.specs.declared.charter.Charter.{Charter}
-use Rattle.registry.specs.History.{History}
-use Rattle.registry.specs.Values.{AskedFits}
-use Rattle.registry.specs.declared.asked.Asked.{Asked}
-use Rattle.desk.specs.Desk.{IsOnCleanDisk}
 use Rattle.desk.specs.Resumed.{IsAtMostOneMore, MayBeLeftInEitherSchema, PendingFits}
-use Rattle.desk.specs.declared.desk.Desk.{Desk}
 use Rattle.desk_files.proofs.DeskFileLemmas.{kept_leaves_lem, stopped_leaves_lem}
 use Rattle.desk_files.proofs.RefusedFileLemmas.{left_in_either_found}
-use Rattle.desk_files.specs.DeskFiles.{FilesLeaveAtMost, LeavesFiles, ResumesLeft}
-use Rattle.desk_files.specs.Refused.{RefusedLeaves, RefusesNoLegal}
-use Rattle.desk_files.specs.declared.file.CloseFault.{CloseFault}
 use Rattle.desk_files.specs.declared.file.OpenFault.{OpenFault}
 use Rattle.desk_files.specs.declared.file.OpenFault.TheVariants.{File, Path, Store}
-use Rattle.web.specs.ScriptAnswer.{Standing}
-use Rattle.cli_tasks.specs.Connections.{Accepts, Logs}
-use Rattle.cli_tasks.specs.ServedHistories.{LeavesInTurn}
-use Rattle.cli_tasks.specs.ServedFiles.{FailsToCloseOver, IfClosed, IfUnclosed, IsCauseOf, IsServedCount, FilesGoOn, LeavesUnclosed}
-use Rattle.cli_tasks.specs.ServedLives.{end_of_close, end_of_serve, EndsLife, EndsLives, HasLifeCount, LeavesEnded, LeavesRefused, LifeLeads, LivesAllow, LivesLead, ServesLife, ServesLives}
-use Rattle.cli_tasks.specs.Serving.{fault_lines, Transcript}
 use Rattle.cli_tasks.specs.declared.lives.Life.{Life}
 use Rattle.cli_tasks.specs.declared.lives.LifeFault.{LifeFault}
 use Rattle.cli_tasks.specs.declared.lives.LifeFault.TheVariants as ended
-use Rattle.cli_tasks.specs.declared.serve_desk.ServeFault.{ServeFault}
-use Rattle.cli_tasks.specs.declared.serve_desk.ServeFault.TheVariants.{Accept, Bind, Close, Open}
 use Rattle.cli_tasks.proofs.ConnectionLemmas.{accepts-then, logs-then}
 
 -- ---- one life

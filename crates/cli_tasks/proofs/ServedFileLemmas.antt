@@ -1,28 +1,6 @@
 -- What connections leave of the files of a desk.
-use Rattle.std.proofs.Common.{◌≡◌, ◌⊎◌, Bool, List, [], Option, Some, None, Result, Ok, Err, IfErr, ℕ, refl, subst, sym}
-use Rattle.std.proofs.lemmas.List.{append-nil}
-use Rattle.std.specs.declared.io.ErrorKind.{ErrorKind}
-use Rattle.sqlite.specs.Files.{over_files}
+use Rattle.cli_tasks.proofs.Vocabulary.{◌≡◌, ◌⊎◌, Bool, List, [], Option, Some, None, Result, Ok, Err, IfErr, ℕ, refl, subst, sym, append-nil, ErrorKind, over_files, Files, view, FileStore, IsClean, Image, Charter, History, HistoryFits, charter_of, HoldsHistory, IsOnCleanDisk, Represents, Desk, FilesHoldDesk, OpensFiles, ResumesFiles, UnclosedLeaves, CloseFault, Accepts, FailsToCloseAfter, FailsToCloseOver, IfClosed, IfServed, IfNotOpened, IfUnclosed, IsCauseOf, IsLateCause, FilesGoOn, LeavesStore, LeavesUnclosed, ConnectionLeads, HoldServed, LeavesInTurn, AnswersInTurn, ServesInTurn, Transcript, ServeFault, Accept, Bind, Close, Open}
 use Rattle.sqlite_disk.specs.declared.Disk.{Ghosts}
-use Rattle.sqlite_disk.specs.declared.Files.{Files}
-use Rattle.sqlite_store.specs.FileStore.{view}
-use Rattle.sqlite_store.specs.declared.store.FileStore.{FileStore}
-use Rattle.sqlite_trees.specs.View.{IsClean}
-use Rattle.sqlite_wal.specs.Recovery.{Image}
-use Rattle.registry.specs.declared.charter.Charter.{Charter}
-use Rattle.registry.specs.History.{History}
-use Rattle.registry.specs.Values.{HistoryFits}
-use Rattle.desk.specs.Desk.{charter_of, HoldsHistory, IsOnCleanDisk, Represents}
-use Rattle.desk.specs.declared.desk.Desk.{Desk}
-use Rattle.desk_files.specs.DeskFiles.{FilesHoldDesk, OpensFiles, ResumesFiles}
-use Rattle.desk_files.specs.Refused.{UnclosedLeaves}
-use Rattle.desk_files.specs.declared.file.CloseFault.{CloseFault}
-use Rattle.cli_tasks.specs.Connections.{Accepts}
-use Rattle.cli_tasks.specs.ServedFiles.{FailsToCloseAfter, FailsToCloseOver, IfClosed, IfServed, IfNotOpened, IfUnclosed, IsCauseOf, IsLateCause, FilesGoOn, LeavesStore, LeavesUnclosed}
-use Rattle.cli_tasks.specs.ServedHistories.{ConnectionLeads, HoldServed, LeavesInTurn}
-use Rattle.cli_tasks.specs.Serving.{AnswersInTurn, ServesInTurn, Transcript}
-use Rattle.cli_tasks.specs.declared.serve_desk.ServeFault.{ServeFault}
-use Rattle.cli_tasks.specs.declared.serve_desk.ServeFault.TheVariants.{Accept, Bind, Close, Open}
 use Rattle.cli_tasks.proofs.HistoryLemmas.{each_leads}
 
 -- the files hold what the desk holds

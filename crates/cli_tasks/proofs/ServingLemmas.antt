@@ -1,17 +1,8 @@
 -- A desk over several connections.
-use Rattle.std.proofs.Common.{◌≡◌, ◌∙◌, ℕ, Bool, true, false, List, [], ◌∷◌, ◌++◌, Result, Ok, Err, IfOk, ap, refl, subst, sym}
-use Rattle.sqlite.specs.Store.{Ghosts}
-use Rattle.desk.specs.declared.desk.Desk.{Desk}
+use Rattle.cli_tasks.proofs.Vocabulary.{◌≡◌, ◌∙◌, ℕ, Bool, true, false, List, [], ◌∷◌, ◌++◌, Result, Ok, Err, IfOk, ap, refl, subst, sym, Ghosts, Desk, Gives, HasNoMore, IsCutShort, RespondsTo, IsLaterDesk, WebFault, Read, Write, AnswersInTurn, AnswersReady, IsReadied, ReadiesAgain, Serves, ServesInTurn, TellsReady, Transcript}
 use Rattle.streams.specs.Streams.{AppendsBeginning}
-use Rattle.http_messages.specs.Input.{Gives, HasNoMore}
-use Rattle.requests.specs.HttpRequests.{IsCutShort}
-use Rattle.web.specs.HttpAnswers.{RespondsTo}
 use Rattle.web.specs.RequestExtent.{HasExtent}
-use Rattle.web.specs.ScriptAnswer.{IsLaterDesk}
 use Rattle.web.specs.declared.http.Extent.{Extent}
-use Rattle.web.specs.declared.http.WebFault.{WebFault}
-use Rattle.web.specs.declared.http.WebFault.TheVariants.{Read, Write}
-use Rattle.cli_tasks.specs.Serving.{AnswersInTurn, AnswersReady, IsReadied, ReadiesAgain, Serves, ServesInTurn, TellsReady, Transcript}
 
 module _ {S : Type 0} (g : Ghosts S) where
   same_desk : (desk : Desk S) → IsLaterDesk g desk desk

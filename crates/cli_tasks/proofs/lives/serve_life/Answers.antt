@@ -1,4 +1,4 @@
-use Rattle.std.proofs.Common.{[], ◌≡◌, OnErr, arith, refl, subst}
+use Rattle.cli_tasks.proofs.Vocabulary.{[], ◌≡◌, OnErr, arith, refl, subst}
 use Rattle.cli_tasks.proofs.ConnectionLemmas.{logs-none}
 use Rattle.cli_tasks.proofs.LivesLemmas.{count_of_stop}
 use Rattle.cli_tasks.proofs.ServedFileLemmas.{accepts_none}

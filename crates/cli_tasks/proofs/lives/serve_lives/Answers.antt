@@ -1,5 +1,4 @@
-use Rattle.std.proofs.Common.{[], ◌∷◌, ◌++◌, arith, length-append, refl, take_all}
-use Rattle.sqlite_disk.specs.declared.Files.{Files}
+use Rattle.cli_tasks.proofs.Vocabulary.{[], ◌∷◌, ◌++◌, arith, length-append, refl, take_all, Files}
 use Rattle.sqlite_wal.proofs.CleanLemmas.{both_clean}
 use Rattle.cli_tasks.proofs.ConnectionLemmas.{logs-none}
 use Rattle.cli_tasks.proofs.LivesLemmas.{accepts_more, ends_lives, lives_more, logs_more, serves_none}

@@ -1,9 +1,4 @@
-use Rattle.std.proofs.Common.{◌≡◌, ◌≤◌, List, length, take}
-use Rattle.std.specs.List.{flat_map}
-use Rattle.sqlite_wal.specs.Reads.{AreClean}
-use Rattle.cli_tasks.specs.Connections.{Accepts, Logs}
-use Rattle.cli_tasks.specs.ServedLives.{ServesLives}
-use Rattle.cli_tasks.specs.Serving.{fault_lines, Transcript}
+use Rattle.cli_tasks.proofs.Vocabulary.{◌≡◌, ◌≤◌, List, length, take, flat_map, AreClean, Accepts, Logs, ServesLives, fault_lines, Transcript}
 use Rattle.cli_tasks.proofs.lives.serve_lives.Given as goal
 
 abbrev pub invariant-loop-life : goal.invariant-loop-life

@@ -1,6 +1,4 @@
-use Rattle.std.proofs.Common.{◌∙◌, ◌+◌, ◌≤◌, ◌++◌, ◌∷◌, [], ap, arith}
-use Rattle.std.specs.Result.{result_err}
-use Rattle.cli_tasks.specs.Serving.{AnswersReady}
+use Rattle.cli_tasks.proofs.Vocabulary.{◌∙◌, ◌+◌, ◌≤◌, ◌++◌, ◌∷◌, [], ap, arith, result_err, AnswersReady}
 use Rattle.cli_tasks.proofs.ConnectionLemmas.{accepts-then, in-turn-then, length-then, logs-one}
 use Rattle.cli_tasks.proofs.serve.answer_each.Goals as goal
 

@@ -1,6 +1,4 @@
-use Rattle.std.proofs.Common.{◌≡◌, ◌-◌, ◌≤◌, List, length}
-use Rattle.cli_tasks.specs.Connections.{Accepts, Logs}
-use Rattle.cli_tasks.specs.Serving.{AnswersInTurn, AnswersReady, fault_lines, Transcript}
+use Rattle.cli_tasks.proofs.Vocabulary.{◌≡◌, ◌-◌, ◌≤◌, List, length, Accepts, Logs, AnswersInTurn, AnswersReady, fault_lines, Transcript}
 use Rattle.cli_tasks.proofs.serve.answer_each.Given as goal
 
 abbrev pub invariant-loop-served : goal.invariant-loop-served

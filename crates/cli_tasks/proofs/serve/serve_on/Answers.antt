@@ -1,4 +1,4 @@
-use Rattle.cli_tasks.specs.Serving.{ServesInTurn}
+use Rattle.cli_tasks.proofs.Vocabulary.{ServesInTurn}
 use Rattle.cli_tasks.proofs.HistoryLemmas.{each_leaves}
 use Rattle.cli_tasks.proofs.ServingLemmas.{later_served}
 use Rattle.cli_tasks.proofs.serve.serve_on.Goals as goal

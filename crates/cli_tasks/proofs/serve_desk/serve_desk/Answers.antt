@@ -1,6 +1,4 @@
-use Rattle.std.proofs.Common.{◌≡◌, inl, length, subst}
-use Rattle.std.specs.Prelude.{◌<◌, OnErr, OnOk}
-use Rattle.std.proofs.lemmas.Result.{IfErr-weaker}
+use Rattle.cli_tasks.proofs.Vocabulary.{◌≡◌, inl, length, subst, ◌<◌, OnErr, OnOk, IfErr-weaker}
 use Rattle.cli_tasks.proofs.HistoryLemmas.{if_ok_both}
 use Rattle.cli_tasks.proofs.ServedFileLemmas.{keep_served, not_closed}
 use Rattle.cli_tasks.proofs.serve_desk.serve_desk.Goals as goal

@@ -1,4 +1,4 @@
-use Rattle.std.proofs.Common.{refl}
+use Rattle.cli_tasks.proofs.Vocabulary.{refl}
 use Rattle.streams.specs.Device.{device_bytes, device_has_ended, device_has_failed, device_inner}
 use Rattle.cli_tasks.proofs.FollowLemmas.{given-first, taken-after}
 use Rattle.cli_tasks.proofs.serve.connections.answer_between.Goals as goal

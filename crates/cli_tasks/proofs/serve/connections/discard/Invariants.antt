@@ -1,5 +1,4 @@
-use Rattle.std.proofs.Common.{◌≡◌, ◌+◌, ℕ, List, length}
-use Rattle.http_messages.specs.Input.{Gives}
+use Rattle.cli_tasks.proofs.Vocabulary.{◌≡◌, ◌+◌, ℕ, List, length, Gives}
 use Rattle.cli_tasks.specs.declared.serve.connections.TheConstants.{DISCARD_LIMIT}
 use Rattle.cli_tasks.proofs.serve.connections.discard.Given as goal
 

@@ -1,4 +1,4 @@
-use Rattle.std.proofs.Common.{ap}
+use Rattle.cli_tasks.proofs.Vocabulary.{ap}
 use Rattle.cli_tasks.proofs.ServingLemmas.{serves}
 use Rattle.cli_tasks.proofs.serve.connections.DeskAnswerConnections.answer.Goals as goal
 
