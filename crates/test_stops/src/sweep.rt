@@ -13,6 +13,7 @@ use sqlite::{Alter, Connection, FileStore};
 use sqlite_disk::{Crash, Disk, Files, Fuse, Memory};
 use sqlite_pager::Options;
 use std::alloc::Global;
+use std::hash::{DefaultHasher, Hasher};
 use std::ops::Range;
 use std::process::Abort;
 
@@ -122,17 +123,25 @@ pub(crate) fn files_of(rt: &impl Abort, alloc: Global, log: &[u8], db: &[u8]) ->
 /// What a disk writes at once or not at all.
 const SECTOR: usize = 512;
 
+/// Appends these bytes from where the file ends, before the given end.
+fn extend_to(rt: &impl Abort, file: &mut Vec<u8>, bytes: &[u8], end: usize) {
+    let end = end.min(bytes.len());
+    if let Some(more) = bytes.get(file.len()..end) {
+        file.extend_from_slice(more).expect(rt, "memory");
+    }
+}
+
 /// The file after a power cut that kept every other sector of what was not synced.
 fn every_other_sector(rt: &impl Abort, alloc: Global, written: &[u8], synced: &[u8]) -> Vec<u8> {
+    let len = written.len().max(synced.len());
     let mut mixed = Vec::new(alloc);
-    for at in 0..written.len().max(synced.len()) {
-        let old = synced.get(at);
-        let kept = if at / SECTOR % 2 == 0 {
-            written.get(at).or(old)
-        } else {
-            old
-        };
-        mixed.push(kept.copied().unwrap_or(0)).expect(rt, "memory");
+    for sector in 0..len.div_ceil(SECTOR) {
+        let end = sector.saturating_add(1).saturating_mul(SECTOR).min(len);
+        if sector % 2 == 0 {
+            extend_to(rt, &mut mixed, written, end);
+        }
+        extend_to(rt, &mut mixed, synced, end);
+        mixed.resize(end, 0).expect(rt, "memory");
     }
     mixed
 }
@@ -278,6 +287,8 @@ fn copy_of(rt: &impl Abort, alloc: Global, bytes: &[u8]) -> Vec<u8> {
 /// Files that were opened, and how many of the requests their desk had.
 #[derive(Drop)]
 struct Opened {
+    /// Most files that differ differ here, so few are compared byte by byte.
+    digest: u64,
     log: Vec<u8>,
     db: Vec<u8>,
     found: usize,
@@ -286,15 +297,23 @@ struct Opened {
 impl Opened {
     fn new(rt: &impl Abort, alloc: Global, log: &[u8], db: &[u8], found: usize) -> Opened {
         Opened {
+            digest: digest_of(log, db),
             log: copy_of(rt, alloc, log),
             db: copy_of(rt, alloc, db),
             found,
         }
     }
 
-    fn has(&self, log: &[u8], db: &[u8]) -> bool {
-        self.db.as_slice() == db && self.log.as_slice() == log
+    fn has(&self, digest: u64, log: &[u8], db: &[u8]) -> bool {
+        self.digest == digest && self.log.as_slice() == log && self.db.as_slice() == db
     }
+}
+
+fn digest_of(log: &[u8], db: &[u8]) -> u64 {
+    let mut hasher = DefaultHasher::new();
+    hasher.write(log);
+    hasher.write(db);
+    hasher.finish()
 }
 
 /// What a run sends to its desk.
@@ -370,8 +389,9 @@ impl Sweep {
 
     /// How many of the requests the desk of these files has.
     fn found_in(&mut self, rt: &impl Abort, log: &[u8], db: &[u8]) -> usize {
+        let digest = digest_of(log, db);
         for opened in &self.opened {
-            if opened.has(log, db) {
+            if opened.has(digest, log, db) {
                 return opened.found;
             }
         }
