@@ -31,12 +31,12 @@ VERDICT = re.compile(r"^test (\S+) \.\.\. (ok|FAILED)\n((?:[ \t].*\n)*)", re.M)
 
 # About how long the tests of a crate take one after the other, and those of a crate that is not named here.
 SECONDS = {
-    "test_desk": 263,
     "test_stops": 2600,
-    "test_http": 128,
+    "test_desk": 240,
+    "test_http": 110,
+    "test_tasks": 90,
+    "test_store": 85,
     "test_library": 50,
-    "test_tasks": 207,
-    "test_store": 150,
 }
 OTHER_SECONDS = 60
 
