@@ -1,17 +1,16 @@
-#!/usr/bin/env python3
 """Runs all tests of all crates before any proof, several processes at a time, as `./roadesk test`.
 
     tests.py
 
-`rt try --test` runs the tests of a crate one after the other. So a crate that takes long is divided: each process has a
-copy of the sources, from which the tests of the other processes are taken out. A test has passed only if its process
-said so by name, and the names are those that the sources have.
+`rt try --test` builds all that a crate uses, which takes longer than most of its tests, and runs them one after the
+other. So each process has a copy of the sources with one crate more, whose modules are the crates of tests. It keeps
+the share of the tests that this process runs. A test has passed only if its process said so by name, and the names are
+those that the sources have.
 
-Prints a line for each crate once its tests have ended, with the seconds since they began, and then each test that
-failed or did not run. Needs rt. Ends with 0 if all passed, with 77, after a line that says so, where there is no rt,
-and else with 1.
+Prints a line for each crate once its last test has ended, with the seconds since the beginning, and after the last
+process each test that failed or did not run. Needs rt. Ends with 0 if all passed, with 77, after a line that says so,
+where there is no rt, and else with 1.
 """
-import collections
 import os
 import pathlib
 import re
@@ -22,119 +21,176 @@ import time
 
 sys.path.insert(0, str(pathlib.Path(__file__).resolve().parent.parent / "tools"))
 import side_by_side
-from common import TOP, need_rt
+from common import PROCESSORS, TOP, need_rt
 from side_by_side import Job
 
 # A test and the comments before it, as rt fmt lays them out.
 TEST = re.compile(r"(?:^ *//.*\n)*^( *)#\[test\]\n(?:.*\n)*?\1}\n", re.M)
 VERDICT = re.compile(r"^test (\S+) \.\.\. (ok|FAILED)\n((?:[ \t].*\n)*)", re.M)
 
-# About how long the tests of a crate take one after the other, and those of a crate that is not named here.
+# The crate of all tests. Its modules are `of_` and the name of a crate of tests, since no module has a crate's name.
+ALL_TESTS = "all_tests"
+
+# About how many seconds each test takes that has such a word in its name, the first of these, and each other test.
 SECONDS = {
-    "test_stops": 2600,
-    "test_desk": 240,
-    "test_http": 110,
-    "test_tasks": 90,
-    "test_store": 85,
-    "test_library": 50,
+    "test_stops::stop_at": 110,
+    "test_stops::refused_call": 90,
+    "test_stops::stop_of": 90,
+    "test_stops::kept_day": 60,
 }
-OTHER_SECONDS = 60
+OTHER_SECONDS = 3
 
-# How long the tests of one process should take, how long a test may, and the megabytes that a process takes.
-PART_SECONDS = 300
+# How many seconds a test may take, and the megabytes that a process takes.
 TEST_SECONDS = 600
-MEMORY = 3500
+MEMORY = 4500
 
 
-def sources(top, crate):
-    return sorted((top / "crates" / crate / "src").rglob("*.rt"))
+def seconds_of(test):
+    return next((seconds for word, seconds in SECONDS.items() if word in test), OTHER_SECONDS)
 
 
 def tests_of(crate):
-    """Returns the names of the tests, in the order of the sources."""
+    """Returns the tests of the crate, each as the name of its crate and its own, in the order of the sources."""
     names = []
-    for file in sources(TOP, crate):
+    for file in sorted((TOP / "crates" / crate / "src").rglob("*.rt")):
         text = file.read_text()
         found = [re.search(r"\bfn (\w+)", it[0])[1] for it in TEST.finditer(text)]
         if len(found) != text.count("#[test]"):
             sys.exit(f"roadesk: {file}: not each #[test] is where rt fmt has it")
-        names += found
+        names += [f"{crate}::{name}" for name in found]
+    if len(set(names)) < len(names):
+        sys.exit(f"roadesk: {crate}: two tests have one name")
     return names
 
 
-class Crate:
-    """The tests of a crate, and what is known of them so far."""
-
-    def __init__(self, name, names):
-        self.name, self.names = name, names
-        seconds = SECONDS.get(name, OTHER_SECONDS)
-        self.count = min(len(names), -(-seconds // PART_SECONDS))
-        self.part_seconds = seconds / self.count
-        self.running = self.count
-        self.begun = None
-        self.passed = self.failed = 0
-        self.faults = []
-
-    def end(self, part):
-        """Takes what a process said of its part. After the last one, prints what is known of all."""
-        said = part.said()
-        verdicts = VERDICT.findall(said)
-        failed = [f"failed: {self.name}::{test}\n{why}" for test, verdict, why in verdicts if verdict == "FAILED"]
-        self.passed += len(verdicts) - len(failed)
-        self.failed += len(failed)
-        self.faults += failed
-
-        judged = collections.Counter(test.split("::")[-1] for test, *_ in verdicts)
-        missing = collections.Counter(part.names) - judged
-        self.faults += [f"not run: {self.name}::{test}\n" for test in missing.elements()]
-        if judged != collections.Counter(part.names) or bool(part.process.returncode) != bool(failed):
-            self.faults.append(f"{self.name}: rt try ended with {part.process.returncode}, after\n{said[-3000:]}\n")
-
-        self.running -= 1
-        if not self.running:
-            seconds = time.monotonic() - self.begun
-            print(f"{self.name}: {self.passed} of {len(self.names)} passed, {seconds:.0f} s")
-            print("".join(self.faults), end="", flush=True)
+def shares(tests, count):
+    """Divides the tests among so many processes, the slowest first, each to the process that has the least to do."""
+    shares, seconds = [set() for _ in range(count)], [0] * count
+    for test in sorted(tests, key=seconds_of, reverse=True):
+        least = seconds.index(min(seconds))
+        shares[least].add(test)
+        seconds[least] += seconds_of(test)
+    return shares
 
 
 class Part(Job):
-    """A process with the `nth` test of a crate and each `count`-th after it, since neighbouring tests are alike."""
+    """A process with its share of the tests of these crates, in a copy of the sources."""
 
-    def __init__(self, crate, nth, work):
-        self.crate, self.nth = crate, nth
-        self.names = crate.names[nth :: crate.count]
-        self.top = work / f"{crate.name}-{nth}"
+    def __init__(self, crates, tests, top):
+        self.crates, self.tests, self.top = crates, tests, top
         command = ["rt", "try", "--test", "--seconds", str(TEST_SECONDS)]
-        super().__init__(command, self.top / "crates" / crate.name, self.top / "said", MEMORY)
+        super().__init__(command, top / "crates" / ALL_TESTS, top / "said", MEMORY)
 
     def begin(self):
-        self.crate.begun = self.crate.begun or time.monotonic()
         shutil.copytree(TOP / "crates", self.top / "crates", ignore=shutil.ignore_patterns("out"))
-        shutil.copy(TOP / "crates.txt", self.top)
-        places = iter(range(len(self.crate.names)))
-        for file in sources(self.top, self.crate.name):
-            file.write_text(TEST.sub(lambda it: it[0] if self.takes(next(places)) else "", file.read_text()))
+        used = side_by_side.crate_lines()
+        needs = sorted({word for crate in self.crates for word in used[crate].split()})
+        lines = [f"{name}: {words.strip()}\n" for name, words in used.items()]
+        (self.top / "crates.txt").write_text("".join(lines) + f"{ALL_TESTS}: {' '.join(needs)}\n")
+        for crate in self.crates:
+            self.copy(crate)
+        modules = "".join(f"mod of_{crate};\n" for crate in self.crates)
+        (self.folder / "src" / "lib.rt").write_text(f"#![tactic(auto)]\n\n{modules}")
         super().begin()
 
-    def takes(self, place):
-        return place % self.crate.count == self.nth
+    def copy(self, crate):
+        """Makes the crate a module, without the tests of the other processes."""
+        sources, to = TOP / "crates" / crate / "src", self.folder / "src" / f"of_{crate}"
+        for file in sorted(sources.rglob("*.rt")):
+            text = re.sub(r"\bcrate::", f"crate::of_{crate}::", file.read_text())
+            text = re.sub(r"^(//!|#!).*\n", "", text, flags=re.M)
+            place = to / file.relative_to(sources)
+            if place == to / "lib.rt":
+                place = to.with_suffix(".rt")
+            place.parent.mkdir(parents=True, exist_ok=True)
+            place.write_text(TEST.sub(lambda it: it[0] if self.takes(crate, it[0]) else "", text))
+
+    def takes(self, crate, text):
+        name = re.search(r"\bfn (\w+)", text)[1]
+        return f"{crate}::{name}" in self.tests
+
+    def verdicts(self):
+        """Returns for each test that has ended its verdict, and what it said."""
+        if not self.output.exists():
+            return {}
+        found = {}
+        for path, verdict, why in VERDICT.findall(self.said()):
+            crate, *_, name = path.removeprefix("of_").split("::")
+            found[f"{crate}::{name}"] = (verdict, why)
+        return found
+
+
+    def is_whole(self):
+        """Whether the process judged each of its tests and no other, and ended as these say."""
+        verdicts = self.verdicts()
+        has_failed = any(verdict == "FAILED" for verdict, _ in verdicts.values())
+        return set(verdicts) == self.tests and bool(self.process.returncode) == has_failed
+
+
+class Report:
+    """What is known of the tests of each crate, and which crates have a line already."""
+
+    def __init__(self, crates, parts):
+        self.crates, self.parts = crates, parts
+        self.begun, self.seen = time.monotonic(), 0
+        self.told = set()
+
+    def verdicts(self):
+        return {test: verdict for part in self.parts for test, verdict in part.verdicts().items()}
+
+    def watch(self):
+        """Prints a line for each crate whose tests have ended since the last one."""
+        if time.monotonic() - self.seen < 1:
+            return
+        verdicts, self.seen = self.verdicts(), time.monotonic()
+        for crate, tests in self.crates.items():
+            if crate not in self.told and all(test in verdicts for test in tests):
+                self.tell(crate, verdicts)
+
+    def tell(self, crate, verdicts):
+        self.told.add(crate)
+        tests = self.crates[crate]
+        passed = sum(verdicts.get(test, ("",))[0] == "ok" for test in tests)
+        print(f"{crate}: {passed} of {len(tests)} passed, {time.monotonic() - self.begun:.0f} s", flush=True)
+
+    def end(self):
+        """Prints what is left to say; returns whether all tests have passed."""
+        verdicts = self.verdicts()
+        tests = [test for tests in self.crates.values() for test in tests]
+        for crate in self.crates:
+            if crate not in self.told:
+                self.tell(crate, verdicts)
+        for part in self.parts:
+            if not part.is_whole():
+                print(f"rt try ended with {part.process.returncode}, after\n{part.said()[-3000:]}")
+            if not part.verdicts():
+                # The others did not begin either.
+                break
+        failed = [test for test in tests if verdicts.get(test, ("",))[0] == "FAILED"]
+        not_run = [test for test in tests if test not in verdicts]
+        for test in failed:
+            print(f"failed: {test}\n{verdicts[test][1]}", end="")
+        for test in not_run:
+            print(f"not run: {test}")
+        passed = len(tests) - len(failed) - len(not_run)
+        print(f"{passed} passed, {len(failed)} failed" + (f", {len(not_run)} not run" if not_run else ""))
+        return passed == len(tests) and all(part.is_whole() for part in self.parts)
 
 
 def main():
     need_rt()
     side_by_side.note_signals()
-    crates = [Crate(name, names) for name in side_by_side.used_crates() if (names := tests_of(name))]
+    crates = {name: tests for name in side_by_side.used_crates() if (tests := tests_of(name))}
+    count = max(1, min(PROCESSORS, side_by_side.available_memory() // MEMORY))
     with tempfile.TemporaryDirectory(prefix="roadesk-test-") as work:
         # So that nothing is left of an rt that is killed.
         os.environ["TMPDIR"] = work
-        parts = [Part(crate, nth, pathlib.Path(work)) for crate in crates for nth in range(crate.count)]
-        parts.sort(key=lambda part: part.crate.part_seconds, reverse=True)
-        side_by_side.run_side_by_side(parts, lambda part: True, lambda part: part.crate.end(part))
-    passed = sum(crate.passed for crate in crates)
-    failed = sum(crate.failed for crate in crates)
-    not_run = sum(len(crate.names) for crate in crates) - passed - failed
-    print(f"{passed} passed, {failed} failed" + (f", {not_run} not run" if not_run else ""))
-    sys.exit(any(crate.faults for crate in crates))
+        divided = shares([test for tests in crates.values() for test in tests], count)
+        parts = [Part(list(crates), share, pathlib.Path(work) / str(nth)) for nth, share in enumerate(divided)]
+        report = Report(crates, parts)
+        side_by_side.run_side_by_side(parts, lambda part: True, lambda part: None, report.watch)
+        passed = report.end()
+    sys.exit(not passed)
 
 
 if __name__ == "__main__":

@@ -21,12 +21,17 @@ def note_signals():
         signal.signal(number, lambda number, _: signals.append(number))
 
 
-def used_crates():
-    """Returns for each crate, in the order of crates.txt, the crates that it uses."""
+def crate_lines():
+    """Returns for each crate, in the order of crates.txt, its line there after the colon."""
     lines = (line.partition("#")[0] for line in (TOP / "crates.txt").read_text().splitlines())
     named = (line.split(":", 1) for line in lines if line.strip())
-    words = {name.split()[0]: used.split() for name, used in named}
-    return {name: [it for it in used if it in words] for name, used in words.items()}
+    return {name.split()[0]: used for name, used in named}
+
+
+def used_crates():
+    """Returns for each crate, in the order of crates.txt, the crates that it uses."""
+    lines = crate_lines()
+    return {name: [it for it in used.split() if it in lines] for name, used in lines.items()}
 
 
 def available_memory():
@@ -73,11 +78,11 @@ def stop(jobs):
         job.signal(signal.SIGKILL)
 
 
-def run_side_by_side(jobs, may_begin, end):
+def run_side_by_side(jobs, may_begin, end, watch=lambda: None):
     """Runs the jobs, the first ones first, as many at a time as there are processors and memory for, and always one.
 
-    `may_begin` says of a job whether what it needs is done. `end` takes each job that has ended, and may raise. However
-    this ends, also by a signal, no process is left.
+    `may_begin` says of a job whether what it needs is done. `end` takes each job that has ended, and may raise. `watch`
+    is called again and again while they run. However this ends, also by a signal, no process is left.
     """
     memory = available_memory()
     waiting, running = list(jobs), []
@@ -102,6 +107,7 @@ def run_side_by_side(jobs, may_begin, end):
             ready = [it for it in waiting if may_begin(it)]
             for place in range(len(ready)):
                 begin(ready[place:])
+            watch()
             if signals:
                 sys.exit(128 + signals[0])
             time.sleep(0.2)

@@ -4,6 +4,7 @@ use desk::{Asked, Desk, Reply};
 use policy::Charter;
 use sqlite::Alter;
 use std::alloc::Global;
+use std::ops::Range;
 use std::process::Abort;
 use test_library::rows::{Row, split_row, table_rows};
 use test_library::sheet::Sheet;
@@ -168,7 +169,7 @@ pub(crate) fn text_of(rt: &impl Abort, alloc: Global, lists: &[Vec<Reply>]) -> S
 /// How the requests of a run were answered.
 #[derive(Clone, Copy)]
 pub(crate) struct Answers {
-    /// How many of them were.
+    /// How many the desk has, with those from before the run.
     pub(crate) count: usize,
     /// The last of those that were answered only when they were sent again.
     pub(crate) delayed: Option<usize>,
@@ -187,18 +188,19 @@ fn is_unavailable<S: Alter>(
     replies_with(rt, alloc, desk, row.input, UNAVAILABLE, first, found)
 }
 
-/// Sends the first of the requests, so many, until the desk is unavailable twice.
-pub(crate) fn ask_first<S: Alter>(
+/// Sends these requests to a desk that has those before them, until it is unavailable twice.
+pub(crate) fn ask_each<S: Alter>(
     rt: &impl Abort,
     alloc: Global,
     desk: &mut Desk<S>,
-    count: usize,
+    requests: &Range<usize>,
 ) -> Answers {
     let mut answers = Answers {
-        count: 0,
+        count: requests.start,
         delayed: None,
     };
-    for row in rows_of(rt, alloc, REQUESTS).iter().take(count) {
+    let rows = rows_of(rt, alloc, REQUESTS);
+    for row in rows.iter().take(requests.end).skip(requests.start) {
         if is_unavailable(rt, alloc, desk, row, answers.count) {
             if is_unavailable(rt, alloc, desk, row, answers.count) {
                 break;
@@ -210,14 +212,14 @@ pub(crate) fn ask_first<S: Alter>(
     answers
 }
 
-/// Sends the first of the requests, so many, and each of them is answered.
+/// Sends these requests to a desk that has those before them, and each of them is answered.
 pub(crate) fn assert_answered<S: Alter>(
     rt: &impl Abort,
     alloc: Global,
     desk: &mut Desk<S>,
-    count: usize,
+    requests: &Range<usize>,
 ) {
-    assert_eq!(rt; ask_first(rt, alloc, desk, count).count, count);
+    assert_eq!(rt; ask_each(rt, alloc, desk, requests).count, requests.end);
 }
 
 /// Sends a request after so many that the desk had. Returns whether the desk had it too; it had

@@ -1,13 +1,14 @@
 //! A create over HTTP, on desks over files that stop at each call of the disk.
 use crate::example_requests::{
-    Answers, COUNT_BEFORE_CREATE, COUNT_WITH_CREATE, ask_first, assert_answered, sheet_of,
+    Answers, COUNT_BEFORE_CREATE, COUNT_WITH_CREATE, ask_each, assert_answered, sheet_of,
 };
+use crate::failing::{Failing, Failure};
 use crate::sweep::{Course, FailingFile, Sweep, copying_options, small_options, sound_desk};
 use addr::Day;
 use desk::Desk;
 use desk_files::stop;
 use sqlite::Alter;
-use sqlite_disk::{Files, Fuse, Memory};
+use sqlite_disk::{Files, Memory};
 use sqlite_pager::Options;
 use std::alloc::Global;
 use std::process::Abort;
@@ -51,13 +52,14 @@ fn is_created<S: Alter>(rt: &impl Abort, alloc: Global, desk: &mut Desk<S>) -> b
     is_done
 }
 
-/// Sends the requests before the create as lines, and the create over HTTP.
+/// Sends the requests from this one to the one before the create as lines, and the create over HTTP.
 pub(crate) fn ask_until_create<S: Alter>(
     rt: &impl Abort,
     alloc: Global,
     desk: &mut Desk<S>,
+    first: usize,
 ) -> Answers {
-    let mut answers = ask_first(rt, alloc, desk, COUNT_BEFORE_CREATE);
+    let mut answers = ask_each(rt, alloc, desk, &(first..COUNT_BEFORE_CREATE));
     if answers.count == COUNT_BEFORE_CREATE && is_created(rt, alloc, desk) {
         answers.count = COUNT_WITH_CREATE;
     }
@@ -69,7 +71,8 @@ pub(crate) fn ask_until_create<S: Alter>(
 /// send lines alone.
 fn stop_at_a_create(rt: &impl Abort, alloc: Global, options: Options) {
     let requests = COUNT_BEFORE_CREATE.saturating_sub(1)..COUNT_WITH_CREATE;
-    Sweep::new(alloc, options, Course::HttpCreate).fail_at::<Fuse<Memory>>(rt, &requests);
+    let mut sweep = Sweep::new(alloc, options, Course::HttpCreate);
+    sweep.fail_at::<Failing<Memory>>(rt, Failure::Stop, &requests);
 }
 
 #[test]
@@ -82,13 +85,20 @@ fn stop_at_a_create_while_the_log_is_copied(rt: HostRuntime) {
     stop_at_a_create(&rt, rt.alloc(), copying_options());
 }
 
-/// A create whose response is not taken.
+/// Sends a create whose response is not taken.
 fn create_untaken<S: Alter>(rt: &impl Abort, alloc: Global, desk: &mut Desk<S>) {
-    assert_answered(rt, alloc, desk, COUNT_BEFORE_CREATE);
+    assert_answered(rt, alloc, desk, &(0..COUNT_BEFORE_CREATE));
     let mut sheet = sheet_of(alloc, 0);
     let result = serve_create(rt, alloc, desk, &mut sheet);
     assert_eq!(rt; result, Err(WebFault::Write));
     assert!(rt; sheet.bytes.is_empty());
+}
+
+/// What is left of a desk after a create whose response is not taken.
+fn files_after_untaken<D: FailingFile + Drop>(rt: &impl Abort, alloc: Global) -> Files<D> {
+    let mut desk = sound_desk(rt, alloc, small_options());
+    create_untaken(rt, alloc, &mut desk);
+    stop(desk)
 }
 
 /// These files have all requests with the create, as they are and after a power cut.
@@ -102,7 +112,6 @@ fn assert_all_left<D: FailingFile + Drop>(rt: &impl Abort, alloc: Global, mut fi
 /// It was made, and is there after a stop: nothing was in progress then.
 #[test]
 fn response_that_is_not_taken(rt: HostRuntime) {
-    let mut desk = sound_desk::<Fuse<Memory>>(&rt, rt.alloc(), small_options());
-    create_untaken(&rt, rt.alloc(), &mut desk);
-    assert_all_left(&rt, rt.alloc(), stop(desk));
+    let files = files_after_untaken::<Failing<Memory>>(&rt, rt.alloc());
+    assert_all_left(&rt, rt.alloc(), files);
 }

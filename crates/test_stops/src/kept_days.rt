@@ -1,14 +1,12 @@
 //! The VRPs of the day that a desk keeps, where the disk fails at a command.
-use crate::example_requests::{
-    COUNT_WITH_CREATE, UNAVAILABLE, ask_first, assert_reply, replies_with,
-};
-use crate::refusing::Refusing;
-use crate::sweep::{FailingFile, MANY, begin, small_options};
+use crate::example_requests::{COUNT_WITH_CREATE, UNAVAILABLE, assert_reply, replies_with};
+use crate::failing::{Failing, Failure};
+use crate::sweep::{FailingFile, FileFault, MANY, files_after, open_copy, small_options};
 use addr::Day;
 use desk::Desk;
 use desk_files::stop;
 use sqlite::Alter;
-use sqlite_disk::{Fuse, Memory};
+use sqlite_disk::{Files, Memory};
 use sqlite_pager::Options;
 use std::alloc::Global;
 use std::process::Abort;
@@ -91,10 +89,15 @@ fn end_of_command<S: Alter>(rt: &impl Abort, alloc: Global, desk: &mut Desk<S>) 
 
 /// Makes the desk keep a day, and sends the command to it.
 fn end_on_kept_day<S: Alter>(rt: &impl Abort, alloc: Global, desk: &mut Desk<S>) -> End {
-    let count = COUNT_WITH_CREATE;
-    if ask_first(rt, alloc, desk, count).count < count
-        || replies_with(rt, alloc, desk, PAYLOADS, UNAVAILABLE, BEFORE, count)
-    {
+    if replies_with(
+        rt,
+        alloc,
+        desk,
+        PAYLOADS,
+        UNAVAILABLE,
+        BEFORE,
+        COUNT_WITH_CREATE,
+    ) {
         return End::Early;
     }
     assert_payloads(rt, alloc, desk, BEFORE);
@@ -102,33 +105,45 @@ fn end_on_kept_day<S: Alter>(rt: &impl Abort, alloc: Global, desk: &mut Desk<S>)
 }
 
 /// The end of a run, where the log perhaps failed after the command.
-fn end_with_log<D: FailingFile>(end: End, log: &mut D) -> End {
+fn end_with_log<D: FailingFile>(end: End, log: &D) -> End {
     if end == End::Done && log.has_failed() {
         return End::Early;
     }
     end
 }
 
-/// Keeps a day, and sends the command to a desk whose log fails after so many calls.
-fn run<D: FailingFile + Drop>(rt: &impl Abort, alloc: Global, options: Options, calls: u64) -> End {
-    let Some(mut desk) = begin::<D>(rt, alloc, true, calls, options) else {
+/// Keeps a day, and sends the command to a desk over a copy of these files, of which one fails.
+fn run<D: FailingFile + Drop>(
+    rt: &impl Abort,
+    alloc: Global,
+    before: &Files<D>,
+    options: Options,
+    fault: FileFault,
+) -> End {
+    let Some(mut desk) = open_copy(rt, alloc, before, fault, options) else {
         return End::Early;
     };
     let end = end_on_kept_day(rt, alloc, &mut desk);
-    let mut files = stop(desk);
-    end_with_log(end, &mut files.log)
+    end_with_log(end, &stop(desk).log)
 }
 
-/// The log fails at each call of the command in turn, with this end in some run.
-fn assert_kept_day_is_answered<D: FailingFile + Drop>(
+/// The log fails at each of its calls up to the end of the command, with this end in some run.
+fn assert_kept_day_is_answered(
     rt: &impl Abort,
     alloc: Global,
     options: Options,
+    failure: Failure,
     expected: End,
 ) {
+    let before = files_after::<Failing<Memory>>(rt, alloc, options, COUNT_WITH_CREATE);
     let mut is_met = false;
     for calls in 0..MANY {
-        let end = run::<D>(rt, alloc, options, calls);
+        let fault = FileFault {
+            failure,
+            is_log: true,
+            calls,
+        };
+        let end = run(rt, alloc, &before, options, fault);
         if end == End::Done {
             assert!(rt; is_met);
             return;
@@ -140,15 +155,27 @@ fn assert_kept_day_is_answered<D: FailingFile + Drop>(
 
 #[test]
 fn kept_day_is_answered_after_a_stop(rt: HostRuntime) {
-    assert_kept_day_is_answered::<Fuse<Memory>>(&rt, rt.alloc(), wide_options(), End::Cached);
+    assert_kept_day_is_answered(&rt, rt.alloc(), wide_options(), Failure::Stop, End::Cached);
 }
 
 #[test]
 fn kept_day_is_answered_after_a_refused_call(rt: HostRuntime) {
-    assert_kept_day_is_answered::<Refusing<Memory>>(&rt, rt.alloc(), small_options(), End::Delayed);
+    assert_kept_day_is_answered(
+        &rt,
+        rt.alloc(),
+        small_options(),
+        Failure::Refusal,
+        End::Delayed,
+    );
 }
 
 #[test]
 fn kept_day_is_answered_after_a_refused_sync(rt: HostRuntime) {
-    assert_kept_day_is_answered::<Refusing<Memory>>(&rt, rt.alloc(), small_options(), End::Shut);
+    assert_kept_day_is_answered(
+        &rt,
+        rt.alloc(),
+        small_options(),
+        Failure::Refusal,
+        End::Shut,
+    );
 }

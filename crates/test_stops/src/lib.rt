@@ -1,9 +1,11 @@
 //! What a desk over files does where the disk fails: it stops at each call of the disk, or one call is
-//! refused, and the files are opened again. And what is answered where an allocation is refused.
+//! refused, and the files are opened again.
 #![tactic(auto)]
 
 #[cfg(test)]
 mod example_requests;
+#[cfg(test)]
+mod failing;
 #[cfg(test)]
 mod http_creates;
 #[cfg(test)]
@@ -14,10 +16,6 @@ mod lives;
 mod openings;
 #[cfg(test)]
 mod refusals;
-#[cfg(test)]
-mod refused_memory;
-#[cfg(test)]
-mod refusing;
 #[cfg(test)]
 mod stops;
 #[cfg(test)]

@@ -2,20 +2,30 @@
 use crate::example_requests::{
     COUNT_BEFORE_CREATE, REQUEST_COUNT, asked_requests, count_found, first_replies, text_of,
 };
-use crate::sweep::{small_options, sound_desk};
+use crate::failing::Failing;
+use crate::sweep::{FailingFile, small_options, sound_desk};
 use desk::Asked;
 use desk_files::{Lived, live};
 use sqlite::{Alter, FileStore};
-use sqlite_disk::{Fuse, Memory};
+use sqlite_disk::Memory;
 use std::alloc::Global;
 use std::process::Abort;
 
+/// The desk answered all requests in its lives as those that are sent for the first time, and has
+/// them.
+fn assert_lived<S: Alter>(rt: &impl Abort, alloc: Global, lived: &mut Lived<S>) {
+    let text = text_of(rt, alloc, &lived.replies);
+    let expected = first_replies(rt, alloc);
+    assert_eq!(rt; text.as_str(), expected.as_str());
+    assert!(rt; count_found(rt, alloc, &mut lived.desk) == REQUEST_COUNT);
+}
+
 /// A desk after a life for each of these lists.
-fn desk_after(
+fn desk_after<D: FailingFile + Drop>(
     rt: &impl Abort,
     alloc: Global,
     lists: &[&[Asked]],
-) -> Lived<FileStore<Fuse<Memory>>> {
+) -> Lived<FileStore<D>> {
     let desk = sound_desk(rt, alloc, small_options());
     match live(alloc, desk, lists) {
         Ok(lived) => lived,
@@ -23,13 +33,10 @@ fn desk_after(
     }
 }
 
-/// The desk answered all requests in its lives as those that are sent for the first time, and has
-/// them.
-fn assert_lived<S: Alter + Drop>(rt: &impl Abort, alloc: Global, mut lived: Lived<S>) {
-    let text = text_of(rt, alloc, &lived.replies);
-    let expected = first_replies(rt, alloc);
-    assert_eq!(rt; text.as_str(), expected.as_str());
-    assert!(rt; count_found(rt, alloc, &mut lived.desk) == REQUEST_COUNT);
+/// A desk has a life for each of these lists, which together have all requests.
+fn live_each<D: FailingFile + Drop>(rt: &impl Abort, alloc: Global, lists: &[&[Asked]]) {
+    let mut lived = desk_after::<D>(rt, alloc, lists);
+    assert_lived(rt, alloc, &mut lived);
 }
 
 /// A desk has what it answered before each crash.
@@ -39,5 +46,5 @@ fn each_life_goes_on_with_the_one_before(rt: HostRuntime) {
     let before = asked.get(..COUNT_BEFORE_CREATE).expect(&rt, "requests");
     let after = asked.get(COUNT_BEFORE_CREATE..).expect(&rt, "requests");
     let lists = [before, &[], after];
-    assert_lived(&rt, rt.alloc(), desk_after(&rt, rt.alloc(), &lists));
+    live_each::<Failing<Memory>>(&rt, rt.alloc(), &lists);
 }

@@ -1,14 +1,14 @@
 //! Desks over files of which one fails while a desk is made in them, or its desk is opened and
 //! closed. Clauses say what is left then, but not that it opens again.
-use crate::example_requests::REQUEST_COUNT;
-use crate::refusing::Refusing;
+use crate::example_requests::{REQUEST_COUNT, assert_answered};
+use crate::failing::{Failing, Failure};
 use crate::sweep::{
-    Course, FailingFile, MANY, Sweep, desk_after, empty_files, failing_files, files_of, make_in,
+    Course, FailingFile, FileFault, MANY, Sweep, desk_after, empty_files, failing_files,
+    files_after, files_of, left_of_close, make_in, open_copy,
 };
-use desk::Desk;
-use desk_files::{OpenFault, close_desk, open_files, stop};
-use sqlite::{Connection, FileStore};
-use sqlite_disk::{Disk, Files, Fuse, Memory};
+use desk_files::{OpenFault, open_files, stop};
+use sqlite::{Alter, Connection, FileStore};
+use sqlite_disk::{Disk, Files, Memory};
 use sqlite_pager::Options;
 use std::alloc::Global;
 use std::process::Abort;
@@ -28,14 +28,6 @@ fn left_of_opening<D: Disk + Drop>(rt: &impl Abort, fault: OpenFault<D>) -> File
         OpenFault::File(_, left) => left.into_files(),
         OpenFault::Store(StoreFault::Database, files) => files,
         OpenFault::Path(_) | OpenFault::Store(StoreFault::Schema, _) => rt.panic("another schema"),
-    }
-}
-
-/// What a close leaves.
-fn left_of_close<D: Disk + Drop>(desk: Desk<FileStore<D>>) -> Files<D> {
-    match close_desk(desk) {
-        Ok(files) => files,
-        Err(fault) => fault.store.close(),
     }
 }
 
@@ -65,18 +57,17 @@ fn live_once<D: Disk + Drop>(rt: &impl Abort, sweep: &Sweep, files: Files<D>) ->
     }
 }
 
-/// A copy of the files lives once, of which one fails after so many calls, and all requests are
-/// found again. Returns whether it failed.
+/// A copy of the files lives once, of which one fails, and all requests are found again. Returns
+/// whether it failed.
 fn run<D: FailingFile + Drop>(
     rt: &impl Abort,
     sweep: &mut Sweep,
-    found: &Files<Refusing<Memory>>,
-    is_log: bool,
-    calls: u64,
+    found: &Files<D>,
+    fault: FileFault,
 ) -> bool {
     let answered = sweep.course.count();
     let copy = files_of(rt, sweep.alloc, found.log.bytes(), found.db.bytes());
-    let mut left = live_once(rt, sweep, failing_files::<D>(copy, is_log, calls));
+    let mut left = live_once(rt, sweep, failing_files::<D>(copy, fault));
     sweep.open_after_run(rt, &mut left, answered)
 }
 
@@ -85,11 +76,17 @@ fn run<D: FailingFile + Drop>(
 fn run_until_done<D: FailingFile + Drop>(
     rt: &impl Abort,
     sweep: &mut Sweep,
-    found: &Files<Refusing<Memory>>,
+    found: &Files<D>,
+    failure: Failure,
     is_log: bool,
 ) {
     for calls in 0..MANY {
-        if !run::<D>(rt, sweep, found, is_log, calls) {
+        let fault = FileFault {
+            failure,
+            is_log,
+            calls,
+        };
+        if !run(rt, sweep, found, fault) {
             assert!(rt; calls > 0 && sweep.kept.is_empty());
             return;
         }
@@ -102,37 +99,48 @@ fn fail_each_call<D: FailingFile + Drop>(
     rt: &impl Abort,
     alloc: Global,
     course: Course,
-    found: &Files<Refusing<Memory>>,
+    found: &Files<D>,
+    failure: Failure,
     is_log: bool,
 ) {
     let mut sweep = Sweep::new(alloc, options(), course);
-    run_until_done::<D>(rt, &mut sweep, found, is_log);
+    run_until_done(rt, &mut sweep, found, failure, is_log);
+}
+
+/// The files of a desk that stopped after all requests, with the last of them in the log.
+fn stopped_files<D: FailingFile + Drop>(rt: &impl Abort, alloc: Global) -> Files<D> {
+    let last = REQUEST_COUNT.saturating_sub(1)..REQUEST_COUNT;
+    let before = files_after::<D>(rt, alloc, options(), last.start);
+    let desk = open_copy(rt, alloc, &before, FileFault::NEVER, options());
+    let mut desk = desk.expect(rt, "a desk");
+    assert_answered(rt, alloc, &mut desk, &last);
+    stop(desk)
 }
 
 /// The file fails at each of its calls while a desk of all requests is opened and closed.
-fn fail_opening<D: FailingFile + Drop>(rt: &impl Abort, alloc: Global, is_log: bool) {
-    let found = stop(desk_after(rt, alloc, options(), REQUEST_COUNT));
-    fail_each_call::<D>(rt, alloc, Course::Lines, &found, is_log);
+fn fail_opening(rt: &impl Abort, alloc: Global, failure: Failure, is_log: bool) {
+    let found = stopped_files::<Failing<Memory>>(rt, alloc);
+    fail_each_call(rt, alloc, Course::Lines, &found, failure, is_log);
 }
 
 #[test]
 fn stop_of_the_log_while_opened_and_closed(rt: HostRuntime) {
-    fail_opening::<Fuse<Memory>>(&rt, rt.alloc(), true);
+    fail_opening(&rt, rt.alloc(), Failure::Stop, true);
 }
 
 #[test]
 fn stop_of_the_database_while_opened_and_closed(rt: HostRuntime) {
-    fail_opening::<Fuse<Memory>>(&rt, rt.alloc(), false);
+    fail_opening(&rt, rt.alloc(), Failure::Stop, false);
 }
 
 #[test]
 fn refused_call_of_the_log_while_opened_and_closed(rt: HostRuntime) {
-    fail_opening::<Refusing<Memory>>(&rt, rt.alloc(), true);
+    fail_opening(&rt, rt.alloc(), Failure::Refusal, true);
 }
 
 #[test]
 fn refused_call_of_the_database_while_opened_and_closed(rt: HostRuntime) {
-    fail_opening::<Refusing<Memory>>(&rt, rt.alloc(), false);
+    fail_opening(&rt, rt.alloc(), Failure::Refusal, false);
 }
 
 /// Makes a desk one of schema 1. None of these authorizations has more than one entry.
@@ -146,6 +154,11 @@ UPDATE meta SET value = 1;
 CREATE INDEX holding_of ON holding (holder);
 ";
 
+/// Makes the desk of this connection one of schema 1.
+fn make_old<S: Alter>(rt: &impl Abort, conn: &mut Connection<S>) {
+    conn.execute_batch(OLD).expect(rt, "an old schema");
+}
+
 /// The files of this connection, closed.
 fn closed<D: Disk + Drop>(conn: Connection<FileStore<D>>) -> Files<D> {
     match conn.close_files() {
@@ -157,59 +170,59 @@ fn closed<D: Disk + Drop>(conn: Connection<FileStore<D>>) -> Files<D> {
 /// The files of a desk of schema 1 that has all requests, closed.
 fn old_files<D: FailingFile + Drop>(rt: &impl Abort, alloc: Global) -> Files<D> {
     let mut conn = desk_after::<D>(rt, alloc, options(), REQUEST_COUNT).close();
-    conn.execute_batch(OLD).expect(rt, "an old schema");
+    make_old(rt, &mut conn);
     closed(conn)
 }
 
 /// The file fails at each of its calls while a desk of schema 1 is opened, which moves it, and
 /// closed.
-fn fail_move<D: FailingFile + Drop>(rt: &impl Abort, alloc: Global, is_log: bool) {
-    let found = old_files::<Refusing<Memory>>(rt, alloc);
-    fail_each_call::<D>(rt, alloc, Course::Lines, &found, is_log);
+fn fail_move(rt: &impl Abort, alloc: Global, failure: Failure, is_log: bool) {
+    let found = old_files::<Failing<Memory>>(rt, alloc);
+    fail_each_call(rt, alloc, Course::Lines, &found, failure, is_log);
 }
 
 #[test]
 fn stop_of_the_log_while_moved(rt: HostRuntime) {
-    fail_move::<Fuse<Memory>>(&rt, rt.alloc(), true);
+    fail_move(&rt, rt.alloc(), Failure::Stop, true);
 }
 
 #[test]
 fn stop_of_the_database_while_moved(rt: HostRuntime) {
-    fail_move::<Fuse<Memory>>(&rt, rt.alloc(), false);
+    fail_move(&rt, rt.alloc(), Failure::Stop, false);
 }
 
 #[test]
 fn refused_call_of_the_log_while_moved(rt: HostRuntime) {
-    fail_move::<Refusing<Memory>>(&rt, rt.alloc(), true);
+    fail_move(&rt, rt.alloc(), Failure::Refusal, true);
 }
 
 #[test]
 fn refused_call_of_the_database_while_moved(rt: HostRuntime) {
-    fail_move::<Refusing<Memory>>(&rt, rt.alloc(), false);
+    fail_move(&rt, rt.alloc(), Failure::Refusal, false);
 }
 
 /// The file fails at each of its calls while a desk is made.
-fn fail_making<D: FailingFile + Drop>(rt: &impl Abort, alloc: Global, is_log: bool) {
-    let found = failing_files(empty_files(alloc), true, u64::MAX);
-    fail_each_call::<D>(rt, alloc, Course::Making, &found, is_log);
+fn fail_making(rt: &impl Abort, alloc: Global, failure: Failure, is_log: bool) {
+    let found = failing_files::<Failing<Memory>>(empty_files(alloc), FileFault::NEVER);
+    fail_each_call(rt, alloc, Course::Making, &found, failure, is_log);
 }
 
 #[test]
 fn stop_of_the_log_while_made(rt: HostRuntime) {
-    fail_making::<Fuse<Memory>>(&rt, rt.alloc(), true);
+    fail_making(&rt, rt.alloc(), Failure::Stop, true);
 }
 
 #[test]
 fn stop_of_the_database_while_made(rt: HostRuntime) {
-    fail_making::<Fuse<Memory>>(&rt, rt.alloc(), false);
+    fail_making(&rt, rt.alloc(), Failure::Stop, false);
 }
 
 #[test]
 fn refused_call_of_the_log_while_made(rt: HostRuntime) {
-    fail_making::<Refusing<Memory>>(&rt, rt.alloc(), true);
+    fail_making(&rt, rt.alloc(), Failure::Refusal, true);
 }
 
 #[test]
 fn refused_call_of_the_database_while_made(rt: HostRuntime) {
-    fail_making::<Refusing<Memory>>(&rt, rt.alloc(), false);
+    fail_making(&rt, rt.alloc(), Failure::Refusal, false);
 }

@@ -1,6 +1,6 @@
 //! Desks over files that refuse one call of the disk.
 use crate::example_requests::REQUEST_COUNT;
-use crate::refusing::Refusing;
+use crate::failing::{Failing, Failure};
 use crate::sweep::{Course, Sweep, small_options};
 use sqlite_disk::Memory;
 use std::alloc::Global;
@@ -11,15 +11,20 @@ use std::process::Abort;
 /// another the desk was unavailable from there on.
 fn refuse_calls_of(rt: &impl Abort, alloc: Global, requests: Range<usize>) {
     let mut sweep = Sweep::new(alloc, small_options(), Course::Lines);
-    sweep.fail_at::<Refusing<Memory>>(rt, &requests);
+    sweep.fail_at::<Failing<Memory>>(rt, Failure::Refusal, &requests);
     for request in requests {
         assert!(rt; sweep.delayed.contains(&request), "{request} delayed");
     }
 }
 
 #[test]
-fn refused_call_of_the_first_four_while_the_log_grows(rt: HostRuntime) {
-    refuse_calls_of(&rt, rt.alloc(), 0..4);
+fn refused_call_of_the_first_while_the_log_grows(rt: HostRuntime) {
+    refuse_calls_of(&rt, rt.alloc(), 0..1);
+}
+
+#[test]
+fn refused_call_of_the_next_three_while_the_log_grows(rt: HostRuntime) {
+    refuse_calls_of(&rt, rt.alloc(), 1..4);
 }
 
 #[test]

@@ -1,16 +1,16 @@
 //! Runs of desks over files of which one fails, and what is found when the files are opened again.
 //! A sweep goes over the calls of some requests, and several tests together go over all calls.
 use crate::example_requests::{
-    Answers, COUNT_WITH_CREATE, REQUEST_COUNT, ask_first, assert_answered, count_found,
+    Answers, COUNT_WITH_CREATE, REQUEST_COUNT, ask_each, assert_answered, count_found,
     example_charter,
 };
+use crate::failing::{Failing, Failure};
 use crate::http_creates::ask_until_create;
-use crate::refusing::Refusing;
 use desk::Desk;
-use desk_files::{MakeFault, make_desk, open_files, stop};
+use desk_files::{MakeFault, close_desk, make_desk, open_files, stop};
 use policy::Charter;
 use sqlite::{Alter, Connection, FileStore};
-use sqlite_disk::{Crash, Disk, Files, Fuse, Memory};
+use sqlite_disk::{Crash, Disk, Files, Memory};
 use sqlite_pager::Options;
 use std::alloc::Global;
 use std::hash::{DefaultHasher, Hasher};
@@ -34,65 +34,67 @@ pub(crate) fn copying_options() -> Options {
     options
 }
 
-/// A file in memory that fails.
+/// A file in memory that fails. What owns a desk over such files is generic over their type, since
+/// it is then proved several times as fast.
 pub(crate) trait FailingFile: Crash {
     /// The file passes so many calls on before it fails.
-    fn failing(file: Memory, calls: u64) -> Self;
+    fn failing(file: Memory, failure: Failure, calls: u64) -> Self;
 
     fn bytes(&self) -> &[u8];
 
-    /// Whether it failed, or fails at the next call.
-    fn has_failed(&mut self) -> bool;
+    /// How many calls come before the next one that fails; none if no further call does.
+    fn calls_left(&self) -> Option<u64>;
+
+    /// Whether it has refused a call, or stops at the next one.
+    fn has_failed(&self) -> bool;
 }
 
-/// It stops.
-impl FailingFile for Fuse<Memory> {
-    fn failing(file: Memory, calls: u64) -> Fuse<Memory> {
-        Fuse::new(file, calls)
+impl FailingFile for Failing<Memory> {
+    fn failing(file: Memory, failure: Failure, calls: u64) -> Failing<Memory> {
+        Failing::new(file, failure, calls)
     }
 
     fn bytes(&self) -> &[u8] {
         self.inner().bytes()
     }
 
-    fn has_failed(&mut self) -> bool {
-        if !self.may_be_used() {
-            return true;
-        }
-        self.len().is_err()
+    fn calls_left(&self) -> Option<u64> {
+        self.calls_left()
+    }
+
+    fn has_failed(&self) -> bool {
+        self.has_failed()
     }
 }
 
-/// It refuses one call.
-impl FailingFile for Refusing<Memory> {
-    fn failing(file: Memory, calls: u64) -> Refusing<Memory> {
-        Refusing::new(file, calls)
-    }
-
-    fn bytes(&self) -> &[u8] {
-        self.inner().bytes()
-    }
-
-    fn has_failed(&mut self) -> bool {
-        self.calls_left().is_none()
-    }
+/// How the log or the database fails, and after how many of its calls.
+#[derive(Clone, Copy)]
+pub(crate) struct FileFault {
+    pub(crate) failure: Failure,
+    pub(crate) is_log: bool,
+    pub(crate) calls: u64,
 }
 
-/// These files, of which the log or the database fails after so many calls.
-pub(crate) fn failing_files<D: FailingFile>(
-    files: Files<Memory>,
-    is_log: bool,
-    calls: u64,
-) -> Files<D> {
+impl FileFault {
+    /// It does not come before the end of a test.
+    pub(crate) const NEVER: FileFault = FileFault {
+        failure: Failure::Stop,
+        is_log: true,
+        calls: u64::MAX,
+    };
+}
+
+/// These files, of which one fails.
+pub(crate) fn failing_files<D: FailingFile>(files: Files<Memory>, fault: FileFault) -> Files<D> {
     let never = u64::MAX;
-    let (log, db) = if is_log {
-        (calls, never)
+    let (log, db) = if fault.is_log {
+        (fault.calls, never)
     } else {
-        (never, calls)
+        (never, fault.calls)
     };
     Files {
-        log: D::failing(files.log, log),
-        db: D::failing(files.db, db),
+        log: D::failing(files.log, fault.failure, log),
+        db: D::failing(files.db, fault.failure, db),
     }
 }
 
@@ -160,17 +162,15 @@ fn begin_with<D: Disk + Drop>(
     Desk::create_on(alloc, conn, charter).ok()
 }
 
-/// A new desk over files of which one fails after so many calls; `None` if it failed before there
-/// was one.
+/// A new desk over files of which one fails; `None` if it failed before there was one.
 pub(crate) fn begin<D: FailingFile + Drop>(
     rt: &impl Abort,
     alloc: Global,
-    is_log: bool,
-    calls: u64,
+    fault: FileFault,
     options: Options,
 ) -> Option<Desk<FileStore<D>>> {
     let charter = example_charter(rt, alloc);
-    let files = failing_files(empty_files(alloc), is_log, calls);
+    let files = failing_files(empty_files(alloc), fault);
     begin_with(alloc, files, options, &charter)
 }
 
@@ -180,7 +180,7 @@ pub(crate) fn sound_desk<D: FailingFile + Drop>(
     alloc: Global,
     options: Options,
 ) -> Desk<FileStore<D>> {
-    begin(rt, alloc, true, u64::MAX, options).expect(rt, "a desk")
+    begin(rt, alloc, FileFault::NEVER, options).expect(rt, "a desk")
 }
 
 /// What making a desk leaves.
@@ -220,12 +220,12 @@ pub(crate) fn make_in<D: Disk + Drop>(
 }
 
 /// The desk of these files.
-fn open_again(
+fn open_again<D: Disk + Drop>(
     rt: &impl Abort,
     alloc: Global,
-    files: Files<Memory>,
+    files: Files<D>,
     options: Options,
-) -> Desk<FileStore<Memory>> {
+) -> Desk<FileStore<D>> {
     if !files.may_be_used() {
         rt.panic("files that are refused");
     }
@@ -236,7 +236,12 @@ fn open_again(
 }
 
 /// How many of the requests the desk of these files has.
-fn count_in(rt: &impl Abort, alloc: Global, files: Files<Memory>, options: Options) -> usize {
+fn count_in<D: Disk + Drop>(
+    rt: &impl Abort,
+    alloc: Global,
+    files: Files<D>,
+    options: Options,
+) -> usize {
     count_of(rt, alloc, open_again(rt, alloc, files, options))
 }
 
@@ -253,29 +258,52 @@ pub(crate) fn desk_after<D: FailingFile + Drop>(
     count: usize,
 ) -> Desk<FileStore<D>> {
     let mut desk = sound_desk(rt, alloc, options);
-    assert_answered(rt, alloc, &mut desk, count);
+    assert_answered(rt, alloc, &mut desk, &(0..count));
     desk
 }
 
-/// How many calls of a file come before the first one of this request; none before that of the
-/// first, which has the calls of making the desk.
-fn calls_before(
+/// What a close leaves.
+pub(crate) fn left_of_close<D: Disk + Drop>(desk: Desk<FileStore<D>>) -> Files<D> {
+    match close_desk(desk) {
+        Ok(files) => files,
+        Err(fault) => fault.store.close(),
+    }
+}
+
+/// The files of a desk that answered the first of the requests, so many, and was closed.
+pub(crate) fn files_after<D: FailingFile + Drop>(
     rt: &impl Abort,
     alloc: Global,
     options: Options,
-    is_log: bool,
-    request: usize,
-) -> u64 {
-    if request == 0 {
-        return 0;
+    count: usize,
+) -> Files<D> {
+    left_of_close(desk_after(rt, alloc, options, count))
+}
+
+/// A desk over a copy of these files, of which one fails; `None` if it failed before there was one.
+pub(crate) fn open_copy<D: FailingFile + Drop>(
+    rt: &impl Abort,
+    alloc: Global,
+    files: &Files<D>,
+    fault: FileFault,
+    options: Options,
+) -> Option<Desk<FileStore<D>>> {
+    let copy = files_of(rt, alloc, files.log.bytes(), files.db.bytes());
+    let copy = failing_files(copy, fault);
+    if !copy.may_be_used() {
+        return None;
     }
-    let files = stop(desk_after::<Refusing<Memory>>(rt, alloc, options, request));
+    open_files(alloc, copy, options).ok()
+}
+
+/// How many calls of a file passed in a run whose fault never came.
+fn calls_of<D: FailingFile>(rt: &impl Abort, files: &Files<D>, is_log: bool) -> u64 {
     let left = if is_log {
         files.log.calls_left()
     } else {
         files.db.calls_left()
     };
-    u64::MAX.saturating_sub(left.expect(rt, "a refused call"))
+    u64::MAX.saturating_sub(left.expect(rt, "calls that are left"))
 }
 
 fn copy_of(rt: &impl Abort, alloc: Global, bytes: &[u8]) -> Vec<u8> {
@@ -285,30 +313,13 @@ fn copy_of(rt: &impl Abort, alloc: Global, bytes: &[u8]) -> Vec<u8> {
 }
 
 /// Files that were opened, and how many of the requests their desk had.
-#[derive(Drop)]
+#[derive(Clone, Copy)]
 struct Opened {
-    /// Most files that differ differ here, so few are compared byte by byte.
     digest: u64,
-    log: Vec<u8>,
-    db: Vec<u8>,
     found: usize,
 }
 
-impl Opened {
-    fn new(rt: &impl Abort, alloc: Global, log: &[u8], db: &[u8], found: usize) -> Opened {
-        Opened {
-            digest: digest_of(log, db),
-            log: copy_of(rt, alloc, log),
-            db: copy_of(rt, alloc, db),
-            found,
-        }
-    }
-
-    fn has(&self, digest: u64, log: &[u8], db: &[u8]) -> bool {
-        self.digest == digest && self.log.as_slice() == log && self.db.as_slice() == db
-    }
-}
-
+/// What files are told apart by.
 fn digest_of(log: &[u8], db: &[u8]) -> u64 {
     let mut hasher = DefaultHasher::new();
     hasher.write(log);
@@ -337,11 +348,18 @@ impl Course {
         }
     }
 
-    fn ask<S: Alter>(self, rt: &impl Abort, alloc: Global, desk: &mut Desk<S>) -> Answers {
+    /// Sends the requests from this one on.
+    fn ask<S: Alter>(
+        self,
+        rt: &impl Abort,
+        alloc: Global,
+        desk: &mut Desk<S>,
+        first: usize,
+    ) -> Answers {
         match self {
-            Course::Lines => ask_first(rt, alloc, desk, REQUEST_COUNT),
-            Course::HttpCreate => ask_until_create(rt, alloc, desk),
-            Course::Making => ask_first(rt, alloc, desk, 0),
+            Course::Lines => ask_each(rt, alloc, desk, &(first..REQUEST_COUNT)),
+            Course::HttpCreate => ask_until_create(rt, alloc, desk, first),
+            Course::Making => ask_each(rt, alloc, desk, &(0..0)),
         }
     }
 }
@@ -360,7 +378,7 @@ pub(crate) struct Sweep {
     pub(crate) kept: Vec<usize>,
     /// The requests that were in progress at a stop, and were not found.
     pub(crate) lost: Vec<usize>,
-    /// What is found depends on the bytes of the files alone, so the same ones are opened once.
+    /// What is found depends on the bytes of the files alone, so those of one digest are opened once.
     opened: Vec<Opened>,
 }
 
@@ -378,33 +396,65 @@ impl Sweep {
         }
     }
 
-    /// Files of these bytes. Those that making a desk left have one afterwards.
-    fn files_to_open(&self, rt: &impl Abort, log: &[u8], db: &[u8]) -> Files<Memory> {
-        let files = files_of(rt, self.alloc, log, db);
-        match self.course {
-            Course::Making => make_in(rt, self.alloc, files, self.options),
-            Course::Lines | Course::HttpCreate => files,
-        }
-    }
-
-    /// How many of the requests the desk of these files has.
-    fn found_in(&mut self, rt: &impl Abort, log: &[u8], db: &[u8]) -> usize {
-        let digest = digest_of(log, db);
+    /// How many of the requests the desk of these files had, if files of this digest were opened.
+    fn found_before(&self, digest: u64) -> Option<usize> {
         for opened in &self.opened {
-            if opened.has(digest, log, db) {
-                return opened.found;
+            if opened.digest == digest {
+                return Some(opened.found);
             }
         }
-        let files = self.files_to_open(rt, log, db);
-        let found = count_in(rt, self.alloc, files, self.options);
-        let opened = Opened::new(rt, self.alloc, log, db, found);
+        None
+    }
+
+    /// Notes how many of the requests the desk of files of this digest had.
+    fn note(&mut self, rt: &impl Abort, digest: u64, found: usize) {
+        let opened = Opened { digest, found };
         self.opened.push(opened).expect(rt, "memory");
+    }
+
+    /// How many of the requests the desk of these files has, once it is made again in what making it
+    /// left, and closed. Most of the files are the same then.
+    fn found_once_made<D: FailingFile + Drop>(
+        &mut self,
+        rt: &impl Abort,
+        files: Files<D>,
+    ) -> usize {
+        let made = make_in(rt, self.alloc, files, self.options);
+        let files = left_of_close(open_again(rt, self.alloc, made, self.options));
+        let digest = digest_of(files.log.bytes(), files.db.bytes());
+        if let Some(found) = self.found_before(digest) {
+            return found;
+        }
+        let found = count_in(rt, self.alloc, files, self.options);
+        self.note(rt, digest, found);
+        found
+    }
+
+    /// How many of the requests the desk of files of these bytes has.
+    fn found_in<D: FailingFile + Drop>(&mut self, rt: &impl Abort, log: &[u8], db: &[u8]) -> usize {
+        let digest = digest_of(log, db);
+        if let Some(found) = self.found_before(digest) {
+            return found;
+        }
+        let files = files_of(rt, self.alloc, log, db);
+        let files = failing_files::<D>(files, FileFault::NEVER);
+        let found = match self.course {
+            Course::Making => self.found_once_made(rt, files),
+            Course::Lines | Course::HttpCreate => count_in(rt, self.alloc, files, self.options),
+        };
+        self.note(rt, digest, found);
         found
     }
 
     /// The files have the requests that were answered, and perhaps the one that was in progress.
-    fn assert_found(&mut self, rt: &impl Abort, log: &[u8], db: &[u8], answered: usize) {
-        let found = self.found_in(rt, log, db);
+    fn assert_found<D: FailingFile + Drop>(
+        &mut self,
+        rt: &impl Abort,
+        log: &[u8],
+        db: &[u8],
+        answered: usize,
+    ) {
+        let found = self.found_in::<D>(rt, log, db);
         if found == answered {
             self.lost.push(answered).expect(rt, "memory");
         } else {
@@ -420,10 +470,10 @@ impl Sweep {
         files: &mut Files<D>,
         answered: usize,
     ) {
-        self.assert_found(rt, files.log.bytes(), files.db.bytes(), answered);
+        self.assert_found::<D>(rt, files.log.bytes(), files.db.bytes(), answered);
         files.log.crash();
         files.db.crash();
-        self.assert_found(rt, files.log.bytes(), files.db.bytes(), answered);
+        self.assert_found::<D>(rt, files.log.bytes(), files.db.bytes(), answered);
     }
 
     /// Opens the files as a killed process leaves them, as a power cut does, and as one does that
@@ -439,12 +489,12 @@ impl Sweep {
         self.open_both(rt, files, answered);
         let log = every_other_sector(rt, self.alloc, &log, files.log.bytes());
         let db = every_other_sector(rt, self.alloc, &db, files.db.bytes());
-        self.assert_found(rt, &log, &db, answered);
+        self.assert_found::<D>(rt, &log, &db, answered);
     }
 
-    /// Sends requests to a desk until it is unavailable; returns how many were answered.
-    fn ask<S: Alter>(&mut self, rt: &impl Abort, desk: &mut Desk<S>) -> usize {
-        let answers = self.course.ask(rt, self.alloc, desk);
+    /// Sends the requests from this one on to a desk until it is unavailable; returns how many it has.
+    fn ask<S: Alter>(&mut self, rt: &impl Abort, desk: &mut Desk<S>, first: usize) -> usize {
+        let answers = self.course.ask(rt, self.alloc, desk, first);
         if let Some(request) = answers.delayed {
             self.delayed.push(request).expect(rt, "memory");
         }
@@ -464,34 +514,79 @@ impl Sweep {
         has_failed
     }
 
-    /// Sends requests to a new desk until it is unavailable, and stops it; returns whether a file
-    /// failed.
-    fn run<D: FailingFile + Drop>(&mut self, rt: &impl Abort, is_log: bool, calls: u64) -> bool {
-        let Some(mut desk) = begin::<D>(rt, self.alloc, is_log, calls, self.options) else {
+    /// A desk over a copy of these files, or a new one, of which one file fails; `None` if it failed
+    /// before there was a desk.
+    fn begin<D: FailingFile + Drop>(
+        &self,
+        rt: &impl Abort,
+        before: &Option<Files<D>>,
+        fault: FileFault,
+    ) -> Option<Desk<FileStore<D>>> {
+        match before {
+            Some(files) => open_copy(rt, self.alloc, files, fault, self.options),
+            None => begin(rt, self.alloc, fault, self.options),
+        }
+    }
+
+    /// Sends the requests from this one on to a desk until it is unavailable, and stops it; returns
+    /// whether a file failed.
+    fn run<D: FailingFile + Drop>(
+        &mut self,
+        rt: &impl Abort,
+        before: &Option<Files<D>>,
+        first: usize,
+        fault: FileFault,
+    ) -> bool {
+        let Some(mut desk) = self.begin(rt, before, fault) else {
             self.without_desk = self.without_desk.saturating_add(1);
             return true;
         };
-        let answered = self.ask(rt, &mut desk);
+        let answered = self.ask(rt, &mut desk, first);
         self.open_after_run(rt, &mut stop(desk), answered)
     }
 
-    /// The file fails at each of its calls of these requests; where the last one is among them,
-    /// until a run has none that fails.
+    /// How many calls of a file come in a run up to the end of these requests, its first ones.
+    fn calls_until<D: FailingFile + Drop>(
+        &self,
+        rt: &impl Abort,
+        before: &Option<Files<D>>,
+        is_log: bool,
+        requests: &Range<usize>,
+    ) -> u64 {
+        let desk = self.begin(rt, before, FileFault::NEVER);
+        let mut desk = desk.expect(rt, "a desk");
+        assert_answered(rt, self.alloc, &mut desk, requests);
+        calls_of(rt, &stop(desk), is_log)
+    }
+
+    /// The file fails at each of its calls of these requests, and of making the desk before the first
+    /// of all; where the last request is among them, until a run has none that fails.
     fn fail_each_call<D: FailingFile + Drop>(
         &mut self,
         rt: &impl Abort,
+        before: &Option<Files<D>>,
+        failure: Failure,
         is_log: bool,
         requests: &Range<usize>,
     ) {
+        let first = requests.start;
         let is_last = requests.end == self.course.count();
-        let start = calls_before(rt, self.alloc, self.options, is_log, requests.start);
+        let start = match before {
+            Some(_) => self.calls_until(rt, before, is_log, &(first..first)),
+            None => 0,
+        };
         let end = if is_last {
             MANY
         } else {
-            calls_before(rt, self.alloc, self.options, is_log, requests.end)
+            self.calls_until(rt, before, is_log, requests)
         };
         for calls in start..end {
-            if !self.run::<D>(rt, is_log, calls) {
+            let fault = FileFault {
+                failure,
+                is_log,
+                calls,
+            };
+            if !self.run(rt, before, first, fault) {
                 assert!(rt; is_last, "no call {calls}");
                 return;
             }
@@ -499,15 +594,22 @@ impl Sweep {
         assert!(rt; !is_last, "a run that does not end");
     }
 
-    /// Either file fails at each of its calls of these requests. Each of them was in progress at a
-    /// stop and found in some run, and not in another.
+    /// Either file fails at each of its calls of these requests, on a desk that is opened with those
+    /// before them, or made. Each of them was in progress at a stop and found in some run, and not in
+    /// another.
     pub(crate) fn fail_at<D: FailingFile + Drop>(
         &mut self,
         rt: &impl Abort,
+        failure: Failure,
         requests: &Range<usize>,
     ) {
-        self.fail_each_call::<D>(rt, true, requests);
-        self.fail_each_call::<D>(rt, false, requests);
+        let before = if requests.start > 0 {
+            Some(files_after::<D>(rt, self.alloc, self.options, requests.start))
+        } else {
+            None
+        };
+        self.fail_each_call(rt, &before, failure, true, requests);
+        self.fail_each_call(rt, &before, failure, false, requests);
         assert!(rt; requests.start > 0 || self.without_desk > 0);
         for request in requests.start..requests.end {
             assert!(rt; self.kept.contains(&request), "{request} kept");

@@ -1,4 +1,4 @@
-//! A disk that refuses one of its calls, and serves the others.
+//! A disk that fails: it serves so many calls, and then stops, or refuses one call.
 ghost use Rattle.std.specs.Prelude.{◌≡◌, ◌+◌, ◌&&◌, not, false};
 ghost use Rattle.sqlite_disk.specs.Disk.{CountsFault};
 ghost use Rattle.sqlite_disk.specs.Refusal.{finds_no_room};
@@ -6,20 +6,31 @@ ghost use Rattle.sqlite_disk.specs.Refusal.{finds_no_room};
 use sqlite_disk::{Crash, Disk, Tally};
 use std::io;
 
-/// Passes so many calls on, refuses the next one, and passes on those after it.
+/// How a disk fails.
+#[derive(Clone, Copy, PartialEq, Eq)]
+pub(crate) enum Failure {
+    /// It fails at each call from one on, until the machine comes back.
+    Stop,
+    /// It fails at one call, and serves those after it.
+    Refusal,
+}
+
+/// Passes so many calls on before it fails.
 #[derive(Drop)]
-pub(crate) struct Refusing<D: Disk> {
+pub(crate) struct Failing<D: Disk> {
     inner: D,
-    /// How many calls come before the one that is refused; none once it was.
+    failure: Failure,
+    /// How many calls come before the next one that fails; none if no further call does.
     calls_before: Option<u64>,
     refused: u64,
     sync_refused: bool,
 }
 
-impl<D: Disk> Refusing<D> {
-    pub(crate) fn new(inner: D, calls_before: u64) -> Refusing<D> {
-        Refusing {
+impl<D: Disk> Failing<D> {
+    pub(crate) fn new(inner: D, failure: Failure, calls_before: u64) -> Failing<D> {
+        Failing {
             inner,
+            failure,
             calls_before: Some(calls_before),
             refused: 0,
             sync_refused: false,
@@ -30,23 +41,33 @@ impl<D: Disk> Refusing<D> {
         &self.inner
     }
 
-    /// How many calls come before the one that is refused; none once it was.
+    /// How many calls come before the next one that fails; none if no further call does.
     pub(crate) fn calls_left(&self) -> Option<u64> {
         self.calls_before
     }
+
+    /// Whether it has refused a call, or stops at the next one.
+    pub(crate) fn has_failed(&self) -> bool {
+        match self.failure {
+            Failure::Stop => self.calls_before == Some(0),
+            Failure::Refusal => self.calls_before.is_none(),
+        }
+    }
 }
 
-/// Counts a call, and refuses it where it is the one.
-fn admit(calls_before: &mut Option<u64>, refused: &mut u64) -> io::Result<()>
+/// Counts a call, and refuses it if it fails.
+fn admit(failure: Failure, calls_before: &mut Option<u64>, refused: &mut u64) -> io::Result<()>
     ensures faults { CountsFault result refused.old refused.new }
     ensures kind { finds_no_room result ≡ false }
 {
     match *calls_before {
         None => Ok(()),
         Some(0) => {
-            *calls_before = None;
+            if failure == Failure::Refusal {
+                *calls_before = None;
+            }
             *refused = refused.saturating_add(1);
-            Err(io::Error::other("the call is refused"))
+            Err(io::Error::other("the call fails"))
         }
         Some(calls) => {
             *calls_before = Some(calls - 1);
@@ -55,7 +76,7 @@ fn admit(calls_before: &mut Option<u64>, refused: &mut u64) -> io::Result<()>
     }
 }
 
-impl<D: Disk> Disk for Refusing<D> {
+impl<D: Disk> Disk for Failing<D> {
     ghost seen = { λ r. D.Disk.seen r.inner };
 
     ghost may_leave = { λ r. D.Disk.may_leave r.inner };
@@ -97,32 +118,32 @@ impl<D: Disk> Disk for Refusing<D> {
     }
 
     fn len(&mut self) -> io::Result<usize> {
-        admit(&mut self.calls_before, &mut self.refused)?;
+        admit(self.failure, &mut self.calls_before, &mut self.refused)?;
         self.inner.len()
     }
 
     fn read_at(&mut self, at: usize, buf: &mut [u8]) -> io::Result<()> {
-        admit(&mut self.calls_before, &mut self.refused)?;
+        admit(self.failure, &mut self.calls_before, &mut self.refused)?;
         self.inner.read_at(at, buf)
     }
 
     fn read_checked(&mut self, key: u64, want: u64, at: usize, buf: &mut [u8]) -> io::Result<()> {
-        admit(&mut self.calls_before, &mut self.refused)?;
+        admit(self.failure, &mut self.calls_before, &mut self.refused)?;
         self.inner.read_checked(key, want, at, buf)
     }
 
     fn write_at(&mut self, at: usize, bytes: &[u8]) -> io::Result<()> {
-        admit(&mut self.calls_before, &mut self.refused)?;
+        admit(self.failure, &mut self.calls_before, &mut self.refused)?;
         self.inner.write_at(at, bytes)
     }
 
     fn set_len(&mut self, len: usize) -> io::Result<()> {
-        admit(&mut self.calls_before, &mut self.refused)?;
+        admit(self.failure, &mut self.calls_before, &mut self.refused)?;
         self.inner.set_len(len)
     }
 
     fn sync(&mut self) -> io::Result<()> {
-        if let Err(error) = admit(&mut self.calls_before, &mut self.refused) {
+        if let Err(error) = admit(self.failure, &mut self.calls_before, &mut self.refused) {
             self.sync_refused = true;
             return Err(error);
         }
@@ -130,8 +151,8 @@ impl<D: Disk> Disk for Refusing<D> {
     }
 }
 
-/// The machine comes back with a disk that refuses nothing.
-impl<D: Crash> Crash for Refusing<D> {
+/// The machine comes back with a disk that does not fail.
+impl<D: Crash> Crash for Failing<D> {
     fn crash(&mut self) {
         self.inner.crash();
         self.calls_before = None;
