@@ -3,7 +3,7 @@ ghost use Rattle.std.specs.Prelude.{◌≡◌, ◌+◌, ◌&&◌, not, false};
 ghost use Rattle.sqlite_disk.specs.Disk.{CountsFault};
 ghost use Rattle.sqlite_disk.specs.Refusal.{finds_no_room};
 
-use sqlite_disk::{Crash, Disk, Tally};
+use sqlite_disk::{Crash, Disk, Memory, Tally};
 use std::io;
 
 /// How a disk fails.
@@ -26,28 +26,41 @@ pub(crate) struct Failing<D: Disk> {
     sync_refused: bool,
 }
 
-impl<D: Disk> Failing<D> {
-    pub(crate) fn new(inner: D, failure: Failure, calls_before: u64) -> Failing<D> {
+/// A file in memory that fails. What owns a desk over such files is generic over their type, since
+/// it is then proved several times as fast.
+pub(crate) trait FailingFile: Crash {
+    /// The file passes so many calls on before it fails.
+    fn failing(file: Memory, failure: Failure, calls: u64) -> Self;
+
+    fn bytes(&self) -> &[u8];
+
+    /// How many calls come before the next one that fails; none if no further call does.
+    fn calls_left(&self) -> Option<u64>;
+
+    /// Whether it has refused a call, or stops at the next one.
+    fn has_failed(&self) -> bool;
+}
+
+impl FailingFile for Failing<Memory> {
+    fn failing(file: Memory, failure: Failure, calls: u64) -> Failing<Memory> {
         Failing {
-            inner,
+            inner: file,
             failure,
-            calls_before: Some(calls_before),
+            calls_before: Some(calls),
             refused: 0,
             sync_refused: false,
         }
     }
 
-    pub(crate) fn inner(&self) -> &D {
-        &self.inner
+    fn bytes(&self) -> &[u8] {
+        self.inner.bytes()
     }
 
-    /// How many calls come before the next one that fails; none if no further call does.
-    pub(crate) fn calls_left(&self) -> Option<u64> {
+    fn calls_left(&self) -> Option<u64> {
         self.calls_before
     }
 
-    /// Whether it has refused a call, or stops at the next one.
-    pub(crate) fn has_failed(&self) -> bool {
+    fn has_failed(&self) -> bool {
         match self.failure {
             Failure::Stop => self.calls_before == Some(0),
             Failure::Refusal => self.calls_before.is_none(),

@@ -2,8 +2,8 @@
 use crate::example_requests::{
     Answers, COUNT_BEFORE_CREATE, COUNT_WITH_CREATE, ask_each, assert_answered, sheet_of,
 };
-use crate::failing::{Failing, Failure};
-use crate::sweep::{Course, FailingFile, Sweep, copying_options, small_options, sound_desk};
+use crate::failing::{Failing, FailingFile, Failure};
+use crate::sweep::{Course, Sweep, copying_options, small_options, sound_desk};
 use addr::Day;
 use desk::Desk;
 use desk_files::stop;

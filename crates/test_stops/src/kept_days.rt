@@ -1,7 +1,7 @@
 //! The VRPs of the day that a desk keeps, where the disk fails at a command.
 use crate::example_requests::{COUNT_WITH_CREATE, UNAVAILABLE, assert_reply, replies_with};
-use crate::failing::{Failing, Failure};
-use crate::sweep::{FailingFile, FileFault, MANY, files_after, open_copy, small_options};
+use crate::failing::{Failing, FailingFile, Failure};
+use crate::sweep::{FileFault, MANY, files_after, open_copy};
 use addr::Day;
 use desk::Desk;
 use desk_files::stop;
@@ -24,12 +24,10 @@ const BEFORE: &str = r#"{"payloads":[{"asn":64496,"prefix":"192.0.2.0/24","max":
 
 const AFTER: &str = r#"{"payloads":[{"asn":64496,"prefix":"192.0.2.0/24","max":25}]}"#;
 
-/// A cache that has room for all pages of the desk.
-fn wide_options() -> Options {
-    let mut options = Options::new(1);
-    options.cache_pages = 64;
-    options
-}
+/// How many pages a small cache has, and one that has room for all pages of the desk.
+const SMALL: usize = 16;
+
+const WIDE: usize = 64;
 
 /// How a run ended.
 #[derive(Clone, Copy, PartialEq, Eq)]
@@ -128,21 +126,19 @@ fn run<D: FailingFile + Drop>(
 }
 
 /// The log fails at each of its calls up to the end of the command, with this end in some run.
-fn assert_kept_day_is_answered(
+fn assert_answers_kept(
     rt: &impl Abort,
     alloc: Global,
-    options: Options,
+    cache_pages: usize,
     failure: Failure,
     expected: End,
 ) {
+    let mut options = Options::new(1);
+    options.cache_pages = cache_pages;
     let before = files_after::<Failing<Memory>>(rt, alloc, options, COUNT_WITH_CREATE);
     let mut is_met = false;
     for calls in 0..MANY {
-        let fault = FileFault {
-            failure,
-            is_log: true,
-            calls,
-        };
+        let fault = FileFault::new(failure, true, calls);
         let end = run(rt, alloc, &before, options, fault);
         if end == End::Done {
             assert!(rt; is_met);
@@ -155,27 +151,15 @@ fn assert_kept_day_is_answered(
 
 #[test]
 fn kept_day_is_answered_after_a_stop(rt: HostRuntime) {
-    assert_kept_day_is_answered(&rt, rt.alloc(), wide_options(), Failure::Stop, End::Cached);
+    assert_answers_kept(&rt, rt.alloc(), WIDE, Failure::Stop, End::Cached);
 }
 
 #[test]
 fn kept_day_is_answered_after_a_refused_call(rt: HostRuntime) {
-    assert_kept_day_is_answered(
-        &rt,
-        rt.alloc(),
-        small_options(),
-        Failure::Refusal,
-        End::Delayed,
-    );
+    assert_answers_kept(&rt, rt.alloc(), SMALL, Failure::Refusal, End::Delayed);
 }
 
 #[test]
 fn kept_day_is_answered_after_a_refused_sync(rt: HostRuntime) {
-    assert_kept_day_is_answered(
-        &rt,
-        rt.alloc(),
-        small_options(),
-        Failure::Refusal,
-        End::Shut,
-    );
+    assert_answers_kept(&rt, rt.alloc(), SMALL, Failure::Refusal, End::Shut);
 }

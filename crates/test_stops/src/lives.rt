@@ -2,8 +2,8 @@
 use crate::example_requests::{
     COUNT_BEFORE_CREATE, REQUEST_COUNT, asked_requests, count_found, first_replies, text_of,
 };
-use crate::failing::Failing;
-use crate::sweep::{FailingFile, small_options, sound_desk};
+use crate::failing::{Failing, FailingFile};
+use crate::sweep::{small_options, sound_desk};
 use desk::Asked;
 use desk_files::{Lived, live};
 use sqlite::{Alter, FileStore};

@@ -1,10 +1,10 @@
 //! Desks over files of which one fails while a desk is made in them, or its desk is opened and
 //! closed. Clauses say what is left then, but not that it opens again.
 use crate::example_requests::{REQUEST_COUNT, assert_answered};
-use crate::failing::{Failing, Failure};
+use crate::failing::{Failing, FailingFile, Failure};
 use crate::sweep::{
-    Course, FailingFile, FileFault, MANY, Sweep, desk_after, empty_files, failing_files,
-    files_after, files_of, left_of_close, make_in, open_copy,
+    Course, FileFault, MANY, Sweep, desk_after, empty_files, failing_files, files_after, files_of,
+    left_of_close, make_in, open_copy,
 };
 use desk_files::{OpenFault, open_files, stop};
 use sqlite::{Alter, Connection, FileStore};
@@ -81,11 +81,7 @@ fn run_until_done<D: FailingFile + Drop>(
     is_log: bool,
 ) {
     for calls in 0..MANY {
-        let fault = FileFault {
-            failure,
-            is_log,
-            calls,
-        };
+        let fault = FileFault::new(failure, is_log, calls);
         if !run(rt, sweep, found, fault) {
             assert!(rt; calls > 0 && sweep.kept.is_empty());
             return;

@@ -4,7 +4,7 @@ use crate::example_requests::{
     Answers, COUNT_WITH_CREATE, REQUEST_COUNT, ask_each, assert_answered, count_found,
     example_charter,
 };
-use crate::failing::{Failing, Failure};
+use crate::failing::{FailingFile, Failure};
 use crate::http_creates::ask_until_create;
 use desk::Desk;
 use desk_files::{MakeFault, close_desk, make_desk, open_files, stop};
@@ -34,45 +34,12 @@ pub(crate) fn copying_options() -> Options {
     options
 }
 
-/// A file in memory that fails. What owns a desk over such files is generic over their type, since
-/// it is then proved several times as fast.
-pub(crate) trait FailingFile: Crash {
-    /// The file passes so many calls on before it fails.
-    fn failing(file: Memory, failure: Failure, calls: u64) -> Self;
-
-    fn bytes(&self) -> &[u8];
-
-    /// How many calls come before the next one that fails; none if no further call does.
-    fn calls_left(&self) -> Option<u64>;
-
-    /// Whether it has refused a call, or stops at the next one.
-    fn has_failed(&self) -> bool;
-}
-
-impl FailingFile for Failing<Memory> {
-    fn failing(file: Memory, failure: Failure, calls: u64) -> Failing<Memory> {
-        Failing::new(file, failure, calls)
-    }
-
-    fn bytes(&self) -> &[u8] {
-        self.inner().bytes()
-    }
-
-    fn calls_left(&self) -> Option<u64> {
-        self.calls_left()
-    }
-
-    fn has_failed(&self) -> bool {
-        self.has_failed()
-    }
-}
-
 /// How the log or the database fails, and after how many of its calls.
 #[derive(Clone, Copy)]
 pub(crate) struct FileFault {
-    pub(crate) failure: Failure,
-    pub(crate) is_log: bool,
-    pub(crate) calls: u64,
+    failure: Failure,
+    is_log: bool,
+    calls: u64,
 }
 
 impl FileFault {
@@ -82,6 +49,14 @@ impl FileFault {
         is_log: true,
         calls: u64::MAX,
     };
+
+    pub(crate) fn new(failure: Failure, is_log: bool, calls: u64) -> FileFault {
+        FileFault {
+            failure,
+            is_log,
+            calls,
+        }
+    }
 }
 
 /// These files, of which one fails.
@@ -581,11 +556,7 @@ impl Sweep {
             self.calls_until(rt, before, is_log, requests)
         };
         for calls in start..end {
-            let fault = FileFault {
-                failure,
-                is_log,
-                calls,
-            };
+            let fault = FileFault::new(failure, is_log, calls);
             if !self.run(rt, before, first, fault) {
                 assert!(rt; is_last, "no call {calls}");
                 return;
