@@ -33,10 +33,12 @@ ALL_TESTS = "all_tests"
 
 # About how many seconds each test takes that has such a word in its name, the first of these, and each other test.
 SECONDS = {
-    "test_stops::stop_at": 110,
-    "test_stops::refused_call": 90,
-    "test_stops::stop_of": 90,
-    "test_stops::kept_day": 60,
+    "while_made": 110,
+    "while_the_log_is_copied": 90,
+    "while_moved": 80,
+    "while_opened_and_closed": 50,
+    "while_the_log_grows": 45,
+    "kept_day": 15,
 }
 OTHER_SECONDS = 3
 

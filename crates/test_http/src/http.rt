@@ -67,7 +67,7 @@ pub(crate) fn rows_of<'a>(rt: &impl Abort, alloc: Global, table: &'a str) -> Vec
 }
 
 /// A new desk.
-pub(crate) fn new_desk(rt: &impl Abort, alloc: Global) -> Desk<MemStore> {
+fn new_desk(rt: &impl Abort, alloc: Global) -> Desk<MemStore> {
     match example_desk(alloc) {
         Ok(desk) => desk,
         Err(_) => rt.panic("no desk"),
@@ -75,10 +75,26 @@ pub(crate) fn new_desk(rt: &impl Abort, alloc: Global) -> Desk<MemStore> {
 }
 
 /// A desk on which `alpha` has 192.0.2.0/24, and `ann` is its manager.
-pub(crate) fn holder_desk(rt: &impl Abort, alloc: Global) -> Desk<MemStore> {
+fn holder_desk(rt: &impl Abort, alloc: Global) -> Desk<MemStore> {
     let mut desk = new_desk(rt, alloc);
     assert_rows(rt, alloc, &mut desk, routes::REGISTERED_HOLDER);
     desk
+}
+
+/// Lends a new desk. What owns a desk is slow to prove, so the tests borrow one.
+pub(crate) fn on_new_desk<F: FnOnce(&mut Desk<MemStore>)>(rt: &impl Abort, alloc: Global, ask: F)
+    requires { F.IsAlwaysCallable ask }
+{
+    let mut desk = new_desk(rt, alloc);
+    ask(&mut desk);
+}
+
+/// Lends a desk of that holder.
+pub(crate) fn on_holder_desk<F: FnOnce(&mut Desk<MemStore>)>(rt: &impl Abort, alloc: Global, ask: F)
+    requires { F.IsAlwaysCallable ask }
+{
+    let mut desk = holder_desk(rt, alloc);
+    ask(&mut desk);
 }
 
 /// Serves a connection of this reader and this writer.

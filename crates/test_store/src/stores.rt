@@ -33,11 +33,14 @@ fn charter(rt: &impl Abort, alloc: Global) -> Charter {
     Charter::make(operators, pool).expect(rt, "a charter")
 }
 
-/// A store that has the holder `alpha`.
-fn registered_holder(rt: &impl Abort, alloc: Global) -> Store<MemStore> {
+/// Lends a store that has the holder `alpha`. What owns a store is slow to prove, so the tests borrow
+/// one.
+fn on_holder<T, F: FnOnce(&mut Store<MemStore>) -> T>(rt: &impl Abort, alloc: Global, ask: F) -> T
+    requires { F.IsAlwaysCallable ask }
+{
     let mut store = Store::open_memory(alloc, &charter(rt, alloc)).expect(rt, "a store");
     apply(rt, &mut store, Edit::Register);
-    store
+    ask(&mut store)
 }
 
 /// Changes the rows of `alpha`.
@@ -117,21 +120,21 @@ fn hold(rt: &impl Abort, alloc: Global, store: &mut Store<MemStore>) {
 
 #[test]
 fn each_edit_runs_in_memory(rt: HostRuntime) {
-    let mut store = holder_with_rows(&rt, rt.alloc());
-    let edit = Edit::Amend(authorization(&rt, rt.alloc(), 1, 24));
-    apply(&rt, &mut store, edit);
-    apply(&rt, &mut store, Edit::Withdraw(1));
-    apply(&rt, &mut store, Edit::Revoke(1));
+    on_holder(&rt, rt.alloc(), |store| {
+        add_rows(&rt, rt.alloc(), store);
+        let edit = Edit::Amend(authorization(&rt, rt.alloc(), 1, 24));
+        apply(&rt, store, edit);
+        apply(&rt, store, Edit::Withdraw(1));
+        apply(&rt, store, Edit::Revoke(1));
+    });
 }
 
 /// `alpha` holds its run and has its grant and its authorization.
-fn holder_with_rows(rt: &impl Abort, alloc: Global) -> Store<MemStore> {
-    let mut store = registered_holder(rt, alloc);
-    hold(rt, alloc, &mut store);
-    apply(rt, &mut store, Edit::Grant(grant(rt)));
+fn add_rows(rt: &impl Abort, alloc: Global, store: &mut Store<MemStore>) {
+    hold(rt, alloc, store);
+    apply(rt, store, Edit::Grant(grant(rt)));
     let edit = Edit::Create(authorization(rt, alloc, 1, 24));
-    apply(rt, &mut store, edit);
-    store
+    apply(rt, store, edit);
 }
 
 fn assert_rows(rt: &impl Abort, alloc: Global, rows: &HolderRows) {
@@ -146,20 +149,24 @@ fn assert_rows(rt: &impl Abort, alloc: Global, rows: &HolderRows) {
 
 #[test]
 fn what_was_applied_is_loaded(rt: HostRuntime) {
-    let mut store = holder_with_rows(&rt, rt.alloc());
-    assert_rows(&rt, rt.alloc(), &rows_of(&rt, rt.alloc(), &mut store));
+    on_holder(&rt, rt.alloc(), |store| {
+        add_rows(&rt, rt.alloc(), store);
+        assert_rows(&rt, rt.alloc(), &rows_of(&rt, rt.alloc(), store));
+    });
 }
 
 #[test]
 fn what_was_applied_is_in_force(rt: HostRuntime) {
-    let mut store = holder_with_rows(&rt, rt.alloc());
-    assert_same(&rt, store.charter().operators().len(), 1, "operators");
-    let both = store.load_two(rt.alloc(), &name(&rt, "alpha"), &name(&rt, "beta"));
-    assert!(rt; matches!(both, Ok((Some(_), None))));
-    let vrps = store
-        .all_auths_on(rt.alloc(), first_of_march(&rt))
-        .expect(&rt, "VRPs");
-    assert_same(&rt, vrps.len(), 1, "VRPs");
+    on_holder(&rt, rt.alloc(), |store| {
+        add_rows(&rt, rt.alloc(), store);
+        assert_same(&rt, store.charter().operators().len(), 1, "operators");
+        let both = store.load_two(rt.alloc(), &name(&rt, "alpha"), &name(&rt, "beta"));
+        assert!(rt; matches!(both, Ok((Some(_), None))));
+        let vrps = store
+            .all_auths_on(rt.alloc(), first_of_march(&rt))
+            .expect(&rt, "VRPs");
+        assert_same(&rt, vrps.len(), 1, "VRPs");
+    });
 }
 
 /// So many authorizations are imported where four were made before.
@@ -170,11 +177,12 @@ fn import(rt: &impl Abort, alloc: Global, store: &mut Store<MemStore>, count: u3
 }
 
 fn assert_imports(rt: &impl Abort, alloc: Global, count: u32) {
-    let mut store = registered_holder(rt, alloc);
-    import(rt, alloc, &mut store, count);
-    let rows = rows_of(rt, alloc, &mut store);
-    assert_same(rt, rows.created, count.saturating_add(4), count);
-    assert!(rt; are_same(&rows.auths, &next_authorizations(rt, alloc, count)));
+    on_holder(rt, alloc, |store| {
+        import(rt, alloc, store, count);
+        let rows = rows_of(rt, alloc, store);
+        assert_same(rt, rows.created, count.saturating_add(4), count);
+        assert!(rt; are_same(&rows.auths, &next_authorizations(rt, alloc, count)));
+    });
 }
 
 #[test]
@@ -235,12 +243,13 @@ fn assert_overlaps(
 
 #[test]
 fn overlapping_after_reclaim(rt: HostRuntime) {
-    let mut store = registered_holder(&rt, rt.alloc());
-    hold(&rt, rt.alloc(), &mut store);
-    reclaim(&rt, rt.alloc(), &mut store);
-    for (text, overlaps) in OVERLAPS {
-        assert_overlaps(&rt, rt.alloc(), &mut store, text, overlaps);
-    }
+    on_holder(&rt, rt.alloc(), |store| {
+        hold(&rt, rt.alloc(), store);
+        reclaim(&rt, rt.alloc(), store);
+        for (text, overlaps) in OVERLAPS {
+            assert_overlaps(&rt, rt.alloc(), store, text, overlaps);
+        }
+    });
 }
 
 /// The rows of `alpha`.
@@ -273,12 +282,13 @@ fn runs_moved(rt: &impl Abort, alloc: Global, view: &View, text: &str) -> (usize
 
 /// What is viewed of `alpha`, which holds its run, for a prefix that is not taken.
 fn view_of_holder(rt: &impl Abort, alloc: Global) -> View {
-    let mut store = registered_holder(rt, alloc);
-    hold(rt, alloc, &mut store);
-    View {
-        holder: Some(rows_of(rt, alloc, &mut store)),
-        taken: false,
-    }
+    on_holder(rt, alloc, |store| {
+        hold(rt, alloc, store);
+        View {
+            holder: Some(rows_of(rt, alloc, store)),
+            taken: false,
+        }
+    })
 }
 
 #[test]
@@ -296,13 +306,14 @@ fn assert_refused(rt: &impl Abort, store: &mut Store<MemStore>, edit: Edit) {
 
 #[test]
 fn what_breaks_a_key_is_refused(rt: HostRuntime) {
-    let mut store = registered_holder(&rt, rt.alloc());
-    assert_refused(&rt, &mut store, Edit::Register);
-    let created = Edit::Create(authorization(&rt, rt.alloc(), 1, 24));
-    apply(&rt, &mut store, created);
-    // The same AS, prefix and maxLength under another number.
-    let again = Edit::Create(authorization(&rt, rt.alloc(), 2, 24));
-    assert_refused(&rt, &mut store, again);
+    on_holder(&rt, rt.alloc(), |store| {
+        assert_refused(&rt, store, Edit::Register);
+        let created = Edit::Create(authorization(&rt, rt.alloc(), 1, 24));
+        apply(&rt, store, created);
+        // The same AS, prefix and maxLength under another number.
+        let again = Edit::Create(authorization(&rt, rt.alloc(), 2, 24));
+        assert_refused(&rt, store, again);
+    });
 }
 
 /// A database that has the tables of a desk.
@@ -323,11 +334,12 @@ fn database_that_has_tables_is_refused(rt: HostRuntime) {
 /// A maxLength below the length of its prefix: the columns hold it, and no VRP has it.
 #[test]
 fn authorization_that_gives_no_vrp_is_another_schema(rt: HostRuntime) {
-    let mut store = registered_holder(&rt, rt.alloc());
-    let edit = Edit::Create(authorization(&rt, rt.alloc(), 1, 23));
-    apply(&rt, &mut store, edit);
-    let vrps = store.all_auths_on(rt.alloc(), first_of_march(&rt));
-    assert!(rt; matches!(vrps, Err(StoreFault::Schema)));
+    on_holder(&rt, rt.alloc(), |store| {
+        let edit = Edit::Create(authorization(&rt, rt.alloc(), 1, 23));
+        apply(&rt, store, edit);
+        let vrps = store.all_auths_on(rt.alloc(), first_of_march(&rt));
+        assert!(rt; matches!(vrps, Err(StoreFault::Schema)));
+    });
 }
 
 fn apply_files(rt: &impl Abort, store: &mut Store<MemStore>, files: Vec<NamedSlurm>) {
@@ -370,12 +382,13 @@ fn sample(rt: &impl Abort, alloc: Global) -> Slurm {
 
 #[test]
 fn slurm_file_is_loaded_as_it_was_applied(rt: HostRuntime) {
-    let mut store = registered_holder(&rt, rt.alloc());
-    apply_file(&rt, rt.alloc(), &mut store, "main", sample(&rt, rt.alloc()));
-    let loaded = only_file(&rt, rt.alloc(), &mut store);
-    let file = sample(&rt, rt.alloc());
-    assert!(rt; loaded.filters() == file.filters());
-    assert!(rt; loaded.assertions() == file.assertions());
+    on_holder(&rt, rt.alloc(), |store| {
+        apply_file(&rt, rt.alloc(), store, "main", sample(&rt, rt.alloc()));
+        let loaded = only_file(&rt, rt.alloc(), store);
+        let file = sample(&rt, rt.alloc());
+        assert!(rt; loaded.filters() == file.filters());
+        assert!(rt; loaded.assertions() == file.assertions());
+    });
 }
 
 /// A file of these filters.
@@ -386,16 +399,11 @@ fn file_of(rt: &impl Abort, alloc: Global, filters: &[Filter]) -> Slurm {
 
 #[test]
 fn slurm_file_without_entries_is_not_loaded(rt: HostRuntime) {
-    let mut store = registered_holder(&rt, rt.alloc());
-    apply_file(&rt, rt.alloc(), &mut store, "main", sample(&rt, rt.alloc()));
-    apply_file(
-        &rt,
-        rt.alloc(),
-        &mut store,
-        "a",
-        file_of(&rt, rt.alloc(), &[]),
-    );
-    assert!(rt; files_of(&rt, rt.alloc(), &mut store).is_empty());
+    on_holder(&rt, rt.alloc(), |store| {
+        apply_file(&rt, rt.alloc(), store, "main", sample(&rt, rt.alloc()));
+        apply_file(&rt, rt.alloc(), store, "a", file_of(&rt, rt.alloc(), &[]));
+        assert!(rt; files_of(&rt, rt.alloc(), store).is_empty());
+    });
 }
 
 /// The filters of the files.
@@ -422,16 +430,17 @@ fn four_files(rt: &impl Abort, alloc: Global) -> Vec<NamedSlurm> {
 
 #[test]
 fn slurm_files_are_loaded_by_name(rt: HostRuntime) {
-    let mut store = registered_holder(&rt, rt.alloc());
-    apply_files(&rt, &mut store, four_files(&rt, rt.alloc()));
-    let files = files_of(&rt, rt.alloc(), &mut store);
-    assert_same(&rt, files.len(), 3, "files");
-    let expected = [
-        Filter::By(Asn(64_496)),
-        Filter::By(Asn(64_497)),
-        Filter::By(Asn(64_498)),
-    ];
-    assert!(rt; filters_of(&rt, rt.alloc(), &files).as_slice() == expected.as_slice());
+    on_holder(&rt, rt.alloc(), |store| {
+        apply_files(&rt, store, four_files(&rt, rt.alloc()));
+        let files = files_of(&rt, rt.alloc(), store);
+        assert_same(&rt, files.len(), 3, "files");
+        let expected = [
+            Filter::By(Asn(64_496)),
+            Filter::By(Asn(64_497)),
+            Filter::By(Asn(64_498)),
+        ];
+        assert!(rt; filters_of(&rt, rt.alloc(), &files).as_slice() == expected.as_slice());
+    });
 }
 
 /// Exceptions of another program, out of their order and with positions left out.
@@ -461,11 +470,10 @@ fn exceptions_are_loaded_by_their_positions(rt: HostRuntime) {
 }
 
 /// `alpha` gives AS 64496 with 192.0.2.0/24 to length 24 by number 1, and to length 25 by number 2.
-fn two_authorizations(rt: &impl Abort, alloc: Global) -> Store<MemStore> {
-    let mut store = holder_with_rows(rt, alloc);
+fn add_two(rt: &impl Abort, alloc: Global, store: &mut Store<MemStore>) {
+    add_rows(rt, alloc, store);
     let edit = Edit::Create(authorization(rt, alloc, 2, 25));
-    apply(rt, &mut store, edit);
-    store
+    apply(rt, store, edit);
 }
 
 fn terms(rt: &impl Abort, alloc: Global, asn: u32, text: &str, max: u8) -> AuthTerms {
@@ -528,31 +536,34 @@ fn assert_create(
 
 #[test]
 fn what_a_create_asks_is_loaded(rt: HostRuntime) {
-    let mut store = two_authorizations(&rt, rt.alloc());
-    for row in CREATES {
-        assert_create(&rt, rt.alloc(), &mut store, row);
-    }
+    on_holder(&rt, rt.alloc(), |store| {
+        add_two(&rt, rt.alloc(), store);
+        for row in CREATES {
+            assert_create(&rt, rt.alloc(), store, row);
+        }
+    });
 }
 
 #[test]
 fn create_at_nobody_is_loaded(rt: HostRuntime) {
     let terms = terms(&rt, rt.alloc(), 64_496, "192.0.2.0/24", 24);
-    let mut store = two_authorizations(&rt, rt.alloc());
-    let loaded = for_create(&rt, rt.alloc(), &mut store, "beta", terms);
-    assert!(rt; grants_of(&loaded).is_empty());
-    let answers = &loaded.answers;
-    assert_same(&rt, (answers.created, answers.holds), (0, false), "beta");
+    on_holder(&rt, rt.alloc(), |store| {
+        add_two(&rt, rt.alloc(), store);
+        let loaded = for_create(&rt, rt.alloc(), store, "beta", terms);
+        assert!(rt; grants_of(&loaded).is_empty());
+        let answers = &loaded.answers;
+        assert_same(&rt, (answers.created, answers.holds), (0, false), "beta");
+    });
 }
 
 /// Whether no more authorizations may be made where so many are active, and four were withdrawn.
 fn is_full(rt: &impl Abort, alloc: Global, count: u32) -> bool {
-    let mut store = registered_holder(rt, alloc);
-    hold(rt, alloc, &mut store);
-    import(rt, alloc, &mut store, count);
-    let terms = terms(rt, alloc, 64_496, "192.0.2.0/24", 24);
-    for_create(rt, alloc, &mut store, "alpha", terms)
-        .answers
-        .is_full
+    on_holder(rt, alloc, |store| {
+        hold(rt, alloc, store);
+        import(rt, alloc, store, count);
+        let terms = terms(rt, alloc, 64_496, "192.0.2.0/24", 24);
+        for_create(rt, alloc, store, "alpha", terms).answers.is_full
+    })
 }
 
 #[test]
@@ -615,8 +626,10 @@ fn assert_amendment(
 
 #[test]
 fn what_an_amendment_asks_is_loaded(rt: HostRuntime) {
-    let mut store = two_authorizations(&rt, rt.alloc());
-    for row in AMENDMENTS {
-        assert_amendment(&rt, rt.alloc(), &mut store, row);
-    }
+    on_holder(&rt, rt.alloc(), |store| {
+        add_two(&rt, rt.alloc(), store);
+        for row in AMENDMENTS {
+            assert_amendment(&rt, rt.alloc(), store, row);
+        }
+    });
 }

@@ -1,7 +1,7 @@
 //! Connections in pieces, cut short, failing, and with bytes to come.
 use super::{
     AT_ONCE, Manner, assert_cut, assert_json, assert_not_answered, assert_rows, assert_same,
-    assert_served, assert_writes, holder_desk, json_response, request_text, serve,
+    assert_served, assert_writes, json_response, on_holder_desk, request_text, serve,
 };
 use desk::Desk;
 use sqlite::MemStore;
@@ -47,23 +47,25 @@ fn assert_reads_no_more(
 #[test]
 fn no_byte_after_the_request_is_read(rt: HostRuntime) {
     for piece in [1, 7, usize::MAX] {
-        let mut desk = holder_desk(&rt, rt.alloc());
-        assert_reads_no_more(&rt, rt.alloc(), &mut desk, CREATE, DONE, piece);
-        assert_reads_no_more(&rt, rt.alloc(), &mut desk, SHOW, SHOWN, piece);
+        on_holder_desk(&rt, rt.alloc(), |desk| {
+            assert_reads_no_more(&rt, rt.alloc(), desk, CREATE, DONE, piece);
+            assert_reads_no_more(&rt, rt.alloc(), desk, SHOW, SHOWN, piece);
+        });
     }
 }
 
 /// No beginning of a create is answered or acted on: the whole request is then the first one.
 #[test]
 fn request_cut_short_is_not_acted_on(rt: HostRuntime) {
-    let mut desk = holder_desk(&rt, rt.alloc());
-    let request = request_text(&rt, rt.alloc(), CREATE);
-    let bytes = request.as_bytes();
-    for end in 0..bytes.len() {
-        assert_not_answered(&rt, rt.alloc(), &mut desk, &bytes[..end], false);
-        assert_not_answered(&rt, rt.alloc(), &mut desk, &bytes[..end], true);
-    }
-    assert_json(&rt, rt.alloc(), &mut desk, bytes, DONE, "whole");
+    on_holder_desk(&rt, rt.alloc(), |desk| {
+        let request = request_text(&rt, rt.alloc(), CREATE);
+        let bytes = request.as_bytes();
+        for end in 0..bytes.len() {
+            assert_not_answered(&rt, rt.alloc(), desk, &bytes[..end], false);
+            assert_not_answered(&rt, rt.alloc(), desk, &bytes[..end], true);
+        }
+        assert_json(&rt, rt.alloc(), desk, bytes, DONE, "whole");
+    });
 }
 
 /// The request was acted on, and a beginning of its response is out.
@@ -71,9 +73,10 @@ fn request_cut_short_is_not_acted_on(rt: HostRuntime) {
 fn response_cut_short_was_acted_on(rt: HostRuntime) {
     let response = json_response(&rt, rt.alloc(), DONE);
     for room in 0..response.len() {
-        let mut desk = holder_desk(&rt, rt.alloc());
-        assert_cut(&rt, rt.alloc(), &mut desk, CREATE, &response, room);
-        assert_rows(&rt, rt.alloc(), &mut desk, MADE);
+        on_holder_desk(&rt, rt.alloc(), |desk| {
+            assert_cut(&rt, rt.alloc(), desk, CREATE, &response, room);
+            assert_rows(&rt, rt.alloc(), desk, MADE);
+        });
     }
 }
 
@@ -87,8 +90,9 @@ const SHORT: [&str; 4] = [
 
 #[test]
 fn short_response_is_one_write(rt: HostRuntime) {
-    let mut desk = holder_desk(&rt, rt.alloc());
-    for row in SHORT {
-        assert_writes(&rt, rt.alloc(), &mut desk, row, 1);
-    }
+    on_holder_desk(&rt, rt.alloc(), |desk| {
+        for row in SHORT {
+            assert_writes(&rt, rt.alloc(), desk, row, 1);
+        }
+    });
 }

@@ -1,7 +1,7 @@
 //! Imports and exports over HTTP: bodies and answers that are CSV.
 use super::{
     assert_csv, assert_cut, assert_json, assert_rows, assert_same, assert_writes, csv_response,
-    holder_desk, rows_of,
+    on_holder_desk, rows_of,
 };
 use desk::Desk;
 use sqlite::MemStore;
@@ -343,9 +343,10 @@ fn assert_imports(
 
 #[test]
 fn bodies_of_imports(rt: HostRuntime) {
-    let mut desk = holder_desk(&rt, rt.alloc());
-    assert_imports(&rt, rt.alloc(), &mut desk, IMPORT_HEADER, ROWS);
-    assert_imports(&rt, rt.alloc(), &mut desk, b"", HEADERS);
+    on_holder_desk(&rt, rt.alloc(), |desk| {
+        assert_imports(&rt, rt.alloc(), desk, IMPORT_HEADER, ROWS);
+        assert_imports(&rt, rt.alloc(), desk, b"", HEADERS);
+    });
 }
 
 /// The response to an import with this body.
@@ -361,10 +362,11 @@ fn assert_bytes(
 
 #[test]
 fn bytes_of_imports(rt: HostRuntime) {
-    let mut desk = holder_desk(&rt, rt.alloc());
-    for row in &BYTES {
-        assert_bytes(&rt, rt.alloc(), &mut desk, row);
-    }
+    on_holder_desk(&rt, rt.alloc(), |desk| {
+        for row in &BYTES {
+            assert_bytes(&rt, rt.alloc(), desk, row);
+        }
+    });
 }
 
 /// The fault of an import of this caller at the holder.
@@ -381,20 +383,22 @@ fn assert_lowest(
 
 #[test]
 fn lowest_faults_of_imports(rt: HostRuntime) {
-    let mut desk = holder_desk(&rt, rt.alloc());
-    for row in &LOWEST {
-        assert_lowest(&rt, rt.alloc(), &mut desk, row);
-    }
+    on_holder_desk(&rt, rt.alloc(), |desk| {
+        for row in &LOWEST {
+            assert_lowest(&rt, rt.alloc(), desk, row);
+        }
+    });
 }
 
 #[test]
 fn limits_of_rows(rt: HostRuntime) {
-    let mut desk = holder_desk(&rt, rt.alloc());
-    for (count, last, output) in MANY {
-        let mut rows = ROW.repeat(rt.alloc(), count).expect(&rt, "rows");
-        rows.extend_from_slice(last).expect(&rt, "a row");
-        assert_import(&rt, rt.alloc(), &mut desk, &rows, output);
-    }
+    on_holder_desk(&rt, rt.alloc(), |desk| {
+        for (count, last, output) in MANY {
+            let mut rows = ROW.repeat(rt.alloc(), count).expect(&rt, "rows");
+            rows.extend_from_slice(last).expect(&rt, "a row");
+            assert_import(&rt, rt.alloc(), desk, &rows, output);
+        }
+    });
 }
 
 /// The two rows are made.
@@ -412,47 +416,51 @@ fn assert_export(rt: &impl Abort, alloc: Global, desk: &mut Desk<MemStore>, body
 #[test]
 fn export_two_authorizations(rt: HostRuntime) {
     assert_same(&rt, TWO_EXPORTED.len(), 137, "the length");
-    let mut desk = holder_desk(&rt, rt.alloc());
-    assert_export(&rt, rt.alloc(), &mut desk, EXPORT_HEADER);
-    assert_two_made(&rt, rt.alloc(), &mut desk);
-    assert_export(&rt, rt.alloc(), &mut desk, TWO_EXPORTED);
-    assert_rows(&rt, rt.alloc(), &mut desk, GRANTS);
-    let clerk = "GET /holders/alpha/export cleo";
-    assert_csv(&rt, rt.alloc(), &mut desk, clerk, FIRST_EXPORTED);
-    let auditor = "GET /holders/alpha/export cora";
-    assert_csv(&rt, rt.alloc(), &mut desk, auditor, EXPORT_HEADER);
-    assert_rows(&rt, rt.alloc(), &mut desk, DENIED);
-    assert_export(&rt, rt.alloc(), &mut desk, FIRST_EXPORTED);
+    on_holder_desk(&rt, rt.alloc(), |desk| {
+        assert_export(&rt, rt.alloc(), desk, EXPORT_HEADER);
+        assert_two_made(&rt, rt.alloc(), desk);
+        assert_export(&rt, rt.alloc(), desk, TWO_EXPORTED);
+        assert_rows(&rt, rt.alloc(), desk, GRANTS);
+        let clerk = "GET /holders/alpha/export cleo";
+        assert_csv(&rt, rt.alloc(), desk, clerk, FIRST_EXPORTED);
+        let auditor = "GET /holders/alpha/export cora";
+        assert_csv(&rt, rt.alloc(), desk, auditor, EXPORT_HEADER);
+        assert_rows(&rt, rt.alloc(), desk, DENIED);
+        assert_export(&rt, rt.alloc(), desk, FIRST_EXPORTED);
+    });
 }
 
 /// Each beginning of the response to an export is taken.
 #[test]
 fn export_that_is_cut_short(rt: HostRuntime) {
-    let mut desk = holder_desk(&rt, rt.alloc());
-    assert_two_made(&rt, rt.alloc(), &mut desk);
-    let response = csv_response(&rt, rt.alloc(), TWO_EXPORTED);
-    for room in 0..response.len() {
-        assert_cut(&rt, rt.alloc(), &mut desk, EXPORT, &response, room);
-    }
+    on_holder_desk(&rt, rt.alloc(), |desk| {
+        assert_two_made(&rt, rt.alloc(), desk);
+        let response = csv_response(&rt, rt.alloc(), TWO_EXPORTED);
+        for room in 0..response.len() {
+            assert_cut(&rt, rt.alloc(), desk, EXPORT, &response, room);
+        }
+    });
 }
 
 /// An import of which one row is denied makes none.
 #[test]
 fn import_that_is_denied_makes_nothing(rt: HostRuntime) {
-    let mut desk = holder_desk(&rt, rt.alloc());
-    assert_two_made(&rt, rt.alloc(), &mut desk);
-    let denied = "403 {\"denied\":\"held\",\"row\":2}";
-    assert_import(&rt, rt.alloc(), &mut desk, ONE_NOT_HELD, denied);
-    assert_rows(&rt, rt.alloc(), &mut desk, TWO_LISTED);
+    on_holder_desk(&rt, rt.alloc(), |desk| {
+        assert_two_made(&rt, rt.alloc(), desk);
+        let denied = "403 {\"denied\":\"held\",\"row\":2}";
+        assert_import(&rt, rt.alloc(), desk, ONE_NOT_HELD, denied);
+        assert_rows(&rt, rt.alloc(), desk, TWO_LISTED);
+    });
 }
 
 #[test]
 fn import_of_both_families(rt: HostRuntime) {
-    let mut desk = holder_desk(&rt, rt.alloc());
-    assert_rows(&rt, rt.alloc(), &mut desk, IPV6_HOLDING);
-    let made = "200 {\"made\":2,\"present\":0}";
-    assert_import(&rt, rt.alloc(), &mut desk, BOTH_FAMILIES, made);
-    assert_export(&rt, rt.alloc(), &mut desk, BOTH_EXPORTED);
+    on_holder_desk(&rt, rt.alloc(), |desk| {
+        assert_rows(&rt, rt.alloc(), desk, IPV6_HOLDING);
+        let made = "200 {\"made\":2,\"present\":0}";
+        assert_import(&rt, rt.alloc(), desk, BOTH_FAMILIES, made);
+        assert_export(&rt, rt.alloc(), desk, BOTH_EXPORTED);
+    });
 }
 
 /// So many rows, one for each AS from 1 on.
@@ -480,20 +488,22 @@ fn export_of_each(rt: &impl Abort, alloc: Global, count: u32) -> String {
 /// An import that has one row too many is denied whole.
 #[test]
 fn import_of_1001_rows_makes_nothing(rt: HostRuntime) {
-    let mut desk = holder_desk(&rt, rt.alloc());
-    let rows = rows_of_each(&rt, rt.alloc(), 1001);
-    let denied = "403 {\"denied\":\"room\",\"row\":1001}";
-    assert_import(&rt, rt.alloc(), &mut desk, rows.as_bytes(), denied);
-    assert_rows(&rt, rt.alloc(), &mut desk, NOTHING_LISTED);
+    on_holder_desk(&rt, rt.alloc(), |desk| {
+        let rows = rows_of_each(&rt, rt.alloc(), 1001);
+        let denied = "403 {\"denied\":\"room\",\"row\":1001}";
+        assert_import(&rt, rt.alloc(), desk, rows.as_bytes(), denied);
+        assert_rows(&rt, rt.alloc(), desk, NOTHING_LISTED);
+    });
 }
 
 #[test]
 fn export_a_thousand_authorizations(rt: HostRuntime) {
-    let mut desk = holder_desk(&rt, rt.alloc());
-    let rows = rows_of_each(&rt, rt.alloc(), 1000);
-    let made = "200 {\"made\":1000,\"present\":0}";
-    assert_import(&rt, rt.alloc(), &mut desk, rows.as_bytes(), made);
-    let exported = export_of_each(&rt, rt.alloc(), 1000);
-    assert_export(&rt, rt.alloc(), &mut desk, &exported);
-    assert_writes(&rt, rt.alloc(), &mut desk, EXPORT, 2);
+    on_holder_desk(&rt, rt.alloc(), |desk| {
+        let rows = rows_of_each(&rt, rt.alloc(), 1000);
+        let made = "200 {\"made\":1000,\"present\":0}";
+        assert_import(&rt, rt.alloc(), desk, rows.as_bytes(), made);
+        let exported = export_of_each(&rt, rt.alloc(), 1000);
+        assert_export(&rt, rt.alloc(), desk, &exported);
+        assert_writes(&rt, rt.alloc(), desk, EXPORT, 2);
+    });
 }

@@ -1,7 +1,7 @@
 //! Heads: their fields, and the lengths of bodies.
 use super::{
-    assert_json, assert_not_answered, assert_response, assert_rows, csv_response, holder_desk,
-    json_response, new_desk,
+    assert_json, assert_not_answered, assert_response, assert_rows, csv_response, json_response,
+    on_holder_desk, on_new_desk,
 };
 use desk::Desk;
 use sqlite::MemStore;
@@ -217,10 +217,11 @@ fn assert_fields(
 
 #[test]
 fn fields_of_a_head(rt: HostRuntime) {
-    let mut desk = new_desk(&rt, rt.alloc());
-    for row in &FIELDS {
-        assert_fields(&rt, rt.alloc(), &mut desk, row);
-    }
+    on_new_desk(&rt, rt.alloc(), |desk| {
+        for row in &FIELDS {
+            assert_fields(&rt, rt.alloc(), desk, row);
+        }
+    });
 }
 
 /// The response to a request for validity with these fields for its length.
@@ -240,38 +241,42 @@ fn assert_length(
 
 #[test]
 fn content_length_spellings(rt: HostRuntime) {
-    let mut desk = new_desk(&rt, rt.alloc());
-    for row in &LENGTHS {
-        assert_length(&rt, rt.alloc(), &mut desk, row);
-    }
+    on_new_desk(&rt, rt.alloc(), |desk| {
+        for row in &LENGTHS {
+            assert_length(&rt, rt.alloc(), desk, row);
+        }
+    });
 }
 
 /// Of the creates with these lengths none is made.
 #[test]
 fn lengths_of_a_create(rt: HostRuntime) {
-    let mut desk = holder_desk(&rt, rt.alloc());
-    for (name, length, output) in LENGTHS_OF_A_CREATE {
-        let request = format!(in rt.alloc();
-            "POST /holders/alpha/auths HTTP/1.1\r\nDesk-Caller: ann\r\nContent-Length: {length}\r\n\r\n{CREATE_BODY}"
-        ).expect(&rt, "a request");
-        let bytes = request.as_bytes();
-        assert_json(&rt, rt.alloc(), &mut desk, bytes, output, name);
-    }
-    assert_rows(&rt, rt.alloc(), &mut desk, NOTHING_MADE);
+    on_holder_desk(&rt, rt.alloc(), |desk| {
+        for (name, length, output) in LENGTHS_OF_A_CREATE {
+            let request = format!(in rt.alloc();
+                "POST /holders/alpha/auths HTTP/1.1\r\nDesk-Caller: ann\r\nContent-Length: {length}\r\n\r\n{CREATE_BODY}"
+            ).expect(&rt, "a request");
+            let bytes = request.as_bytes();
+            assert_json(&rt, rt.alloc(), desk, bytes, output, name);
+        }
+        assert_rows(&rt, rt.alloc(), desk, NOTHING_MADE);
+    });
 }
 
 /// A head without an end.
 #[test]
 fn head_that_is_cut_is_not_answered(rt: HostRuntime) {
-    let mut desk = new_desk(&rt, rt.alloc());
-    let request = b"GET /payloads HTTP/1.1\r\n";
-    assert_not_answered(&rt, rt.alloc(), &mut desk, request, false);
+    on_new_desk(&rt, rt.alloc(), |desk| {
+        let request = b"GET /payloads HTTP/1.1\r\n";
+        assert_not_answered(&rt, rt.alloc(), desk, request, false);
+    });
 }
 
 #[test]
 fn bytes_that_are_no_head_are_refused(rt: HostRuntime) {
-    let mut desk = new_desk(&rt, rt.alloc());
-    for (name, request, output) in HEADS {
-        assert_json(&rt, rt.alloc(), &mut desk, request, output, name);
-    }
+    on_new_desk(&rt, rt.alloc(), |desk| {
+        for (name, request, output) in HEADS {
+            assert_json(&rt, rt.alloc(), desk, request, output, name);
+        }
+    });
 }

@@ -1,7 +1,7 @@
 //! The limits of heads, of fields and of bodies.
 use super::{
     AT_ONCE, Manner, assert_json, assert_response, assert_same, assert_served, csv_response,
-    json_response, new_desk, request_text, serve,
+    json_response, on_new_desk, request_text, serve,
 };
 use desk::Desk;
 use sqlite::MemStore;
@@ -57,21 +57,23 @@ fn assert_head_is_refused(
 /// The longest head, and one that is too long.
 #[test]
 fn head_limit(rt: HostRuntime) {
-    let mut desk = new_desk(&rt, rt.alloc());
-    let head = long_head(&rt, rt.alloc(), HEAD_LIMIT);
-    assert_head_is_read(&rt, rt.alloc(), &mut desk, &head, "8192 bytes");
-    let longer = long_head(&rt, rt.alloc(), HEAD_LIMIT + 1);
-    assert_head_is_refused(&rt, rt.alloc(), &mut desk, &longer, "8193 bytes");
+    on_new_desk(&rt, rt.alloc(), |desk| {
+        let head = long_head(&rt, rt.alloc(), HEAD_LIMIT);
+        assert_head_is_read(&rt, rt.alloc(), desk, &head, "8192 bytes");
+        let longer = long_head(&rt, rt.alloc(), HEAD_LIMIT + 1);
+        assert_head_is_refused(&rt, rt.alloc(), desk, &longer, "8193 bytes");
+    });
 }
 
 /// As many fields as a head may have, and one more.
 #[test]
 fn field_limit(rt: HostRuntime) {
-    let mut desk = new_desk(&rt, rt.alloc());
-    let fields = many_fields(&rt, rt.alloc(), 32);
-    assert_head_is_read(&rt, rt.alloc(), &mut desk, &fields, "32 fields");
-    let more = many_fields(&rt, rt.alloc(), 33);
-    assert_head_is_refused(&rt, rt.alloc(), &mut desk, &more, "33 fields");
+    on_new_desk(&rt, rt.alloc(), |desk| {
+        let fields = many_fields(&rt, rt.alloc(), 32);
+        assert_head_is_read(&rt, rt.alloc(), desk, &fields, "32 fields");
+        let more = many_fields(&rt, rt.alloc(), 33);
+        assert_head_is_refused(&rt, rt.alloc(), desk, &more, "33 fields");
+    });
 }
 
 /// A connection that fails after these bytes is answered before, and so many of them are left unread.
@@ -95,12 +97,13 @@ fn assert_refused_before(
 /// A head that has no end within the limit is refused, and what follows the limit is not read.
 #[test]
 fn head_without_an_end(rt: HostRuntime) {
-    let mut desk = new_desk(&rt, rt.alloc());
-    let head = long_head(&rt, rt.alloc(), HEAD_LIMIT + 1);
-    let beginning = head.as_bytes().get(..HEAD_LIMIT);
-    let beginning = beginning.expect(&rt, "a long head");
-    assert_refused_before(&rt, rt.alloc(), &mut desk, beginning, 0);
-    assert_refused_before(&rt, rt.alloc(), &mut desk, head.as_bytes(), 1);
+    on_new_desk(&rt, rt.alloc(), |desk| {
+        let head = long_head(&rt, rt.alloc(), HEAD_LIMIT + 1);
+        let beginning = head.as_bytes().get(..HEAD_LIMIT);
+        let beginning = beginning.expect(&rt, "a long head");
+        assert_refused_before(&rt, rt.alloc(), desk, beginning, 0);
+        assert_refused_before(&rt, rt.alloc(), desk, head.as_bytes(), 1);
+    });
 }
 
 /// A body that is padded with spaces to so many bytes has this response.
@@ -123,12 +126,13 @@ fn assert_padded(
 /// The longest body, and one that is too long.
 #[test]
 fn body_limit(rt: HostRuntime) {
-    let mut desk = new_desk(&rt, rt.alloc());
-    let routes = "{\"routes\":[{\"prefix\":\"192.0.2.0/24\",\"origin\":null}]}";
-    let answered = "200 {\"answers\":[\"NotFound\"]}";
-    assert_padded(&rt, rt.alloc(), &mut desk, routes, BODY_LIMIT, answered);
-    let refused = "413 {\"error\":413}";
-    assert_padded(&rt, rt.alloc(), &mut desk, routes, BODY_LIMIT + 1, refused);
+    on_new_desk(&rt, rt.alloc(), |desk| {
+        let routes = "{\"routes\":[{\"prefix\":\"192.0.2.0/24\",\"origin\":null}]}";
+        let answered = "200 {\"answers\":[\"NotFound\"]}";
+        assert_padded(&rt, rt.alloc(), desk, routes, BODY_LIMIT, answered);
+        let refused = "413 {\"error\":413}";
+        assert_padded(&rt, rt.alloc(), desk, routes, BODY_LIMIT + 1, refused);
+    });
 }
 
 /// Requests, how deep the array that is their body nests, and their responses.
@@ -152,11 +156,12 @@ const NESTED_BODIES: [(&str, u32, &str); 6] = [
 #[test]
 fn nesting_limits(rt: HostRuntime) {
     for (path, depth, output) in NESTED_BODIES {
-        let mut desk = new_desk(&rt, rt.alloc());
-        let body = nested(rt.alloc(), depth).expect(&rt, "a body");
-        let row = format!(in rt.alloc(); "{path} {body}").expect(&rt, "a row");
-        let request = request_text(&rt, rt.alloc(), &row);
-        assert_json(&rt, rt.alloc(), &mut desk, request.as_bytes(), output, path);
+        on_new_desk(&rt, rt.alloc(), |desk| {
+            let body = nested(rt.alloc(), depth).expect(&rt, "a body");
+            let row = format!(in rt.alloc(); "{path} {body}").expect(&rt, "a row");
+            let request = request_text(&rt, rt.alloc(), &row);
+            assert_json(&rt, rt.alloc(), desk, request.as_bytes(), output, path);
+        });
     }
 }
 
@@ -168,10 +173,11 @@ const DEPTHS: [(u32, &str); 2] = [
 
 #[test]
 fn body_nests_at_most_127_levels(rt: HostRuntime) {
-    let mut desk = new_desk(&rt, rt.alloc());
-    for (depth, output) in DEPTHS {
-        let routes = nested(rt.alloc(), depth).expect(&rt, "routes");
-        let body = format!(in rt.alloc(); "{{\"routes\":{routes}}}").expect(&rt, "a body");
-        assert_padded(&rt, rt.alloc(), &mut desk, &body, body.len(), output);
-    }
+    on_new_desk(&rt, rt.alloc(), |desk| {
+        for (depth, output) in DEPTHS {
+            let routes = nested(rt.alloc(), depth).expect(&rt, "routes");
+            let body = format!(in rt.alloc(); "{{\"routes\":{routes}}}").expect(&rt, "a body");
+            assert_padded(&rt, rt.alloc(), desk, &body, body.len(), output);
+        }
+    });
 }

@@ -1,6 +1,7 @@
 //! Requests of every path, and what they are refused for.
 use super::{
-    assert_csv, assert_response, assert_rows, holder_desk, json_response, new_desk, response_of,
+    assert_csv, assert_response, assert_rows, json_response, on_holder_desk, on_new_desk,
+    response_of,
 };
 use desk::Desk;
 use sqlite::MemStore;
@@ -183,35 +184,33 @@ const METHODS: [&str; 9] = [
 
 #[test]
 fn every_path_is_answered(rt: HostRuntime) {
-    let mut desk = holder_desk(&rt, rt.alloc());
-    assert_rows(&rt, rt.alloc(), &mut desk, EVERY_PATH);
+    on_holder_desk(&rt, rt.alloc(), |desk| {
+        assert_rows(&rt, rt.alloc(), desk, EVERY_PATH);
+    });
 }
 
 #[test]
 fn slurm_files_are_put(rt: HostRuntime) {
-    let mut desk = new_desk(&rt, rt.alloc());
-    assert_rows(&rt, rt.alloc(), &mut desk, SLURM_FILES);
+    on_new_desk(&rt, rt.alloc(), |desk| {
+        assert_rows(&rt, rt.alloc(), desk, SLURM_FILES);
+    });
 }
 
 #[test]
 fn malformed_requests_have_their_lowest_number(rt: HostRuntime) {
-    let mut desk = holder_desk(&rt, rt.alloc());
-    assert_rows(&rt, rt.alloc(), &mut desk, MALFORMED);
+    on_holder_desk(&rt, rt.alloc(), |desk| {
+        assert_rows(&rt, rt.alloc(), desk, MALFORMED);
+    });
 }
 
 /// The payloads before a create and after it.
 #[test]
 fn payloads_are_answered_as_csv(rt: HostRuntime) {
-    let mut desk = holder_desk(&rt, rt.alloc());
-    assert_csv(
-        &rt,
-        rt.alloc(),
-        &mut desk,
-        PAYLOADS,
-        "asn,prefix,maxlength\n",
-    );
-    assert_rows(&rt, rt.alloc(), &mut desk, CREATED);
-    assert_csv(&rt, rt.alloc(), &mut desk, PAYLOADS, ONE_PAYLOAD);
+    on_holder_desk(&rt, rt.alloc(), |desk| {
+        assert_csv(&rt, rt.alloc(), desk, PAYLOADS, "asn,prefix,maxlength\n");
+        assert_rows(&rt, rt.alloc(), desk, CREATED);
+        assert_csv(&rt, rt.alloc(), desk, PAYLOADS, ONE_PAYLOAD);
+    });
 }
 
 /// A request without a caller, with these fields, has this response.
@@ -229,14 +228,15 @@ fn assert_refused(
 
 #[test]
 fn target_without_a_path_is_not_found(rt: HostRuntime) {
-    let mut desk = new_desk(&rt, rt.alloc());
-    let response = json_response(&rt, rt.alloc(), "404 {\"error\":404}");
-    for target in NOT_FOUND {
-        for method in METHODS {
-            let request = (method, target, "");
-            assert_refused(&rt, rt.alloc(), &mut desk, request, &response);
+    on_new_desk(&rt, rt.alloc(), |desk| {
+        let response = json_response(&rt, rt.alloc(), "404 {\"error\":404}");
+        for target in NOT_FOUND {
+            for method in METHODS {
+                let request = (method, target, "");
+                assert_refused(&rt, rt.alloc(), desk, request, &response);
+            }
         }
-    }
+    });
 }
 
 /// Every method but those allowed is answered with them.
@@ -260,8 +260,9 @@ fn assert_others_refused(
 
 #[test]
 fn other_methods_are_answered_with_those_allowed(rt: HostRuntime) {
-    let mut desk = new_desk(&rt, rt.alloc());
-    for (path, allowed) in ALLOWED {
-        assert_others_refused(&rt, rt.alloc(), &mut desk, path, allowed);
-    }
+    on_new_desk(&rt, rt.alloc(), |desk| {
+        for (path, allowed) in ALLOWED {
+            assert_others_refused(&rt, rt.alloc(), desk, path, allowed);
+        }
+    });
 }
