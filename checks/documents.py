@@ -115,7 +115,7 @@ def missing_in(document, crates, words):
 
 
 crates = find_crates()
-words = set(itertools.chain.from_iterable(WORD.findall(text_of(path)) for path in sources()))
+words = {*crates, *itertools.chain.from_iterable(WORD.findall(text_of(path)) for path in sources())}
 missing = [(document, *found) for document in DOCUMENTS for found in missing_in(document, crates, words)]
 for document, number, name in missing:
     print(f"{document.relative_to(TOP)}:{number}: {name} is not there")

@@ -26,6 +26,7 @@ from side_by_side import Job
 
 # A test and the comments before it, as rt fmt lays them out.
 TEST = re.compile(r"(?:^ *//.*\n)*^( *)#\[test\]\n(?:.*\n)*?\1}\n", re.M)
+BUILT = re.compile(r"^tests: \d+$", re.M)
 VERDICT = re.compile(r"^test (\S+) \.\.\. (ok|FAILED)\n((?:[ \t].*\n)*)", re.M)
 
 # The crate of all tests. Its modules are `of_` and the name of a crate of tests, since no module has a crate's name.
@@ -42,9 +43,11 @@ SECONDS = {
 }
 OTHER_SECONDS = 3
 
-# How many seconds a test may take, and the megabytes that a process takes.
+# How many seconds a test may take, and a build. The megabytes that a process takes while it builds, and afterwards.
 TEST_SECONDS = 600
-MEMORY = 4500
+BUILD_SECONDS = 220
+BUILD_MEMORY = 8500
+TEST_MEMORY = 500
 
 
 def seconds_of(test):
@@ -65,9 +68,12 @@ def tests_of(crate):
     return names
 
 
-def shares(tests, count):
-    """Divides the tests among so many processes, the slowest first, each to the process that has the least to do."""
-    shares, seconds = [set() for _ in range(count)], [0] * count
+def shares(tests, count, builds):
+    """Divides the tests among so many processes, of which so many build at a time.
+
+    The slowest come first, each to the process that will have ended first.
+    """
+    shares, seconds = [set() for _ in range(count)], [nth // builds * BUILD_SECONDS for nth in range(count)]
     for test in sorted(tests, key=seconds_of, reverse=True):
         least = seconds.index(min(seconds))
         shares[least].add(test)
@@ -81,7 +87,7 @@ class Part(Job):
     def __init__(self, crates, tests, top):
         self.crates, self.tests, self.top = crates, tests, top
         command = ["rt", "try", "--test", "--seconds", str(TEST_SECONDS)]
-        super().__init__(command, top / "crates" / ALL_TESTS, top / "said", MEMORY)
+        super().__init__(command, top / "crates" / ALL_TESTS, top / "said", BUILD_MEMORY)
 
     def begin(self):
         shutil.copytree(TOP / "crates", self.top / "crates", ignore=shutil.ignore_patterns("out"))
@@ -115,8 +121,10 @@ class Part(Job):
         """Returns for each test that has ended its verdict, and what it said."""
         if not self.output.exists():
             return {}
-        found = {}
-        for path, verdict, why in VERDICT.findall(self.said()):
+        found, said = {}, self.said()
+        if BUILT.search(said):
+            self.memory = TEST_MEMORY
+        for path, verdict, why in VERDICT.findall(said):
             crate, *_, name = path.removeprefix("of_").split("::")
             found[f"{crate}::{name}"] = (verdict, why)
         return found
@@ -183,11 +191,11 @@ def main():
     need_rt()
     side_by_side.note_signals()
     crates = {name: tests for name in side_by_side.used_crates() if (tests := tests_of(name))}
-    count = max(1, min(PROCESSORS, side_by_side.available_memory() // MEMORY))
+    builds = max(1, min(PROCESSORS, side_by_side.available_memory() // BUILD_MEMORY))
     with tempfile.TemporaryDirectory(prefix="roadesk-test-") as work:
         # So that nothing is left of an rt that is killed.
         os.environ["TMPDIR"] = work
-        divided = shares([test for tests in crates.values() for test in tests], count)
+        divided = shares([test for tests in crates.values() for test in tests], PROCESSORS, builds)
         parts = [Part(list(crates), share, pathlib.Path(work) / str(nth)) for nth, share in enumerate(divided)]
         report = Report(crates, parts)
         side_by_side.run_side_by_side(parts, lambda part: True, lambda part: None, report.watch)
