@@ -39,9 +39,13 @@ pub(crate) fn first_of_march(test: &impl Abort) -> Day {
     Day::read(b"2026-03-01").expect(test, "a day")
 }
 
-pub(crate) fn desk_in_memory<R: Abort + AllocGlobal>(rt: &R) -> Desk<MemStore> {
+/// Lends a new desk. What owns a desk is slow to prove, so the tests borrow one.
+pub(crate) fn on_desk<R: Abort + AllocGlobal, F: FnOnce(&mut Desk<MemStore>)>(rt: &R, ask: F)
+    requires { F.IsAlwaysCallable ask }
+{
     let charter = charter_from(rt.alloc(), CHARTER.as_bytes()).expect(rt, "a charter");
-    Desk::open_memory(rt.alloc(), &charter).expect(rt, "memory")
+    let mut desk = Desk::open_memory(rt.alloc(), &charter).expect(rt, "memory");
+    ask(&mut desk);
 }
 
 /// What the clients were answered, and the lines on their connections.

@@ -1,7 +1,7 @@
 //! The lines on connections that failed.
 ghost use Rattle.std.specs.Prelude.{None, true};
 
-use crate::clients::{desk_in_memory, first_of_march};
+use crate::clients::{first_of_march, on_desk};
 use crate::comparison::assert_same;
 use addr::Day;
 use cli_tasks::serve::{AnswerConnections, Connections, Printed, answer_each};
@@ -152,10 +152,11 @@ fn assert_run(
 
 #[test]
 fn a_line_for_each_fault_and_no_others(rt: HostRuntime) {
-    let mut desk = desk_in_memory(&rt);
-    for row in &RUNS {
-        assert_run(&rt, rt.alloc(), &mut desk, *row);
-    }
+    on_desk(&rt, |desk| {
+        for row in &RUNS {
+            assert_run(&rt, rt.alloc(), desk, *row);
+        }
+    });
 }
 
 /// A writer whose first write fails.
@@ -181,15 +182,16 @@ impl Write for FailsOnce<'_> {
 
 #[test]
 fn a_line_that_cannot_be_written_is_lost(rt: HostRuntime) {
-    let mut desk = desk_in_memory(&rt);
-    let mut taken = Vec::new(rt.alloc());
-    let mut errors = FailsOnce {
-        has_failed: false,
-        taken: &mut taken,
-    };
-    let clients: [(Option<&str>, usize); 2] = [(Some(""), 0), (Some(""), 0)];
-    let ended = answer_clients(&rt, rt.alloc(), &mut desk, (&clients, 2), &mut errors);
-    assert_same(&rt, ended, Ok(()), "two clients");
-    let line = b"roadesk: connection 2: fault 1\n".as_slice();
-    assert_same(&rt, taken.as_slice(), line, "two clients");
+    on_desk(&rt, |desk| {
+        let mut taken = Vec::new(rt.alloc());
+        let mut errors = FailsOnce {
+            has_failed: false,
+            taken: &mut taken,
+        };
+        let clients: [(Option<&str>, usize); 2] = [(Some(""), 0), (Some(""), 0)];
+        let ended = answer_clients(&rt, rt.alloc(), desk, (&clients, 2), &mut errors);
+        assert_same(&rt, ended, Ok(()), "two clients");
+        let line = b"roadesk: connection 2: fault 1\n".as_slice();
+        assert_same(&rt, taken.as_slice(), line, "two clients");
+    });
 }

@@ -2,7 +2,7 @@
 ghost use Rattle.std.specs.Prelude.{⊤};
 
 use crate::clients::{
-    AfterText, Bound, CHARTER, SETUP, add_requests, desk_in_memory, first_of_march, requests, serve,
+    AfterText, Bound, CHARTER, SETUP, add_requests, first_of_march, on_desk, requests, serve,
 };
 use crate::comparison::assert_same;
 use crate::lines_on_faults::Clients;
@@ -28,12 +28,13 @@ fn serve_none(rt: &HostRuntime, desk: &mut Desk<MemStore>, day: Day) -> Result<(
 
 #[test]
 fn the_day_is_kept_before_the_first_connection(rt: HostRuntime) {
-    let mut desk = desk_in_memory(&rt);
-    let day = first_of_march(&rt);
-    assert!(rt; desk.kept().is_none());
-    let served = serve_none(&rt, &mut desk, day);
-    assert_same(&rt, served, Ok(()), "no connection");
-    assert!(rt; desk.kept() == Some(day));
+    on_desk(&rt, |desk| {
+        let day = first_of_march(&rt);
+        assert!(rt; desk.kept().is_none());
+        let served = serve_none(&rt, desk, day);
+        assert_same(&rt, served, Ok(()), "no connection");
+        assert!(rt; desk.kept() == Some(day));
+    });
 }
 
 const NO_FILES: &str = "{\"files\":[]}";
@@ -68,8 +69,9 @@ fn the_day_is_kept_after_each_connection(rt: HostRuntime) {
     for (last, begins) in &AFTER_SETUP {
         let mut texts = requests(&rt, rt.alloc(), &SETUP);
         add_requests(&rt, rt.alloc(), &[*last], &mut texts);
-        let mut desk = desk_in_memory(&rt);
-        assert_kept_after(&rt, &rt, &mut desk, &texts, begins);
+        on_desk(&rt, |desk| {
+            assert_kept_after(&rt, &rt, desk, &texts, begins);
+        });
     }
 }
 
@@ -190,12 +192,15 @@ fn try_desk(alloc: Global) -> Option<Desk<MemStore>> {
     }
 }
 
-/// A desk with one authorization, if one allocation is refused at most.
-fn desk_with_one(test: &impl Abort, alloc: Global) -> Desk<MemStore> {
-    match try_desk(alloc) {
+/// Lends a desk with one authorization, if one allocation is refused at most.
+fn on_desk_with_one<F: FnOnce(&mut Desk<MemStore>)>(test: &impl Abort, alloc: Global, ask: F)
+    requires { F.IsAlwaysCallable ask }
+{
+    let mut desk = match try_desk(alloc) {
         Some(desk) => desk,
         None => try_desk(alloc).expect(test, "a desk"),
-    }
+    };
+    ask(&mut desk);
 }
 
 const WHAT_IF: (&str, &str, &str, &str) = (
@@ -217,8 +222,9 @@ const WHAT_IFS: [&[(&str, &str, &str, &str)]; 2] = [
 fn the_day_is_kept_before_a_what_if(rt: HostRuntime) {
     for parts in &WHAT_IFS {
         let texts = requests(&rt, rt.alloc(), parts);
-        let mut desk = desk_with_one(&rt, rt.alloc());
-        assert_kept_after(&rt, &rt, &mut desk, &texts, "HTTP/1.1 200 ");
+        on_desk_with_one(&rt, rt.alloc(), |desk| {
+            assert_kept_after(&rt, &rt, desk, &texts, "HTTP/1.1 200 ");
+        });
     }
 }
 
@@ -227,10 +233,11 @@ fn the_day_is_kept_before_a_what_if(rt: HostRuntime) {
 #[test]
 fn a_desk_without_memory_for_its_day_answers(rt: HostRuntime) {
     let day = first_of_march(&rt);
-    let mut desk = desk_with_one(&rt, rt.alloc());
-    let served = serve_none(&rt, &mut desk, day);
-    assert_same(&rt, served, Ok(()), "no connection");
-    let is_lent = desk.payloads(day).is_some();
-    assert!(rt; is_lent);
-    assert!(rt; desk.kept() == Some(day));
+    on_desk_with_one(&rt, rt.alloc(), |desk| {
+        let served = serve_none(&rt, desk, day);
+        assert_same(&rt, served, Ok(()), "no connection");
+        let is_lent = desk.payloads(day).is_some();
+        assert!(rt; is_lent);
+        assert!(rt; desk.kept() == Some(day));
+    });
 }

@@ -1,7 +1,7 @@
 //! Responses over sockets of the loopback, and connections that are out of time.
 use crate::clients::{
-    AfterText, Bound, CREATE, SETUP, add_requests, answer_to, desk_in_memory, requests, serve,
-    serve_over, waiting_client,
+    AfterText, Bound, CREATE, SETUP, add_requests, answer_to, on_desk, requests, serve, serve_over,
+    waiting_client,
 };
 use crate::clocks::{Sending, Slow};
 use crate::comparison::assert_same;
@@ -42,10 +42,11 @@ fn assert_last(rt: &impl Abort, answers: &[String], expected: &[&str]) {
 fn denial_is_403_and_payloads_are_csv(rt: HostRuntime) {
     let mut texts = requests(&rt, rt.alloc(), &SETUP);
     add_requests(&rt, rt.alloc(), &AFTER_SETUP, &mut texts);
-    let mut desk = desk_in_memory(&rt);
-    let served = serve(&rt, &rt, &rt, &mut desk, &texts, AfterText::ShutsWriting);
-    assert!(rt; served.errors.is_empty());
-    assert_last(&rt, &served.answers, &LAST_RESPONSES);
+    on_desk(&rt, |desk| {
+        let served = serve(&rt, &rt, &rt, desk, &texts, AfterText::ShutsWriting);
+        assert!(rt; served.errors.is_empty());
+        assert_last(&rt, &served.answers, &LAST_RESPONSES);
+    });
 }
 
 /// Copies of the texts.
@@ -82,12 +83,13 @@ const REFUSED: [(&str, &str); 3] = [
 #[test]
 fn a_response_arrives_whose_request_has_its_body_unread(rt: HostRuntime) {
     let texts = copies(&rt, rt.alloc(), REFUSED.map(|(text, _)| text).as_slice());
-    let mut desk = desk_in_memory(&rt);
-    let served = serve(&rt, &rt, &rt, &mut desk, &texts, AfterText::ShutsWriting);
-    assert_same(&rt, served.errors.len(), 0, "lines on connections");
-    for ((text, response), answer) in REFUSED.iter().zip(&served.answers) {
-        assert_same(&rt, answer.as_str(), *response, *text);
-    }
+    on_desk(&rt, |desk| {
+        let served = serve(&rt, &rt, &rt, desk, &texts, AfterText::ShutsWriting);
+        assert_same(&rt, served.errors.len(), 0, "lines on connections");
+        for ((text, response), answer) in REFUSED.iter().zip(&served.answers) {
+            assert_same(&rt, answer.as_str(), *response, *text);
+        }
+    });
 }
 
 /// What clients send that stay open.
@@ -98,10 +100,11 @@ fn a_connection_has_to_end_in_time(rt: HostRuntime) {
     let texts = copies(&rt, rt.alloc(), &UNFINISHED);
     // The connections are soon out of time.
     let clock = Slow::by(Duration::from_millis(29_950));
-    let mut desk = desk_in_memory(&rt);
-    let served = serve(&rt, &rt, &clock, &mut desk, &texts, AfterText::StaysOpen);
-    let lines = b"roadesk: connection 1: fault 1\nroadesk: connection 2: fault 1\n".as_slice();
-    assert_same(&rt, served.errors.as_slice(), lines, "out of time");
+    on_desk(&rt, |desk| {
+        let served = serve(&rt, &rt, &clock, desk, &texts, AfterText::StaysOpen);
+        let lines = b"roadesk: connection 1: fault 1\nroadesk: connection 2: fault 1\n".as_slice();
+        assert_same(&rt, served.errors.as_slice(), lines, "out of time");
+    });
 }
 
 /// Heads of requests whose bodies are not read, how many bytes follow them, and the responses.
@@ -159,8 +162,9 @@ fn assert_long(
 
 #[test]
 fn a_response_arrives_whose_request_is_long(rt: HostRuntime) {
-    let mut desk = desk_in_memory(&rt);
-    for row in &LONG {
-        assert_long(&rt, &rt, &mut desk, *row);
-    }
+    on_desk(&rt, |desk| {
+        for row in &LONG {
+            assert_long(&rt, &rt, desk, *row);
+        }
+    });
 }

@@ -3,7 +3,7 @@ ghost use Rattle.std.specs.Prelude.{option_map, true};
 ghost use Rattle.std.specs.Duration.{as_nanos};
 ghost use Rattle.std.specs.Time.{instant_nanos};
 
-use crate::clients::{desk_in_memory, first_of_march};
+use crate::clients::{first_of_march, on_desk};
 use crate::clocks::Slow;
 use crate::comparison::assert_same;
 use cli_tasks::serve::{Peer, answer_in_time};
@@ -164,8 +164,9 @@ fn assert_trickle(
 
 #[test]
 fn peers_that_trickle(rt: HostRuntime) {
-    let mut desk = desk_in_memory(&rt);
-    for row in &TRICKLES {
-        assert_trickle(&rt, rt.alloc(), &mut desk, *row);
-    }
+    on_desk(&rt, |desk| {
+        for row in &TRICKLES {
+            assert_trickle(&rt, rt.alloc(), desk, *row);
+        }
+    });
 }
