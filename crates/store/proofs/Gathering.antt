@@ -1,44 +1,9 @@
 -- The authorizations of all holders, out of those of each one.
-use Rattle.store.proofs.Vocabulary.{◌≡◌, ℕ, Bool, true, false, cond, not, ◌||◌, List, [], ◌∷◌, ◌++◌, map, flat_map, filter, Option, Some, None, IsTrue, refl, sym, ap, subst, ◌∙◌, inl, inr, IsPermutation, ⊤, AllByRecursion, list_any, IsPermutation-append, IsPermutation-filter_both, IsPermutation-refl, IsPermutation-sym, IsPermutation-trans, Null, Int, Real, Text, Blob, Row, column, Has, all_from, all_has, has_left, has_right, some_from, some_has, mapped_has, none_from_any, Trees, all-flat_map, all-map, all_of, all_weaker, flat_map-map, flat_map_same_on, is_name, same_name, Rows, AuthFits, Auth, same_name-true, OfHolder, auth, claim, contents, entry, HoldsPart, Part, claim_part, entry_part, is_text, items_if_any, part_rows, HasOneEntry, HaveOneEntry, auth_part, HasSomeOldAuths, rows_of_auth, HasSomeAuths, row_of_claim, rows_of_entries}
+use Rattle.store.proofs.Vocabulary.{◌≡◌, ℕ, Bool, true, false, cond, not, ◌||◌, List, [], ◌∷◌, ◌++◌, map, flat_map, filter, Option, Some, None, IsTrue, refl, sym, ap, subst, ◌∙◌, IsPermutation, AllByRecursion, list_any, IsPermutation-append, IsPermutation-filter_both, IsPermutation-refl, IsPermutation-sym, IsPermutation-trans, Null, Int, Real, Text, Blob, Row, column, Has, all_from, all_has, has_left, has_right, some_from, mapped_has, Trees, all-map, all_weaker, flat_map-map, is_name, same_name, Rows, AuthFits, Auth, OfHolder, auth, claim, contents, entry, HoldsPart, Part, claim_part, entry_part, is_text, items_if_any, part_rows, HasOneEntry, HaveOneEntry, auth_part, HasSomeOldAuths, rows_of_auth, HasSomeAuths, row_of_claim, rows_of_entries, has_filtered, filter_none}
 use Rattle.std.proofs.lemmas.List.Concat.{flat_map-append, flat_map_single}
 use Rattle.sqlite_value.specs.declared.value.Value.{Value}
-use Rattle.store_tables.proofs.PartLemmas.{name_of_itself, names, take_local}
-
--- ---- names, each once
-
--- no two of these names are the same
-abbrev AreApart : List (List ℕ) → Type 0
-AreApart [] = ⊤
-AreApart (k ∷ ks) = AllByRecursion (λ h. same_name k h ≡ false) ks × AreApart ks
-
-record AreOnce (ks : List (List ℕ)) : Type 0 where
-  pub each : List (List ℕ)
-  pub apart : AreApart each
-  pub kept : (k : List ℕ) → Has ks k → Has each k
-
-once_more : (k : List ℕ) (ks : List (List ℕ)) → AreOnce ks → AreOnce (k ∷ ks)
-once_more k ks later = go (list_any (same_name k) later.each) refl
-  where
-    go : (b : Bool) → list_any (same_name k) later.each ≡ b → AreOnce (k ∷ ks)
-    go true is =
-        let it = some_has (same_name k) later.each is in
-        record {
-          each = later.each;
-          apart = later.apart;
-          kept = λ h has. elim has [
-            | inl same ↦ subst (Has later.each) (sym (same ∙ same_name-true k it.0 it.2)) it.1
-            | inr more ↦ later.kept h more
-          ];
-        }
-    go false is = record {
-      each = k ∷ later.each;
-      apart = (none_from_any (same_name k) later.each is, later.apart);
-      kept = λ h has. elim has [ inl same ↦ inl same | inr more ↦ inr (later.kept h more) ];
-    }
-
-once : (ks : List (List ℕ)) → AreOnce ks
-once [] = record { each = []; apart = tt; kept = λ k none. none }
-once (k ∷ ks) = once_more k ks (once ks)
+use Rattle.sqlite_trees.proofs.ListLemmas.{IsPermutation-filter, all-append}
+use Rattle.store_tables.proofs.PartLemmas.{name_of_itself, names, part_turned, take_local, turned_at}
 
 -- ---- rows by name
 
@@ -78,61 +43,72 @@ module _ (place : ℕ) where
   nobody [] all = IsPermutation-refl []
   nobody (c ∷ rows) all = absurd (let never = all.0 in cc)
 
-  -- the rows of each of these names
-  abbrev AreOfEach : (List ℕ → List Row) → List (List ℕ) → List Row → Type 0
-  AreOfEach of ks rows = AllByRecursion (λ h. IsPermutation (of h) (filter (names place h) rows)) ks
-
-  others_stay : (of : List ℕ → List Row) (k : List ℕ) (hs : List (List ℕ)) (rows : List Row) → AllByRecursion (λ h. same_name k h ≡ false) hs
-      → AreOfEach of hs rows → AreOfEach of hs (without k rows)
-  others_stay of k [] rows differ each = tt
-  others_stay of k (h ∷ hs) rows differ each =
-      (subst (IsPermutation (of h)) (sym ((take_local place k (names place k) (λ c is. is)).others h differ.0 rows)) each.0, others_stay of k hs rows differ.1 each.1)
-
-  gathered : (of : List ℕ → List Row) (ks : List (List ℕ)) (rows : List Row) → AreApart ks → AreNamed ks rows → AreOfEach of ks rows
-      → IsPermutation (flat_map of ks) rows
-  gathered of [] rows apart named each = nobody rows named
-  gathered of (k ∷ ks) rows apart named each =
-      with_name k rows _ _ each.0 (gathered of ks (without k rows) apart.1 (named_later k ks rows named) (others_stay of k ks rows apart.0 each.1))
-
 abbrev name_of_row : Part → Row → List ℕ
 name_of_row part c = name_in (column c part.place)
 
--- ---- authorizations of names
+-- where the names of the rows of a part are among these, each row has one of them
+rows_named : (part : Part) (rows : List ℕ → Option Rows) (table : List Row) → HoldsPart part rows table → (ks : List (List ℕ)) → ((c : Row) → Has table c → Has ks (name_of_row part c))
+    → AreNamed part.place ks table
+rows_named part rows table holds ks there =
+    all_from _ table (λ c has. some_from (λ k. names part.place k c) ks (name_of_row part c) (there c has)
+    (name_of_itself (name_of_row part c) (column c part.place) (text_is (column c part.place) (all_has _ table c holds.named has))))
 
-flat_map-flat_map : {X Y Z : Type 0} (g : Y → List Z) (f : X → List Y) (xs : List X) → flat_map g (flat_map f xs) ≡ flat_map (λ x. flat_map g (f x)) xs
-flat_map-flat_map g f [] = refl
-flat_map-flat_map g f (x ∷ xs) = flat_map-append g (f x) (flat_map f xs) ∙ ap (λ l. flat_map g (f x) ++ l) (flat_map-flat_map g f xs)
+-- ---- the rows without those of one holder
+
+abbrev but : List ℕ → (List ℕ → Option Rows) → List ℕ → Option Rows
+but k = turned_at k (λ _. None)
+
+but_holds : (part : Part) (rows : List ℕ → Option Rows) (k : List ℕ) (table : List Row) → HoldsPart part rows table → HoldsPart part (but k rows) (without part.place k table)
+but_holds part rows k table holds =
+    let others : Row → Bool = λ c. not (names part.place k c) in
+    let mine = filter (names part.place k) table in
+    let none : filter others mine ≡ [] = filter_none others mine (all_from _ mine (λ c has. ap not (has_filtered (names part.place k) table c has).1)) in
+    part_turned part rows k (λ _. None) (filter others) table (filter others table) holds (take_local part.place k (names part.place k) (λ c is. is)) (IsPermutation-refl _)
+    (subst (λ l. IsPermutation l (filter others (part_rows part k (rows k)))) none (IsPermutation-filter others _ _ (IsPermutation-sym _ _ (holds.each k))))
+
+still_there : (k : List ℕ) (rows : List ℕ → Option Rows) (h : List ℕ) (r : Rows) → but k rows h ≡ Some r → rows h ≡ Some r
+still_there k rows h r = go (same_name k h)
+  where
+    go : (b : Bool) → cond b None (rows h) ≡ Some r → rows h ≡ Some r
+    go true is = absurd cc
+    go false is = is
+
+-- ---- authorizations of names
 
 abbrev beside : List ℕ → Auth → OfHolder Auth
 beside h x = record { holder = h; row = x }
 
-module _ (rows : List ℕ → Option Rows) where
-  abbrev auths_of : List (List ℕ) → List (OfHolder Auth)
-  auths_of = flat_map (λ h. map (beside h) (items_if_any (λ (r : Rows). r.auths) (rows h)))
+abbrev auths_if_any : Option Rows → List Auth
+auths_if_any = items_if_any (λ (r : Rows). r.auths)
 
-  each_so : (So : OfHolder Auth → Type 0) → ((h : List ℕ) (r : Rows) → rows h ≡ Some r → AllByRecursion (λ x. So (beside h x)) r.auths)
-      → (ks : List (List ℕ)) → AllByRecursion So (auths_of ks)
-  each_so So so ks = all-flat_map So _ ks (all_of _ (λ h. go h (rows h) refl) ks)
+-- those of the first name, and those of the later ones without it
+abbrev auths_of : List (List ℕ) → (List ℕ → Option Rows) → List (OfHolder Auth)
+auths_of [] rows = []
+auths_of (k ∷ ks) rows = map (beside k) (auths_if_any (rows k)) ++ auths_of ks (but k rows)
+
+each_so : (So : OfHolder Auth → Type 0) (ks : List (List ℕ)) (rows : List ℕ → Option Rows)
+    → ((h : List ℕ) (r : Rows) → rows h ≡ Some r → AllByRecursion (λ x. So (beside h x)) r.auths) → AllByRecursion So (auths_of ks rows)
+each_so So [] rows so = tt
+each_so So (k ∷ ks) rows so =
+    all-append So (map (beside k) (auths_if_any (rows k))) (auths_of ks (but k rows)) (go (rows k) refl) (each_so So ks (but k rows) (λ h r is. so h r (still_there k rows h r is)))
+  where
+    go : (o : Option Rows) → rows k ≡ o → AllByRecursion So (map (beside k) (auths_if_any o))
+    go None is = tt
+    go (Some r) is = all-map So (beside k) r.auths (so k r is)
+
+-- where the names are those of a part, their authorizations give its rows
+module _ (part : Part) (shown : OfHolder Auth → List Row) (gives : (h : List ℕ) (r : Rows) → part.rows h r ≡ flat_map (λ x. shown (beside h x)) r.auths) where
+  part_shown : (ks : List (List ℕ)) (rows : List ℕ → Option Rows) (table : List Row) → HoldsPart part rows table → AreNamed part.place ks table
+      → IsPermutation (flat_map shown (auths_of ks rows)) table
+  part_shown [] rows table holds named = nobody part.place table named
+  part_shown (k ∷ ks) rows table holds named =
+      let later = auths_of ks (but k rows) in
+      subst (λ l. IsPermutation l table) (sym (flat_map-append shown (map (beside k) (auths_if_any (rows k))) later ∙ ap (λ l. l ++ flat_map shown later) (go (rows k))))
+      (with_name part.place k table _ _ (holds.each k) (part_shown ks (but k rows) _ (but_holds part rows k table holds) (named_later part.place k ks table named)))
     where
-      go : (h : List ℕ) (o : Option Rows) → rows h ≡ o → AllByRecursion So (map (beside h) (items_if_any (λ (r : Rows). r.auths) o))
-      go h None is = tt
-      go h (Some r) is = all-map So (beside h) r.auths (so h r is)
-
-  -- where the names are those of a part, their authorizations give its rows
-  part_shown : (part : Part) (shown : OfHolder Auth → List Row) → ((h : List ℕ) (r : Rows) → part.rows h r ≡ flat_map (λ x. shown (beside h x)) r.auths)
-      → (table : List Row) → HoldsPart part rows table → (ks : List (List ℕ)) → AreApart ks → ((c : Row) → Has table c → Has ks (name_of_row part c))
-      → IsPermutation (flat_map shown (auths_of ks)) table
-  part_shown part shown gives table holds ks apart there =
-      subst (λ l. IsPermutation l table) (sym (flat_map-flat_map shown _ ks ∙ flat_map_same_on _ _ (λ h. go h (rows h)) ks))
-      (gathered part.place (λ h. part_rows part h (rows h)) ks table apart named (all_of _ holds.each ks))
-    where
-      go : (h : List ℕ) (o : Option Rows) → flat_map shown (map (beside h) (items_if_any (λ (r : Rows). r.auths) o)) ≡ part_rows part h o
-      go h None = refl
-      go h (Some r) = flat_map-map shown (beside h) r.auths ∙ sym (gives h r)
-
-      named : AreNamed part.place ks table
-      named = all_from _ table (λ c has. some_from (λ k. names part.place k c) ks (name_of_row part c) (there c has)
-          (name_of_itself (name_of_row part c) (column c part.place) (text_is (column c part.place) (all_has _ table c holds.named has))))
+      go : (o : Option Rows) → flat_map shown (map (beside k) (auths_if_any o)) ≡ part_rows part k o
+      go None = refl
+      go (Some r) = flat_map-map shown (beside k) r.auths ∙ sym (gives k r)
 
 -- ---- over the tables
 
@@ -141,21 +117,21 @@ abbrev FitNamed : (List ℕ → Option Rows) → Type 0
 FitNamed rows = (h : List ℕ) (r : Rows) → rows h ≡ Some r → IsTrue (is_name h) × AllByRecursion AuthFits r.auths
 
 auths_fit : (rows : List ℕ → Option Rows) → FitNamed rows → (ks : List (List ℕ))
-    → AllByRecursion (λ (x : OfHolder Auth). IsTrue (is_name x.holder) × AuthFits x.row) (auths_of rows ks)
-auths_fit rows fit = each_so rows _ (λ h r is. let it = fit h r is in all_weaker AuthFits _ (λ x fits. (it.0, fits)) r.auths it.1)
+    → AllByRecursion (λ (x : OfHolder Auth). IsTrue (is_name x.holder) × AuthFits x.row) (auths_of ks rows)
+auths_fit rows fit ks = each_so _ ks rows (λ h r is. let it = fit h r is in all_weaker AuthFits _ (λ x fits. (it.0, fits)) r.auths it.1)
 
 pub some_auths :
     (rows : List ℕ → Option Rows) (trees : Trees) → HoldsPart claim_part rows (contents (trees claim.tree)) → HoldsPart entry_part rows (contents (trees entry.tree))
     → contents (trees auth.tree) ≡ [] → FitNamed rows → HasSomeAuths trees
 some_auths rows trees claims entries unused fit = record {
-  auths = auths_of rows holders.each;
-  fit = auths_fit rows fit holders.each;
-  claims_shown = subst (λ l. IsPermutation l (contents (trees claim.tree))) (flat_map_single row_of_claim (auths_of rows holders.each))
-      (part_shown rows claim_part (λ x. row_of_claim x ∷ []) (λ h r. sym (flat_map_single (λ x. row_of_claim (beside h x)) r.auths)) _ claims holders.each holders.apart
-      (λ c has. holders.kept _ (has_left of_claims of_entries _ (mapped_has (name_of_row claim_part) _ c has))));
+  auths = auths_of ks rows;
+  fit = auths_fit rows fit ks;
+  claims_shown = subst (λ l. IsPermutation l (contents (trees claim.tree))) (flat_map_single row_of_claim (auths_of ks rows))
+      (part_shown claim_part (λ x. row_of_claim x ∷ []) (λ h r. sym (flat_map_single (λ x. row_of_claim (beside h x)) r.auths)) ks rows _ claims
+      (rows_named claim_part rows _ claims ks (λ c has. has_left of_claims of_entries _ (mapped_has (name_of_row claim_part) _ c has))));
   entries_shown =
-      part_shown rows entry_part rows_of_entries (λ h r. refl) _ entries holders.each holders.apart
-      (λ c has. holders.kept _ (has_right of_claims of_entries _ (mapped_has (name_of_row entry_part) _ c has)));
+      part_shown entry_part rows_of_entries (λ h r. refl) ks rows _ entries
+      (rows_named entry_part rows _ entries ks (λ c has. has_right of_claims of_entries _ (mapped_has (name_of_row entry_part) _ c has)));
   unused = unused;
 }
   where
@@ -165,20 +141,17 @@ some_auths rows trees claims entries unused fit = record {
     of_entries : List (List ℕ)
     of_entries = map (name_of_row entry_part) (contents (trees entry.tree))
 
-    holders : AreOnce (of_claims ++ of_entries)
-    holders = once (of_claims ++ of_entries)
+    ks : List (List ℕ)
+    ks = of_claims ++ of_entries
 
 pub some_old_auths :
     (rows : List ℕ → Option Rows) (trees : Trees) → HoldsPart auth_part rows (contents (trees auth.tree)) → HaveOneEntry rows → FitNamed rows
     → HasSomeOldAuths trees
-some_old_auths rows trees held one_each fit = record {
-  auths = auths_of rows holders.each;
-  fit = auths_fit rows fit holders.each;
-  one_each = each_so rows (λ x. HasOneEntry x.row) one_each holders.each;
-  shown =
-      part_shown rows auth_part rows_of_auth (λ h r. refl) _ held holders.each holders.apart
-      (λ c has. holders.kept _ (mapped_has (name_of_row auth_part) _ c has));
-}
-  where
-    holders : AreOnce (map (name_of_row auth_part) (contents (trees auth.tree)))
-    holders = once (map (name_of_row auth_part) (contents (trees auth.tree)))
+some_old_auths rows trees held one_each fit =
+    let ks = map (name_of_row auth_part) (contents (trees auth.tree)) in
+    record {
+      auths = auths_of ks rows;
+      fit = auths_fit rows fit ks;
+      one_each = each_so (λ x. HasOneEntry x.row) ks rows one_each;
+      shown = part_shown auth_part rows_of_auth (λ h r. refl) ks rows _ held (rows_named auth_part rows _ held ks (λ c has. mapped_has (name_of_row auth_part) _ c has));
+    }

@@ -1,5 +1,6 @@
 -- The rows of tables that read are in range.
-use Rattle.store.proofs.Vocabulary.{◌≡◌, ℕ, List, [], ◌∷◌, ◌++◌, map, filter, flat_map, Option, Some, None, IsTrue, refl, sym, ap, subst, ◌∙◌, arith, length, ◌≤◌, AllByRecursion, and_from, le-leb, All-from_recursion, recursion_from_All, IsPermutation-sym, Text, Row, column, Trees, all-flat_map, all-map, all_from_map, all-permutation, all_weaker, all-filter, Has, all_from, all_has, has_contained, test_from, mapped_has, fits_max_length, is_name, some_row, Auth, RoaPrefix, Granted, AreEntries, Rows, AuthFits, ExceptionsFit, FileFits, FilesFit, FilterFits, FitIfAny, GrantFits, IsCount, IsU32, VrpFits, EntryRow, OfHolder, claim_of, entry_rows_of, claim_entry, claim_row, entry_row, exception_cells, exception_row, granted_row, holder_row, kind_number, number_cell, claim, contents, entry, slurm, ArePlaced, HoldsExceptions, HoldsFiles, HoldsPart, is_of_file, Part, claim_part, entry_part, granted_part, holder_part, part_rows, claim_row_once, entry_row_once, HasSomeAuths, ShowsException, ShowsHolder, ShowsOfHolder, row_of_claim, rows_of_entries, RowsInRangeGive, RowsThatReadFit, gives_each, claim_fits, entries_of_fit}
+use Rattle.store.proofs.Vocabulary.{◌≡◌, ℕ, List, ◌++◌, map, filter, Option, Some, None, IsTrue, refl, sym, ap, subst, ◌∙◌, arith, length, ◌≤◌, AllByRecursion, and_from, le-leb, All-from_recursion, recursion_from_All, IsPermutation-sym, Text, Row, column, Trees, all-map, all_from_map, all-filter, Has, all_from, all_has, has_contained, test_from, mapped_has, fits_max_length, is_name, some_row, Auth, RoaPrefix, Granted, AreEntries, Rows, AuthFits, ExceptionsFit, FileFits, FilesFit, FilterFits, FitIfAny, GrantFits, IsCount, IsU32, VrpFits, EntryRow, claim_of, entry_rows_of, claim_entry, claim_row, entry_row, exception_cells, exception_row, granted_row, holder_row, kind_number, number_cell, claim, contents, entry, slurm, ArePlaced, HoldsExceptions, HoldsFiles, is_of_file, claim_part, entry_part, granted_part, holder_part, claim_row_once, entry_row_once, HasSomeAuths, ShowsException, ShowsHolder, ShowsOfHolder, row_of_claim, rows_of_entries, RowsInRangeGive, RowsThatReadFit, gives_each, claim_fits, entries_of_fit, inl, TablesHold, TablesRead, CharterSets, AllRows, in_table, has_entry_row, has_permuted, has_mapped, RowsFit, has_left, has_right}
+use Rattle.store_tables.proofs.SomeRow.{has_joined}
 use Rattle.slurm.specs.Exceptions.{Exceptions}
 use Rattle.slurm.specs.SlurmSets.{exceptions_named}
 use Rattle.slurm.specs.declared.set.NamedSlurm.{NamedSlurm}
@@ -15,89 +16,57 @@ use Rattle.store_tables.proofs.CellsOnce.{one_grant}
 use Rattle.store_tables.proofs.HeldExceptions.{held_number}
 use Rattle.store_transactions.specs.Files.{AreFewOfEach}
 
--- what is so of each row of a table is so of each row of a holder in it
-part_shows : (part : Part) (rows : List ℕ → Option Rows) (table : List Row) (So : Row → Type 0)
-    → HoldsPart part rows table → AllByRecursion So table → (h : List ℕ) → AllByRecursion So (part_rows part h (rows h))
-part_shows part rows table So holds all h =
-    all-permutation So _ _ (IsPermutation-sym _ _ (holds.each h)) (all-filter So _ table all)
-
 -- ---- rows of holders
 
-counters_fit : (h : List ℕ) (r : Rows) → ShowsHolder (holder_row h r.granted r.created) → IsCount r.granted × IsCount r.created
-counters_fit h r (k, granted, created, named, some, more, is) =
-    let first : r.granted ≡ granted = cc in
-    let second : r.created ≡ created = cc in
-    (subst IsCount (sym first) some, subst IsCount (sym second) more)
+-- the row of a claim in the table of tables that read shows one in its range, and that of an entry too
+claim_in_range : (trees : Trees) → HasSomeAuths trees → (h : List ℕ) (c : Claim) → Has (contents (trees claim.tree)) (claim_row h c) → ClaimFits c
+claim_in_range trees read h c has =
+    let (x, among, is) = has_mapped row_of_claim read.auths (claim_row h c) (has_permuted _ _ _ (IsPermutation-sym _ _ read.claims_shown) has) in
+    subst ClaimFits (sym (claim_row_once h x.holder c (claim_of x.row) is).1) (claim_fits x.row (all_has _ read.auths x read.fit among).1)
 
-grant_fits : (h : List ℕ) (g : Granted) → ShowsOfHolder granted_row GrantFits (granted_row h g) → GrantFits g
-grant_fits h g (k, shown, fits, is) = subst GrantFits (sym (one_grant g shown cc)) fits
+entry_in_range : (trees : Trees) → HasSomeAuths trees → (h : List ℕ) (d : EntryRow) → Has (contents (trees entry.tree)) (entry_row h d) → EntryRowFits d
+entry_in_range trees read h d has =
+    let (x, among, in_rows) = has_joined rows_of_entries read.auths (entry_row h d) (has_permuted _ _ _ (IsPermutation-sym _ _ read.entries_shown) has) in
+    let (e, in_entries, is) = has_mapped (entry_row x.holder) (entry_rows_of x.row) (entry_row h d) in_rows in
+    subst EntryRowFits (sym (entry_row_once h x.holder d e is).1) (all_has EntryRowFits (entry_rows_of x.row) e (entries_of_fit x.row (all_has _ read.auths x read.fit among).1) in_entries)
 
--- the rows of claims show claims, and those of entries entries
-claims_shown : (trees : Trees) → HasSomeAuths trees → AllByRecursion (ShowsOfHolder claim_row ClaimFits) (contents (trees claim.tree))
-claims_shown trees read =
-    all-permutation (ShowsOfHolder claim_row ClaimFits) _ _ read.claims_shown
-    (all-map (ShowsOfHolder claim_row ClaimFits) row_of_claim read.auths
-    (all_weaker _ (λ (x : OfHolder Auth). ShowsOfHolder claim_row ClaimFits (row_of_claim x)) (λ x fit. (x.holder, claim_of x.row, claim_fits x.row fit.1, refl)) read.auths read.fit))
+module _ (charter : CharterSets) (rows : AllRows) (trees : Trees) (holds : TablesHold charter rows trees) (read : TablesRead trees) (h : List ℕ) (r : Rows) (of : rows.of_holder h ≡ Some r) where
+  counters_fit : IsCount r.granted × IsCount r.created
+  counters_fit =
+      let (k, granted, created, named, some, more, is) = all_has ShowsHolder _ _ read.holders (in_table holder_part rows.of_holder _ holds.holders (holder_row h r.granted r.created) h r of (inl refl)) in
+      let first : r.granted ≡ granted = cc in
+      let second : r.created ≡ created = cc in
+      (subst IsCount (sym first) some, subst IsCount (sym second) more)
 
-entries_shown : (trees : Trees) → HasSomeAuths trees → AllByRecursion (ShowsOfHolder entry_row EntryRowFits) (contents (trees entry.tree))
-entries_shown trees read =
-    all-permutation (ShowsOfHolder entry_row EntryRowFits) _ _ read.entries_shown
-    (all-flat_map (ShowsOfHolder entry_row EntryRowFits) rows_of_entries read.auths
-    (all_weaker _ (λ (x : OfHolder Auth). AllByRecursion (ShowsOfHolder entry_row EntryRowFits) (rows_of_entries x)) (λ x fit.
-    all-map (ShowsOfHolder entry_row EntryRowFits) (entry_row x.holder) (entry_rows_of x.row)
-    (all_weaker EntryRowFits (λ r. ShowsOfHolder entry_row EntryRowFits (entry_row x.holder r)) (λ r fits. (x.holder, r, fits, refl)) (entry_rows_of x.row) (entries_of_fit x.row fit.1))) read.auths read.fit))
+  grant_fits : (g : Granted) → Has r.grants g → GrantFits g
+  grant_fits g has =
+      let row = in_table granted_part rows.of_holder _ holds.grants (granted_row h g) h r of (mapped_has (granted_row h) r.grants g has) in
+      let (k, shown, fits, is) = all_has (ShowsOfHolder granted_row GrantFits) _ _ read.grants row in
+      subst GrantFits (sym (one_grant g shown cc)) fits
 
-claim_in_range : (h : List ℕ) (c : Claim) → ShowsOfHolder claim_row ClaimFits (claim_row h c) → ClaimFits c
-claim_in_range h c (k, shown, fits, is) = subst ClaimFits (sym (claim_row_once h k c shown is).1) fits
+  auth_fits : (x : Auth) → Has r.auths x → AuthFits x
+  auth_fits x has =
+      let row = in_table claim_part rows.of_holder _ holds.claims (claim_row h (claim_of x)) h r of (mapped_has (λ y. claim_row h (claim_of y)) r.auths x has) in
+      let claim = claim_in_range trees read.authorizations h (claim_of x) row in
+      record {
+        number = claim.number;
+        asn = claim.asn;
+        entries = all_has (λ (y : Auth). AreEntries y.entries) r.auths x (holds.have_entries h r of) has;
+        lengths = test_from (λ (e : RoaPrefix). fits_max_length e.prefix e.max) x.entries (λ e in_x.
+            let its = in_table entry_part rows.of_holder _ holds.entries _ h r of (has_entry_row h r x e has in_x) in
+            let range = (entry_in_range trees read.authorizations h (claim_entry (claim_of x) e) its).max in
+            and_from _ _ (le-leb _ _ range.0) (le-leb _ _ range.1));
+        from = claim.from;
+        until = claim.until;
+      }
 
-entry_in_range : (h : List ℕ) (d : EntryRow) → ShowsOfHolder entry_row EntryRowFits (entry_row h d) → EntryRowFits d
-entry_in_range h d (k, shown, fits, is) = subst EntryRowFits (sym (entry_row_once h k d shown is).1) fits
-
-auth_fits : (h : List ℕ) (x : Auth) → AreEntries x.entries → ShowsOfHolder claim_row ClaimFits (claim_row h (claim_of x))
-    → AllByRecursion (ShowsOfHolder entry_row EntryRowFits) (map (entry_row h) (entry_rows_of x)) → AuthFits x
-auth_fits h x are shows rows =
-    let claim = claim_in_range h (claim_of x) shows in
-    record {
-      number = claim.number;
-      asn = claim.asn;
-      entries = are;
-      lengths = test_from (λ (e : RoaPrefix). fits_max_length e.prefix e.max) x.entries (λ e has.
-          let row = mapped_has (entry_row h) (entry_rows_of x) (claim_entry (claim_of x) e) (mapped_has (claim_entry (claim_of x)) x.entries e has) in
-          let range = (entry_in_range h (claim_entry (claim_of x) e) (all_has (ShowsOfHolder entry_row EntryRowFits) _ (entry_row h (claim_entry (claim_of x) e)) rows row)).max in
-          and_from _ _ (le-leb _ _ range.0) (le-leb _ _ range.1));
-      from = claim.from;
-      until = claim.until;
-    }
-
-first_part : {X : Type 0} (P : X → Type 0) (xs ys : List X) → AllByRecursion P (xs ++ ys) → AllByRecursion P xs × AllByRecursion P ys
-first_part P [] ys all = (tt, all)
-first_part P (x ∷ xs) ys all = let rest = first_part P xs ys all.1 in ((all.0, rest.0), rest.1)
-
-auths_fit : (h : List ℕ) (xs : List Auth) → AllByRecursion (λ x. AreEntries x.entries) xs → AllByRecursion (ShowsOfHolder claim_row ClaimFits) (map (λ x. claim_row h (claim_of x)) xs)
-    → AllByRecursion (ShowsOfHolder entry_row EntryRowFits) (flat_map (λ x. map (entry_row h) (entry_rows_of x)) xs) → AllByRecursion AuthFits xs
-auths_fit h [] are claims entries = tt
-auths_fit h (x ∷ xs) are claims entries =
-    let both = first_part (ShowsOfHolder entry_row EntryRowFits) (map (entry_row h) (entry_rows_of x)) (flat_map (λ y. map (entry_row h) (entry_rows_of y)) xs) entries in
-    (auth_fits h x are.0 claims.0 both.0, auths_fit h xs are.1 claims.1 both.1)
-
-each_fits : {X : Type 0} (row : X → Row) (So : Row → Type 0) (fits : X → Type 0) → ((x : X) → So (row x) → fits x)
-    → (xs : List X) → AllByRecursion So (map row xs) → AllByRecursion fits xs
-each_fits row So fits one [] all = tt
-each_fits row So fits one (x ∷ xs) all = (one x all.0, each_fits row So fits one xs all.1)
-
-holder_fits : (h : List ℕ) (o : Option Rows) → ((r : Rows) → o ≡ Some r → AllByRecursion (λ x. AreEntries x.entries) r.auths)
-    → AllByRecursion ShowsHolder (part_rows holder_part h o) → AllByRecursion (ShowsOfHolder granted_row GrantFits) (part_rows granted_part h o)
-    → AllByRecursion (ShowsOfHolder claim_row ClaimFits) (part_rows claim_part h o) → AllByRecursion (ShowsOfHolder entry_row EntryRowFits) (part_rows entry_part h o)
-    → FitIfAny o
-holder_fits h None are holders grants claims entries = tt
-holder_fits h (Some r) are holders grants claims entries =
-    let counters = counters_fit h r holders.0 in
-    record {
-      granted = counters.0;
-      created = counters.1;
-      grants = All-from_recursion GrantFits r.grants (each_fits (granted_row h) _ GrantFits (grant_fits h) r.grants grants);
-      auths = All-from_recursion AuthFits r.auths (auths_fit h r.auths (are r refl) claims entries);
-    }
+  holder_fits : RowsFit r
+  holder_fits = record {
+    granted = counters_fit.0;
+    created = counters_fit.1;
+    grants = All-from_recursion GrantFits r.grants (all_from GrantFits r.grants grant_fits);
+    auths = All-from_recursion AuthFits r.auths (all_from AuthFits r.auths auth_fits);
+  }
 
 -- ---- exceptions
 
@@ -121,32 +90,23 @@ exception_fits r (shown, fits, is) =
     let cells : exception_cells r.exception ≡ exception_cells shown.exception = cc in
     same_exception r.exception shown.exception kind cells fits.exception
 
--- the exceptions that such rows bring fit
-brought_fit : {X : Type 0} (of : X → Exception) (fits : X → Type 0) → ((x : X) → ExceptionFits (of x) → fits x)
-    → (name : List ℕ) (xs : List X) (rows : List ExceptionRow) → ArePlaced name (map of xs) rows
-    → AllByRecursion (λ (r : ExceptionRow). ExceptionFits r.exception) rows → AllByRecursion fits xs
-brought_fit of fits one name xs rows placed all =
-    go xs (subst (AllByRecursion ExceptionFits) placed.brought (mapped rows all))
-  where
-    mapped : (rows : List ExceptionRow) → AllByRecursion (λ (r : ExceptionRow). ExceptionFits r.exception) rows
-        → AllByRecursion ExceptionFits (map (λ (r : ExceptionRow). r.exception) rows)
-    mapped [] all = tt
-    mapped (r ∷ rows) all = (all.0, mapped rows all.1)
+module _ (name : List ℕ) (exceptions : Exceptions) (table : List Row) (holds : HoldsExceptions name exceptions table) (all : AllByRecursion ShowsException (map exception_columns table)) where
+  -- an exception that rows of the table bring is in its range
+  brought_fits : (xs : List Exception) (rows : List ExceptionRow) → ArePlaced name xs rows → ((r : ExceptionRow) → Has rows r → Has (holds.filters ++ holds.assertions) r)
+      → (e : Exception) → Has xs e → ExceptionFits e
+  brought_fits xs rows placed among e has =
+      let (r, in_rows, is) = has_mapped (λ (r : ExceptionRow). r.exception) rows e (subst (λ l. Has l e) (sym placed.brought) has) in
+      let shown = all_has ShowsException _ (exception_row r) all (has_permuted _ _ _ holds.rows (mapped_has exception_row _ r (among r in_rows))) in
+      subst ExceptionFits (sym is) (exception_fits r shown)
 
-    go : (xs : List _) → AllByRecursion ExceptionFits (map of xs) → AllByRecursion fits xs
-    go [] all = tt
-    go (x ∷ xs) all = (one x all.0, go xs all.1)
-
-exceptions_fit : (name : List ℕ) (exceptions : Exceptions) (table : List Row) → HoldsExceptions name exceptions table
-    → AllByRecursion ShowsException (map exception_columns table) → length table ≤ MOST_ENTRIES → ExceptionsFit exceptions
-exceptions_fit name exceptions table holds all few =
-    let shown = all-permutation ShowsException _ _ (IsPermutation-sym _ _ holds.rows) all in
-    let both = first_part _ holds.filters holds.assertions (each_fits exception_row _ (λ (r : ExceptionRow). ExceptionFits r.exception) exception_fits (holds.filters ++ holds.assertions) shown) in
-    record {
-      number = omega (arith, few, held_number name exceptions table holds);
-      filters = All-from_recursion FilterFits exceptions.filters (brought_fit FilterOf FilterFits (λ f fits. fits) name exceptions.filters holds.filters holds.filters_placed both.0);
-      assertions = All-from_recursion VrpFits exceptions.assertions (brought_fit Assertion VrpFits (λ v fits. fits) name exceptions.assertions holds.assertions holds.assertions_placed both.1);
-    }
+  exceptions_fit : length table ≤ MOST_ENTRIES → ExceptionsFit exceptions
+  exceptions_fit few = record {
+    number = omega (arith, few, held_number name exceptions table holds);
+    filters = All-from_recursion FilterFits exceptions.filters (all_from FilterFits exceptions.filters (λ f has.
+        brought_fits _ _ holds.filters_placed (has_left holds.filters holds.assertions) (FilterOf f) (mapped_has FilterOf exceptions.filters f has)));
+    assertions = All-from_recursion VrpFits exceptions.assertions (all_from VrpFits exceptions.assertions (λ v has.
+        brought_fits _ _ holds.assertions_placed (has_right holds.filters holds.assertions) (Assertion v) (mapped_has Assertion exceptions.assertions v has)));
+  }
 
 module _ (files : List NamedSlurm) (table : List Row) (holds : HoldsFiles files table) (all : AllByRecursion ShowsException (map exception_columns table)) (few : AreFewOfEach table) where
   name_fits : (f : NamedSlurm) → Has files f → IsTrue (is_name f.name)
@@ -169,14 +129,11 @@ module _ (files : List NamedSlurm) (table : List Row) (holds : HoldsFiles files 
   files_fit = All-from_recursion FileFits files (all_from FileFits files file_fits)
 
 pub rows_fit : RowsThatReadFit
-rows_fit charter rows trees holds read = (
-  (λ h. holder_fits h (rows.of_holder h) (λ r of. holds.have_entries h r of)
-      (part_shows holder_part rows.of_holder _ ShowsHolder holds.holders read.holders h)
-      (part_shows granted_part rows.of_holder _ (ShowsOfHolder granted_row GrantFits) holds.grants read.grants h)
-      (part_shows claim_part rows.of_holder _ (ShowsOfHolder claim_row ClaimFits) holds.claims (claims_shown trees read.authorizations) h)
-      (part_shows entry_part rows.of_holder _ (ShowsOfHolder entry_row EntryRowFits) holds.entries (entries_shown trees read.authorizations) h)),
-  files_fit rows.files (contents (trees slurm.tree)) holds.files read.exceptions read.exceptions_number,
-)
+rows_fit charter rows trees holds read = (λ h. go h (rows.of_holder h) refl, files_fit rows.files (contents (trees slurm.tree)) holds.files read.exceptions read.exceptions_number)
+  where
+    go : (h : List ℕ) (o : Option Rows) → rows.of_holder h ≡ o → FitIfAny o
+    go h None of = tt
+    go h (Some r) of = holder_fits charter rows trees holds read h r of
 
 pub rows_give : RowsInRangeGive
 rows_give rows day fit h r x e there has in_x from until =
