@@ -48,7 +48,7 @@ pub use Rattle.registry.specs.declared.limits.TheConstants.{MOST_AUTHORIZATIONS}
 pub use Rattle.registry.specs.declared.rows.HolderRows.{HolderRows}
 pub use Rattle.store_open.specs.OldTablesRead.{HasSomeOldAuths, OldTablesRead, rows_of_auth}
 pub use Rattle.store_open.specs.Opening.{HasOtherNames, OpensDesk, has_new_table}
-pub use Rattle.store_open.specs.TablesRead.{HasSomeAuths, HasSomeCharter, ShowsException, ShowsHolder, ShowsOfHolder, TablesRead, row_of_claim, rows_of_entries}
+pub use Rattle.store_open.specs.TablesRead.{HasSomeAuths, OthersRead, ShowsException, ShowsHolder, ShowsOfHolder, TablesRead, row_of_claim, rows_of_entries}
 pub use Rattle.store_read.proofs.GivenAuths.{any_and, any_each, any_kept, created_shown, gives_from, gives_none, gives_out_of}
 pub use Rattle.store_read.proofs.Giving.{cells_of_vrp, gives_each, taken_iff}
 pub use Rattle.store_read.proofs.InTurn.{earlier, later, unfit_later}

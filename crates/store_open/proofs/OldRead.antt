@@ -1,5 +1,5 @@
 -- Where the tables of schema 1 read, their rows can be moved, and the tables that they are moved to read.
-use Rattle.store_open.proofs.Vocabulary.{◌≡◌, inl, List, [], ◌∷◌, map, flat_map, refl, subst, ◌∙◌, arith, IsPermutation, AllByRecursion, Contains-permutation, IsPermutation-map, IsPermutation-trans, Trees, all_of, all-flat_map, all-map, all-permutation, flat_map_same_on, map-flat_map, contains_had, GrantFits, Auth, OfHolder, claim_of, operator_row, prefix_cells, holding_row, granted_row, schema_row, exception_columns, meta, auth, contents, HasOneEntry, auth_row, claim_columns, entry_columns, AreAuthRows, AreMovable, IsMoved, claim_turned, entry_turned, joined_ones, stays, rows_of_auth, HasSomeOldAuths, OldTablesRead, rows_of_entries, row_of_claim, HasSomeAuths, HasSomeCharter, ShowsHolder, ShowsOfHolder, ShowsException, TablesRead, AreFewOfEach}
+use Rattle.store_open.proofs.Vocabulary.{◌≡◌, inl, List, [], ◌∷◌, map, flat_map, refl, subst, ◌∙◌, arith, IsPermutation, AllByRecursion, Contains-permutation, IsPermutation-map, IsPermutation-trans, Trees, all_of, all-flat_map, all-map, all-permutation, flat_map_same_on, map-flat_map, contains_had, GrantFits, Auth, OfHolder, claim_of, operator_row, prefix_cells, holding_row, granted_row, schema_row, exception_columns, meta, auth, contents, HasOneEntry, auth_row, claim_columns, entry_columns, AreAuthRows, AreMovable, IsMoved, claim_turned, entry_turned, joined_ones, stays, rows_of_auth, HasSomeOldAuths, OldTablesRead, rows_of_entries, row_of_claim, HasSomeAuths, ShowsHolder, ShowsOfHolder, ShowsException, TablesRead, AreFewOfEach, OthersRead}
 use Rattle.std.specs.Bool.{⊤}
 
 rows_are_auth_rows : (auths : List (OfHolder Auth)) → AreAuthRows (flat_map rows_of_auth auths)
@@ -22,16 +22,20 @@ entries_turned : (auths : List (OfHolder Auth)) → map entry_columns (flat_map 
 entries_turned auths = map-flat_map entry_columns rows_of_auth auths ∙ flat_map_same_on _ _ (λ x. entry_turned x.holder x.row) auths
 
 module _ (old new : Trees) (moved : IsMoved old new) where
-  charter_stays : HasSomeCharter old → HasSomeCharter new
-  charter_stays c = record {
-    operators = c.operators;
-    prefixes = c.prefixes;
-    named = c.named;
-    number = c.number;
-    operators_once = c.operators_once;
-    prefixes_once = c.prefixes_once;
-    operators_shown = stays old new moved (IsPermutation (map operator_row c.operators)) 2 refl (omega arith) (omega arith) c.operators_shown;
-    prefixes_shown = stays old new moved (IsPermutation (map prefix_cells c.prefixes)) 4 refl (omega arith) (omega arith) c.prefixes_shown;
+  others_stay : OthersRead old → OthersRead new
+  others_stay o = record {
+    charter = record {
+      sets = o.charter.sets;
+      valid = o.charter.valid;
+      named = o.charter.named;
+      operators_shown = stays old new moved (IsPermutation (map operator_row o.charter.sets.operators)) 2 refl (omega arith) (omega arith) o.charter.operators_shown;
+      pool_shown = stays old new moved (IsPermutation (map prefix_cells o.charter.sets.pool)) 4 refl (omega arith) (omega arith) o.charter.pool_shown;
+    };
+    holders = stays old new moved (AllByRecursion ShowsHolder) 6 refl (omega arith) (omega arith) o.holders;
+    holdings = stays old new moved (AllByRecursion (ShowsOfHolder holding_row (λ _. ⊤))) 8 refl (omega arith) (omega arith) o.holdings;
+    grants = stays old new moved (AllByRecursion (ShowsOfHolder granted_row GrantFits)) 10 refl (omega arith) (omega arith) o.grants;
+    exceptions = stays old new moved (λ rows. AllByRecursion ShowsException (map exception_columns rows)) 15 refl (omega arith) (omega arith) o.exceptions;
+    exceptions_number = stays old new moved AreFewOfEach 15 refl (omega arith) (omega arith) o.exceptions_number;
   }
 
   auths_moved : HasSomeOldAuths old → HasSomeAuths new
@@ -48,11 +52,6 @@ module _ (old new : Trees) (moved : IsMoved old new) where
   pub moved_read : OldTablesRead old → TablesRead new
   moved_read reads = record {
     schema = Contains-permutation (schema_row ∷ []) (contents (new meta.tree)) schema_row moved.number (contains_had (schema_row ∷ []) schema_row (inl refl));
-    charter = charter_stays reads.charter;
-    holders = stays old new moved (AllByRecursion ShowsHolder) 6 refl (omega arith) (omega arith) reads.holders;
-    holdings = stays old new moved (AllByRecursion (ShowsOfHolder holding_row (λ _. ⊤))) 8 refl (omega arith) (omega arith) reads.holdings;
-    grants = stays old new moved (AllByRecursion (ShowsOfHolder granted_row GrantFits)) 10 refl (omega arith) (omega arith) reads.grants;
+    others = others_stay reads.others;
     authorizations = auths_moved reads.authorizations;
-    exceptions = stays old new moved (λ rows. AllByRecursion ShowsException (map exception_columns rows)) 15 refl (omega arith) (omega arith) reads.exceptions;
-    exceptions_number = stays old new moved AreFewOfEach 15 refl (omega arith) (omega arith) reads.exceptions_number;
   }

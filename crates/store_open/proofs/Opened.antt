@@ -1,5 +1,5 @@
 -- From what the queries of all rows show to what the tables hold.
-use Rattle.store_open.proofs.Vocabulary.{◌≡◌, ℕ, ◌+◌, ◌<◌, true, false, List, [], ◌∷◌, ◌++◌, map, filter, drop, length, codes, slice_get, Some, None, refl, inl, inr, sym, ap, subst, ◌∙◌, is_eq, arith, IsPermutation, ⊤, AllByRecursion, both_ways, length-map, Contains-permutation, IsPermutation-sym, Database, Value, Text, Row, column, value_cmp, rowid, IsAscending, is_int, all_weaker, all_both, all-map, all-permutation, all_from_map, ascending-filter, filter-map, Has, all_has, contains_had, has_filtered, mapped_has, IsSound, Span, CharterSets, IsCharter, Auth, Granted, GrantFits, schema_row, operator_row, prefix_cells, span_cells, grant_cells, holder_row, holding_row, granted_row, first_columns, desk_tables, holder_reference, required_column, meta, operator, pool, holder, holding, granted, slurm, claim, entry, contents, columns, IsTree, AreTrees, names, name_of-true, name_of_itself, all_columns, first_of_all, OfHolder, ShowsSome, ShowsHolder, ShowsOfHolder, HoldSomeRows, TablesRead, HasSomeAuths, row_of_claim, shown_in, ShowsNumber, ShowsCharter, ShowExceptions, ShowHolders, ShowAuths, all_whole, all_referred, once, equal_texts, at_claim, column_after, ReadAndHold, ShowsOthers, auth}
+use Rattle.store_open.proofs.Vocabulary.{◌≡◌, ℕ, ◌+◌, ◌<◌, true, false, List, [], ◌∷◌, ◌++◌, map, filter, drop, length, codes, slice_get, Some, None, refl, inl, inr, sym, ap, subst, ◌∙◌, is_eq, arith, IsPermutation, ⊤, AllByRecursion, both_ways, length-map, Contains-permutation, IsPermutation-sym, Database, Value, Text, Row, column, value_cmp, rowid, IsAscending, is_int, all_weaker, all_both, all-map, all-permutation, all_from_map, ascending-filter, filter-map, Has, all_has, contains_had, has_filtered, mapped_has, IsSound, Span, CharterSets, IsCharter, Auth, Granted, GrantFits, schema_row, operator_row, prefix_cells, span_cells, grant_cells, holder_row, holding_row, granted_row, first_columns, desk_tables, holder_reference, required_column, meta, operator, pool, holder, holding, granted, slurm, claim, entry, contents, columns, IsTree, AreTrees, names, name_of-true, name_of_itself, all_columns, first_of_all, OfHolder, ShowsSome, ShowsHolder, HoldSomeRows, TablesRead, HasSomeAuths, row_of_claim, shown_in, ShowsNumber, ShowsCharter, ShowExceptions, ShowHolders, ShowAuths, all_whole, all_referred, once, equal_texts, at_claim, column_after, ReadAndHold, ShowsOthers, auth}
 use Rattle.sqlite_value.specs.declared.keys.Collation.TheVariants.{Binary}
 use Rattle.sqlite_schema.specs.declared.schema.Column.{Column}
 use Rattle.sqlite_schema.specs.declared.schema.Kind.TheVariants.{Integer, Text as OfText}
@@ -34,7 +34,7 @@ module _ (db : Database) (tables : db.schema.tables ≡ desk_tables) (sound : Is
     holders_read = subst (AllByRecursion ShowsHolder) (all_shown holder 2 (required_column (codes "auths") Integer) at_holder refl refl refl refl) shown.holders.each
 
     made : AllByRecursion Makes holders
-    made = all_weaker ShowsHolder Makes (λ c it. (it.0, (it.1, it.2), it.6)) holders holders_read
+    made = all_weaker ShowsHolder Makes (λ c it. (it.0.name, (it.0.counters.granted, it.0.counters.created), it.2)) holders holders_read
 
     -- ---- nobody is registered twice
 
@@ -73,9 +73,8 @@ module _ (db : Database) (tables : db.schema.tables ≡ desk_tables) (sound : Is
       abbrev Refers : Row → Type 0
       Refers r = (p : Row) × Has (db.trees holder.tree) p × (equal Binary (column p 1) (column r (place + 1)) ≡ true)
 
-      -- it shows a value beside the name of a registered holder, and the value is in its type's range
       abbrev IsReadRow : Row → Type 0
-      IsReadRow c = IsPartRow X place row holders c × ShowsOfHolder row fits c
+      IsReadRow = IsPartRow X fits row holders
 
       part_row : (r : Row) → length (drop 1 r) ≡ last + 1 → Refers r → ShowsSome cells fits (columns places (drop 1 r)) → IsReadRow (drop 1 r)
       part_row r whole parent value =
@@ -88,7 +87,7 @@ module _ (db : Database) (tables : db.schema.tables ≡ desk_tables) (sound : Is
           let held = name_of-true it.0 (column r (place + 1)) (sym (equal_texts it.0 (column r (place + 1))) ∙ sym same ∙ parent.2) in
           let after : column r (place + 1) ≡ column (drop 1 r) place = subst (λ n. column r n ≡ column (drop 1 r) place) (omega arith) (column_after r place) in
           let is = joins (drop 1 r) it.0 value.0 whole (sym after ∙ held) value.2 in
-          (record { name = it.0; value = value.0; is = is; registered = (p, among, name) }, (it.0, value.0, value.1, is))
+          record { name = it.0; value = value.0; in_range = value.1; is = is; registered = (p, among, name) }
 
       part_rows_of : AllByRecursion IsReadRow (contents (db.trees t.tree))
       part_rows_of =
@@ -100,23 +99,17 @@ module _ (db : Database) (tables : db.schema.tables ≡ desk_tables) (sound : Is
           all-map IsReadRow (drop 1) rows
           (all_both (λ r. (length (drop 1 r) ≡ last + 1) × Refers r) (λ r. ShowsSome cells fits (columns places (drop 1 r))) _ (λ r it value. part_row r it.0 it.1 value) rows both values)
 
-    held_read : AllByRecursion (λ c. IsPartRow Span 3 holding_row holders c × ShowsOfHolder holding_row (λ _. ⊤) c) (contents (db.trees holding.tree))
-    held_read =
+    held : AllByRecursion (IsPartRow Span (λ _. ⊤) holding_row holders) (contents (db.trees holding.tree))
+    held =
         part_rows_of holding (inr (inr (inr (inr (inl refl))))) refl 3 (required_column (codes "holder") OfText) refl refl refl 3 (required_column (codes "holder") OfText) refl refl refl
         (0 ∷ 1 ∷ 2 ∷ []) span_cells (λ _. ⊤) holding_row
         (λ c h s whole name shows. all_columns 4 c whole ∙ (λ i. shows i ++ name i ∷ [])) shown.holdings.each
 
-    held : AllByRecursion (IsPartRow Span 3 holding_row holders) (contents (db.trees holding.tree))
-    held = all_weaker _ _ (λ c both. both.0) (contents (db.trees holding.tree)) held_read
-
-    given_read : AllByRecursion (λ c. IsPartRow Granted 0 granted_row holders c × ShowsOfHolder granted_row GrantFits c) (contents (db.trees granted.tree))
-    given_read =
+    given : AllByRecursion (IsPartRow Granted GrantFits granted_row holders) (contents (db.trees granted.tree))
+    given =
         part_rows_of granted (inr (inr (inr (inr (inr (inl refl)))))) refl 7 (required_column (codes "until") Integer) refl refl refl 0 (required_column (codes "holder") OfText) refl refl refl
         (1 ∷ 2 ∷ 3 ∷ 4 ∷ 5 ∷ 6 ∷ 7 ∷ []) grant_cells GrantFits granted_row
         (λ c h g whole name shows. all_columns 8 c whole ∙ (λ i. name i ∷ shows i)) shown.grants.each
-
-    given : AllByRecursion (IsPartRow Granted 0 granted_row holders) (contents (db.trees granted.tree))
-    given = all_weaker _ _ (λ c both. both.0) (contents (db.trees granted.tree)) given_read
 
     -- ---- authorizations
 
@@ -168,22 +161,15 @@ module _ (db : Database) (tables : db.schema.tables ≡ desk_tables) (sound : Is
       tables_read : IsCharter charter → TablesRead db.trees
       tables_read sets = record {
         schema = Contains-permutation (schema_row ∷ []) (contents (db.trees meta.tree)) schema_row schema_only (contains_had (schema_row ∷ []) schema_row (inl refl));
-        charter = record {
-          operators = charter.operators;
-          prefixes = charter.pool;
-          named = chartered.named;
-          number = sets.number;
-          operators_once = sets.operators_once;
-          prefixes_once = sets.pool_once;
-          operators_shown = operators_only;
-          prefixes_shown = pool_only;
+        others = record {
+          charter = record { sets = charter; valid = sets; named = chartered.named; operators_shown = operators_only; pool_shown = pool_only };
+          holders = holders_read;
+          holdings = all_weaker _ _ (λ c it. (it.name, it.value, it.in_range, it.is)) (contents (db.trees holding.tree)) held;
+          grants = all_weaker _ _ (λ c it. (it.name, it.value, it.in_range, it.is)) (contents (db.trees granted.tree)) given;
+          exceptions = excepted.rows.each;
+          exceptions_number = files_few excepted.files.0 (contents (db.trees slurm.tree)) excepted.files.1 excepted.files.2;
         };
-        holders = holders_read;
-        holdings = all_weaker _ _ (λ c both. both.1) (contents (db.trees holding.tree)) held_read;
-        grants = all_weaker _ _ (λ c both. both.1) (contents (db.trees granted.tree)) given_read;
         authorizations = have_auths authorized;
-        exceptions = excepted.rows.each;
-        exceptions_number = files_few excepted.files.0 (contents (db.trees slurm.tree)) excepted.files.1 excepted.files.2;
       }
 
       some_rows : HoldSomeRows charter db.trees

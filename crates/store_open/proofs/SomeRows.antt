@@ -1,5 +1,5 @@
 -- The rows of every holder that tables hold whose rows show values.
-use Rattle.store_open.proofs.Vocabulary.{◌≡◌, ◌≢◌, ℕ, ◌<◌, Bool, true, false, cond, List, [], ◌∷◌, ◌++◌, map, flat_map, filter, length, Option, Some, None, refl, inl, sym, ap, subst, ◌∙◌, arith, IsPermutation, AllByRecursion, filter-append, length_permutation, Text, Row, column, all_of, all_weaker, all-filter, all-map, all-flat_map, all-permutation, filter_all, filter_none, IsPermutation-filter, IsPermutation-same, Has, all_has, has_filtered, has_kept, Span, Auth, Granted, AreEntries, OfHolder, EachHasEntries, HaveEntries, claim_of, entry_rows_of, holder_row, holding_row, granted_row, claim_row, entry_row, Part, HoldsPart, part_rows, is_name_of, is_text, holder_part, holding_part, granted_part, claim_part, entry_part, names, name_of-true, name_of_itself, row_of_claim, rows_of_entries}
+use Rattle.store_open.proofs.Vocabulary.{◌≡◌, ◌≢◌, ℕ, ◌<◌, Bool, true, false, cond, List, [], ◌∷◌, ◌++◌, map, flat_map, filter, length, Option, Some, None, refl, inl, sym, ap, subst, ◌∙◌, arith, IsPermutation, AllByRecursion, filter-append, length_permutation, Text, Row, column, all_of, all_weaker, all-filter, all-map, all-flat_map, all-permutation, filter_all, filter_none, IsPermutation-filter, IsPermutation-same, Has, all_has, has_filtered, has_kept, Span, Auth, Granted, AreEntries, OfHolder, EachHasEntries, HaveEntries, claim_of, entry_rows_of, holder_row, holding_row, granted_row, claim_row, entry_row, Part, HoldsPart, part_rows, is_name_of, is_text, holder_part, holding_part, granted_part, claim_part, entry_part, names, name_of-true, name_of_itself, row_of_claim, rows_of_entries, ⊤, GrantFits}
 use Rattle.registry.specs.Rows.{Rows}
 
 -- ---- the rows of one name
@@ -32,10 +32,11 @@ none_named place h table none = go (filter (names place h) table) (has_filtered 
 
 -- ---- rows that show the values of their holder
 
--- what is known of a row of a part: it shows a value beside the name of a registered holder
-pub record IsPartRow (X : Type 0) (place : ℕ) (row : List ℕ → X → Row) (holders : List Row) (c : Row) : Type 0 where
+-- what is known of a row of a part: it shows a value in its range beside the name of a registered holder
+pub record IsPartRow (X : Type 0) (fits : X → Type 0) (row : List ℕ → X → Row) (holders : List Row) (c : Row) : Type 0 where
   pub name : List ℕ
   pub value : X
+  pub in_range : fits value
   pub is : c ≡ row name value
   pub registered : (p : Row) × Has holders p × (column p 0 ≡ Text name)
 
@@ -92,10 +93,10 @@ module _ (holders : List Row) (made : AllByRecursion (λ c. (h : List ℕ) × (n
       values_named 0 h (λ n. holder_row h n.0 n.1) _
       (λ c it is. let same : Text it.0 ≡ Text h = ap (λ r. column r 0) (sym it.2) ∙ is in let name : it.0 ≡ h = cc in (it.1, it.2 ∙ ap (λ k. holder_row k it.1.0 it.1.1) name)) holders made
 
-  module _ {X : Type 0} (place : ℕ) (row : List ℕ → X → Row) (named : (h : List ℕ) (x : X) → column (row h x) place ≡ Text h) (table : List Row) (all : AllByRecursion (IsPartRow X place row holders) table) where
+  module _ {X : Type 0} (place : ℕ) (fits : X → Type 0) (row : List ℕ → X → Row) (named : (h : List ℕ) (x : X) → column (row h x) place ≡ Text h) (table : List Row) (all : AllByRecursion (IsPartRow X fits row holders) table) where
     pub of_holder : (h : List ℕ) → (xs : List X) × (map (row h) xs ≡ filter (names place h) table)
     of_holder h =
-        values_named place h (row h) (IsPartRow X place row holders)
+        values_named place h (row h) (IsPartRow X fits row holders)
         (λ c it is.
         let same : Text it.name ≡ Text h = sym (named it.name it.value) ∙ ap (λ r. column r place) (sym it.is) ∙ is in
         let name : it.name ≡ h = cc in
@@ -105,7 +106,7 @@ module _ (holders : List Row) (made : AllByRecursion (λ c. (h : List ℕ) × (n
     of_nobody : (h : List ℕ) → filter (names 0 h) holders ≡ [] → filter (names place h) table ≡ []
     of_nobody h none =
         none_named place h table (λ c has is.
-        let it = all_has (IsPartRow X place row holders) table c all has in
+        let it = all_has (IsPartRow X fits row holders) table c all has in
         let same : Text it.name ≡ Text h = sym (named it.name it.value) ∙ ap (λ r. column r place) (sym it.is) ∙ is in
         named_in 0 h holders it.registered.0 it.registered.1 (it.registered.2 ∙ same) none)
 
@@ -113,15 +114,15 @@ module _ (holders : List Row) (made : AllByRecursion (λ c. (h : List ℕ) × (n
     all_named = all_weaker _ _ (λ c it. ap is_text (ap (λ r. column r place) it.is ∙ named it.name it.value)) table all
 
   module _ (holdings grants claims entries : List Row)
-      (held : AllByRecursion (IsPartRow Span 3 holding_row holders) holdings)
-      (granted : AllByRecursion (IsPartRow Granted 0 granted_row holders) grants)
+      (held : AllByRecursion (IsPartRow Span (λ _. ⊤) holding_row holders) holdings)
+      (granted : AllByRecursion (IsPartRow Granted GrantFits granted_row holders) grants)
       (auths : List (OfHolder Auth)) (registered : AllByRecursion (λ (x : OfHolder Auth). (p : Row) × Has holders p × (column p 0 ≡ Text x.holder)) auths)
       (claims_shown : IsPermutation (map row_of_claim auths) claims) (entries_shown : IsPermutation (flat_map rows_of_entries auths) entries) where
     abbrev spans : (h : List ℕ) → (xs : List Span) × (map (holding_row h) xs ≡ filter (names 3 h) holdings)
-    spans = of_holder 3 holding_row (λ h s. refl) holdings held
+    spans = of_holder 3 (λ _. ⊤) holding_row (λ h s. refl) holdings held
 
     abbrev given : (h : List ℕ) → (xs : List Granted) × (map (granted_row h) xs ≡ filter (names 0 h) grants)
-    given = of_holder 0 granted_row (λ h g. refl) grants granted
+    given = of_holder 0 GrantFits granted_row (λ h g. refl) grants granted
 
     abbrev rows_with : List ℕ → List (ℕ × ℕ) → Option Rows
     rows_with h [] = None
@@ -215,8 +216,8 @@ module _ (holders : List Row) (made : AllByRecursion (λ c. (h : List ℕ) × (n
     holds_parts = record {
       rows = rows_in;
       holders_held = holds_holders;
-      holdings_held = holds_part holding_part holdings (all_named 3 holding_row (λ h s. refl) holdings held) (of_nobody 3 holding_row (λ h s. refl) holdings held) (λ h n more. IsPermutation-same _ _ (spans h).1);
-      grants_held = holds_part granted_part grants (all_named 0 granted_row (λ h g. refl) grants granted) (of_nobody 0 granted_row (λ h g. refl) grants granted) (λ h n more. IsPermutation-same _ _ (given h).1);
+      holdings_held = holds_part holding_part holdings (all_named 3 (λ _. ⊤) holding_row (λ h s. refl) holdings held) (of_nobody 3 (λ _. ⊤) holding_row (λ h s. refl) holdings held) (λ h n more. IsPermutation-same _ _ (spans h).1);
+      grants_held = holds_part granted_part grants (all_named 0 GrantFits granted_row (λ h g. refl) grants granted) (of_nobody 0 GrantFits granted_row (λ h g. refl) grants granted) (λ h n more. IsPermutation-same _ _ (given h).1);
       claims_held = holds_part claim_part claims claims_named no_claims (λ h n more. claims_in_table h);
       entries_held = holds_part entry_part entries entries_texts no_entries (λ h n more. entries_in_table h);
       entries_had = have_entries;

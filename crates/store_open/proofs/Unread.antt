@@ -1,9 +1,8 @@
 -- Tables that read show values of the types that each query asks for.
-use Rattle.store_open.proofs.Vocabulary.{◌≡◌, inl, inr, ℕ, Bool, true, false, ◌||◌, List, [], ◌∷◌, map, drop, length, Result, Ok, Err, IfOk, nat_eq, refl, sym, ap, subst, ◌∙◌, arith, IsPermutation, IsTrue, ⊤, Any, pointwise, AllByRecursion, both_ways, nat_list_eq_equiv, length-map, recursion_from_All, IsPermutation-sym, IsPermutation-trans, IsPermutation-map, length_permutation, Database, Text, Row, map-map, all_of, all_weaker, all-map, all-permutation, Has, has_contained, contains_had, any_has, mapped_has, has_mapped, prefix_eq, is_name, AreAllowedCounts, CharterSets, has_repeat, IsCount, GrantFits, schema_row, operator_row, prefix_cells, span_cells, grant_cells, holder_row, holding_row, granted_row, exception_row, ExceptionRowFits, meta, operator, pool, holder, holding, granted, slurm, contents, columns, one_prefix, StoreFault, ShowsSome, ShowsHolder, ShowsOfHolder, TablesRead, columns_and_rowid, shown_in, AreRead, old_schema_row, HasNumber, number_row, ShowsCharter, grant_shown, exception_places, HasTree}
+use Rattle.store_open.proofs.Vocabulary.{◌≡◌, inl, inr, ℕ, Bool, true, false, ◌||◌, List, [], ◌∷◌, map, drop, length, Result, Ok, Err, IfOk, nat_eq, refl, sym, ap, subst, ◌∙◌, arith, IsPermutation, IsTrue, ⊤, Any, pointwise, AllByRecursion, both_ways, nat_list_eq_equiv, length-map, recursion_from_All, IsPermutation-sym, IsPermutation-trans, IsPermutation-map, length_permutation, Database, Text, Row, map-map, all_of, all_weaker, all-map, all-permutation, Has, has_contained, contains_had, any_has, mapped_has, has_mapped, prefix_eq, is_name, AreAllowedCounts, CharterSets, has_repeat, GrantFits, schema_row, operator_row, prefix_cells, span_cells, grant_cells, holding_row, granted_row, exception_row, ExceptionRowFits, meta, operator, pool, holder, holding, granted, slurm, contents, columns, one_prefix, StoreFault, ShowsSome, ShowsHolder, ShowsOfHolder, TablesRead, columns_and_rowid, shown_in, AreRead, old_schema_row, HasNumber, number_row, ShowsCharter, grant_shown, exception_places, HasTree}
 use Rattle.addr.specs.declared.prefix.Prefix.{Prefix}
 use Rattle.registry.proofs.Repeats.{has_repeat-moved, prefix_eq-flips}
 use Rattle.store_open.proofs.SameCharter.{one_operator, same_members}
-use Rattle.store_tables.specs.declared.holder.Registered.{Registered}
 
 -- ---- what was read
 
@@ -54,59 +53,45 @@ rows_of_none places tree (r ∷ rows) same none =
 shows_in : (tree : ℕ) (places : List ℕ) (P Q : Row → Type 0) → ((c : Row) → P c → Q (columns places c)) → (db : Database) → AllByRecursion P (contents (db.trees tree)) → AllByRecursion Q (shown_in tree places db)
 shows_in tree places P Q shows db all = all-map Q (columns places) (contents (db.trees tree)) (all_weaker P (λ c. Q (columns places c)) shows (contents (db.trees tree)) all)
 
-abbrev holder_cells : Registered → Row
-holder_cells x = holder_row x.name x.counters.granted x.counters.created
-
-abbrev HolderFits : Registered → Type 0
-HolderFits x = IsTrue (is_name x.name) × IsCount x.counters.granted × IsCount x.counters.created
-
-shows_registered : (c : Row) → ShowsHolder c → ShowsSome holder_cells HolderFits c
-shows_registered c it = (record { name = it.0; counters = record { granted = it.1; created = it.2 } }, (it.3, it.4, it.5), it.6)
-
-pub shows_holder : (c : Row) → ShowsSome holder_cells HolderFits c → ShowsHolder c
-shows_holder c it = (it.0.name, it.0.counters.granted, it.0.counters.created, it.1.0, it.1.1, it.1.2, it.2)
-
 pub number_in : (is_old : Bool) (db : Database) → HasNumber is_old db.trees → Has (shown_in meta.tree (0 ∷ 1 ∷ []) db) (number_row is_old)
 number_in true db has = mapped_has (columns (0 ∷ 1 ∷ [])) (contents (db.trees meta.tree)) old_schema_row (has_contained _ _ has)
 number_in false db has = mapped_has (columns (0 ∷ 1 ∷ [])) (contents (db.trees meta.tree)) schema_row (has_contained _ _ has)
 
 module _ (db : Database) (read : TablesRead db.trees) where
-  pub operators_read : IsPermutation (map operator_row read.charter.operators) (shown_in operator.tree (0 ∷ []) db)
+  pub operators_read : IsPermutation (map operator_row read.others.charter.sets.operators) (shown_in operator.tree (0 ∷ []) db)
   operators_read =
-      subst (λ l. IsPermutation l (shown_in operator.tree (0 ∷ []) db)) (map-map (columns (0 ∷ [])) operator_row read.charter.operators)
-      (IsPermutation-map (columns (0 ∷ [])) _ _ read.charter.operators_shown)
+      subst (λ l. IsPermutation l (shown_in operator.tree (0 ∷ []) db)) (map-map (columns (0 ∷ [])) operator_row read.others.charter.sets.operators)
+      (IsPermutation-map (columns (0 ∷ [])) _ _ read.others.charter.operators_shown)
 
-  pub pool_read : IsPermutation (map prefix_cells read.charter.prefixes) (shown_in pool.tree (0 ∷ 1 ∷ 2 ∷ []) db)
+  pub pool_read : IsPermutation (map prefix_cells read.others.charter.sets.pool) (shown_in pool.tree (0 ∷ 1 ∷ 2 ∷ []) db)
   pool_read =
-      subst (λ l. IsPermutation l (shown_in pool.tree (0 ∷ 1 ∷ 2 ∷ []) db)) (map-map (columns (0 ∷ 1 ∷ 2 ∷ [])) prefix_cells read.charter.prefixes)
-      (IsPermutation-map (columns (0 ∷ 1 ∷ 2 ∷ [])) _ _ read.charter.prefixes_shown)
+      subst (λ l. IsPermutation l (shown_in pool.tree (0 ∷ 1 ∷ 2 ∷ []) db)) (map-map (columns (0 ∷ 1 ∷ 2 ∷ [])) prefix_cells read.others.charter.sets.pool)
+      (IsPermutation-map (columns (0 ∷ 1 ∷ 2 ∷ [])) _ _ read.others.charter.pool_shown)
 
   pub operators_in : AllByRecursion (ShowsSome (λ text. Text text ∷ []) (λ text. IsTrue (is_name text))) (shown_in operator.tree (0 ∷ []) db)
   operators_in =
-      all-permutation _ (map operator_row read.charter.operators) _ operators_read
-      (all-map _ operator_row read.charter.operators (all_weaker _ _ (λ name is. (name, is, refl)) read.charter.operators read.charter.named))
+      all-permutation _ (map operator_row read.others.charter.sets.operators) _ operators_read
+      (all-map _ operator_row read.others.charter.sets.operators (all_weaker _ _ (λ name is. (name, is, refl)) read.others.charter.sets.operators read.others.charter.named))
 
   pub pool_in : AllByRecursion (ShowsSome prefix_cells (λ _. ⊤)) (shown_in pool.tree (0 ∷ 1 ∷ 2 ∷ []) db)
   pool_in =
-      all-permutation _ (map prefix_cells read.charter.prefixes) _ pool_read
-      (all-map _ prefix_cells read.charter.prefixes (all_of _ (λ p. (p, tt, refl)) read.charter.prefixes))
+      all-permutation _ (map prefix_cells read.others.charter.sets.pool) _ pool_read
+      (all-map _ prefix_cells read.others.charter.sets.pool (all_of _ (λ p. (p, tt, refl)) read.others.charter.sets.pool))
 
-  pub holders_in : AllByRecursion (ShowsSome holder_cells HolderFits) (shown_in holder.tree (0 ∷ 1 ∷ 2 ∷ []) db)
-  holders_in =
-      shows_in holder.tree (0 ∷ 1 ∷ 2 ∷ []) ShowsHolder _
-      (λ c it. shows_registered (columns (0 ∷ 1 ∷ 2 ∷ []) c) (it.0, it.1, it.2, it.3, it.4, it.5, ap (columns (0 ∷ 1 ∷ 2 ∷ [])) it.6)) db read.holders
+  pub holders_in : AllByRecursion ShowsHolder (shown_in holder.tree (0 ∷ 1 ∷ 2 ∷ []) db)
+  holders_in = shows_in holder.tree (0 ∷ 1 ∷ 2 ∷ []) ShowsHolder _ (λ c it. (it.0, it.1, ap (columns (0 ∷ 1 ∷ 2 ∷ [])) it.2)) db read.others.holders
 
   pub holdings_in : AllByRecursion (ShowsSome span_cells (λ _. ⊤)) (shown_in holding.tree (0 ∷ 1 ∷ 2 ∷ []) db)
-  holdings_in = shows_in holding.tree (0 ∷ 1 ∷ 2 ∷ []) (ShowsOfHolder holding_row (λ _. ⊤)) _ (λ c it. (it.1, tt, ap (columns (0 ∷ 1 ∷ 2 ∷ [])) it.3)) db read.holdings
+  holdings_in = shows_in holding.tree (0 ∷ 1 ∷ 2 ∷ []) (ShowsOfHolder holding_row (λ _. ⊤)) _ (λ c it. (it.1, tt, ap (columns (0 ∷ 1 ∷ 2 ∷ [])) it.3)) db read.others.holdings
 
   abbrev grant_places : List ℕ
   grant_places = 1 ∷ 2 ∷ 3 ∷ 4 ∷ 5 ∷ 6 ∷ 7 ∷ []
 
   pub grants_in : AllByRecursion (ShowsSome grant_cells GrantFits) (shown_in granted.tree grant_places db)
-  grants_in = shows_in granted.tree grant_places (ShowsOfHolder granted_row GrantFits) _ (λ c it. (it.1, it.2, ap (columns grant_places) it.3 ∙ grant_shown it.0 it.1)) db read.grants
+  grants_in = shows_in granted.tree grant_places (ShowsOfHolder granted_row GrantFits) _ (λ c it. (it.1, it.2, ap (columns grant_places) it.3 ∙ grant_shown it.0 it.1)) db read.others.grants
 
   pub exceptions_in : AllByRecursion (ShowsSome exception_row ExceptionRowFits) (shown_in slurm.tree exception_places db)
-  exceptions_in = read.exceptions
+  exceptions_in = read.others.exceptions
 
 -- ---- charters
 
@@ -125,12 +110,12 @@ module _ (db : Database) (names : List (List ℕ)) (prefixes : List Prefix)
   -- what is no charter is not read from tables that read
   pub some_charter : TablesRead db.trees → ¬ (AreAllowedCounts names prefixes → (has_repeat (pointwise nat_eq) names || has_repeat prefix_eq prefixes) ≡ true)
   some_charter read refused =
-      let kept = read.charter in
-      let operators = same_members operator_row one_operator kept.operators names _ (operators_read db read) (IsPermutation-sym _ _ named.same) in
-      let pool = same_members prefix_cells one_prefix kept.prefixes prefixes _ (pool_read db read) (IsPermutation-sym _ _ pooled.same) in
+      let kept = read.others.charter in
+      let operators = same_members operator_row one_operator kept.sets.operators names _ (operators_read db read) (IsPermutation-sym _ _ named.same) in
+      let pool = same_members prefix_cells one_prefix kept.sets.pool prefixes _ (pool_read db read) (IsPermutation-sym _ _ pooled.same) in
       let many = length_permutation _ _ operators in
       let wide = length_permutation _ _ pool in
-      let number : AreAllowedCounts names prefixes = rw (many, wide) kept.number in
-      let once = has_repeat-moved (pointwise nat_eq) nat_list_eq_equiv.symm kept.operators names operators kept.operators_once in
-      let apart = has_repeat-moved prefix_eq prefix_eq-flips kept.prefixes prefixes pool kept.prefixes_once in
+      let number : AreAllowedCounts names prefixes = rw (many, wide) kept.valid.number in
+      let once = has_repeat-moved (pointwise nat_eq) nat_list_eq_equiv.symm kept.sets.operators names operators kept.valid.operators_once in
+      let apart = has_repeat-moved prefix_eq prefix_eq-flips kept.sets.pool prefixes pool kept.valid.pool_once in
       both_ways _ (λ i. once i || apart i) (refused number)

@@ -89,7 +89,7 @@ pub use Rattle.store_transactions.specs.declared.fault.StoreFault.TheVariants.{S
 pub use Rattle.store_transactions.specs.steps.Statements.{AnswersSelect}
 pub use Rattle.store_open.specs.OldTablesRead.{HasSomeOldAuths, OldTablesRead, rows_of_auth}
 pub use Rattle.store_open.specs.Opening.{AreMoved, LeavesOldOrMoved, OpensDesk}
-pub use Rattle.store_open.specs.TablesRead.{HasSomeAuths, HasSomeCharter, HoldSomeRows, ShowsException, ShowsHolder, ShowsOfHolder, ShowsSome, TablesRead, row_of_claim, rows_of_entries}
+pub use Rattle.store_open.specs.TablesRead.{HasSomeAuths, HasSomeCharter, HoldSomeRows, OthersRead, ShowsException, ShowsHolder, ShowsOfHolder, ShowsSome, TablesRead, row_of_claim, rows_of_entries}
 pub use Rattle.store_open.specs.declared.join.Joined.{Joined}
 pub use Rattle.store_open.specs.declared.key.ClaimKey.{ClaimKey}
 pub use Rattle.store_open.specs.steps.Joining.{AreOfFirst, EachShowsEntry, EntriesRead, JoinsRows, MakeNoneOfRows, MakeNoneOfTable, MakeOfRows, MakeOfTable, NeverMake, ShowEntries, WalkGoesOn, WalkStands, first_claim_entry, shown_entries}

@@ -1,18 +1,15 @@
 -- What it is for the tables of a database of schema 1 to read.
-use Rattle.std.specs.Prelude.{List, [], ◌∷◌, map, flat_map, IsPermutation, IsTrue, ⊤}
+use Rattle.std.specs.Prelude.{List, [], ◌∷◌, flat_map, IsPermutation, IsTrue}
 use Rattle.std.specs.List.{AllByRecursion}
 use Rattle.sqlite_value.specs.Order.{Row}
 use Rattle.sqlite_trees.specs.Tree.{Trees}
 use Rattle.addr.specs.Name.{is_name}
 use Rattle.registry.specs.declared.authorization.Auth.{Auth}
-use Rattle.registry.specs.Values.{AuthFits, GrantFits}
+use Rattle.registry.specs.Values.{AuthFits}
 use Rattle.store_tables.specs.declared.groups.OfHolder.{OfHolder}
-use Rattle.store_tables.specs.Cells.{holding_row, granted_row}
-use Rattle.store_tables.specs.Decode.{exception_columns}
-use Rattle.store_tables.specs.Tables.{meta, holder, holding, granted, auth, slurm, contents}
+use Rattle.store_tables.specs.Tables.{meta, auth, contents}
 use Rattle.store_schema.specs.OldTables.{auth_rows, old_schema_row, AreOldTrees, HasOneEntry}
-use Rattle.store_open.specs.TablesRead.{HasSomeCharter, ShowsHolder, ShowsOfHolder, ShowsException}
-use Rattle.store_transactions.specs.Files.{AreFewOfEach}
+use Rattle.store_open.specs.TablesRead.{OthersRead}
 
 -- the rows of an authorization in the table `auth`: one, where it has one entry
 abbrev pub rows_of_auth : OfHolder Auth → List Row
@@ -26,16 +23,10 @@ pub record HasSomeOldAuths (trees : Trees) : Type 0 where
   pub one_each : AllByRecursion (λ (x : OfHolder Auth). HasOneEntry x.row) auths
   pub shown : IsPermutation (flat_map rows_of_auth auths) (contents (trees auth.tree))
 
--- The number is that of schema 1 and no other row is beside it, the operators and the pool make a charter, and each row
--- of each table shows a value of its type and has a rowid of its own. No SLURM file has more exceptions than a file may
--- have.
+-- The number is that of schema 1 and no other row is beside it, the other rows read, and each row of each table has a
+-- rowid of its own.
 pub record OldTablesRead (trees : Trees) : Type 0 where
   pub schema : IsPermutation (old_schema_row ∷ []) (contents (trees meta.tree))
-  pub charter : HasSomeCharter trees
-  pub holders : AllByRecursion ShowsHolder (contents (trees holder.tree))
-  pub holdings : AllByRecursion (ShowsOfHolder holding_row (λ _. ⊤)) (contents (trees holding.tree))
-  pub grants : AllByRecursion (ShowsOfHolder granted_row GrantFits) (contents (trees granted.tree))
+  pub others : OthersRead trees
   pub authorizations : HasSomeOldAuths trees
-  pub exceptions : AllByRecursion ShowsException (map exception_columns (contents (trees slurm.tree)))
-  pub exceptions_number : AreFewOfEach (contents (trees slurm.tree))
   pub whole : AreOldTrees trees

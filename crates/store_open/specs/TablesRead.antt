@@ -1,18 +1,15 @@
 -- What it is for the tables of a database to read.
-use Rattle.std.specs.Prelude.{◌≡◌, ℕ, false, List, [], map, flat_map, nat_eq, Contains, IsPermutation, IsTrue, ⊤}
-use Rattle.std.specs.Cmp.Lexicographic.{pointwise}
+use Rattle.std.specs.Prelude.{◌≡◌, ℕ, List, [], map, flat_map, Contains, IsPermutation, IsTrue, ⊤}
 use Rattle.std.specs.List.{AllByRecursion}
 use Rattle.sqlite_value.specs.Order.{Row}
 use Rattle.sqlite_trees.specs.Tree.{Trees}
-use Rattle.addr.specs.Address.{prefix_eq}
 use Rattle.addr.specs.Name.{is_name}
-use Rattle.addr.specs.declared.prefix.Prefix.{Prefix}
-use Rattle.registry.specs.CharterSets.{AreAllowedCounts, CharterSets}
-use Rattle.registry.specs.Repeats.{has_repeat}
+use Rattle.registry.specs.CharterSets.{CharterSets, IsCharter}
 use Rattle.registry.specs.declared.authorization.Auth.{Auth}
 use Rattle.registry.specs.RowsOfAll.{AllRows}
 use Rattle.registry.specs.Values.{IsCount, AuthFits, GrantFits, FilesFit}
 use Rattle.store_tables.specs.declared.groups.OfHolder.{OfHolder}
+use Rattle.store_tables.specs.declared.holder.Registered.{Registered}
 use Rattle.store_tables.specs.Authorizations.{claim_of, entry_rows_of}
 use Rattle.store_tables.specs.Cells.{schema_row, operator_row, prefix_cells, holder_row, holding_row, granted_row, claim_row, entry_row, exception_row}
 use Rattle.store_tables.specs.Decode.{ExceptionRowFits, exception_columns}
@@ -24,11 +21,11 @@ use Rattle.store_transactions.specs.Files.{AreFewOfEach}
 abbrev pub ShowsSome : {X : Type 0} → (X → Row) → (X → Type 0) → Row → Type 0
 ShowsSome {X} cells fits c = (x : X) × fits x × (c ≡ cells x)
 
--- the row shows the name of a holder, and how many grants and authorizations it has made
+-- the row shows a registered holder, and how many grants and authorizations it has made
 abbrev pub ShowsHolder : Row → Type 0
-ShowsHolder c =
-    (h : List ℕ) × (granted created : ℕ)
-    × IsTrue (is_name h) × IsCount granted × IsCount created × (c ≡ holder_row h granted created)
+ShowsHolder =
+    ShowsSome (λ (x : Registered). holder_row x.name x.counters.granted x.counters.created)
+    (λ (x : Registered). IsTrue (is_name x.name) × IsCount x.counters.granted × IsCount x.counters.created)
 
 -- the row shows some value of the type beside some name
 abbrev pub ShowsOfHolder : {X : Type 0} → (List ℕ → X → Row) → (X → Type 0) → Row → Type 0
@@ -38,16 +35,23 @@ ShowsOfHolder {X} row fits c = (h : List ℕ) × (x : X) × fits x × (c ≡ row
 abbrev pub ShowsException : Row → Type 0
 ShowsException = ShowsSome exception_row ExceptionRowFits
 
--- the tables have operators and prefixes that make a charter
+-- the tables have the operators and the pool of some charter
 pub record HasSomeCharter (trees : Trees) : Type 0 where
-  pub operators : List (List ℕ)
-  pub prefixes : List Prefix
-  pub named : AllByRecursion (λ name. IsTrue (is_name name)) operators
-  pub number : AreAllowedCounts operators prefixes
-  pub operators_once : has_repeat (pointwise nat_eq) operators ≡ false
-  pub prefixes_once : has_repeat prefix_eq prefixes ≡ false
-  pub operators_shown : IsPermutation (map operator_row operators) (contents (trees operator.tree))
-  pub prefixes_shown : IsPermutation (map prefix_cells prefixes) (contents (trees pool.tree))
+  pub sets : CharterSets
+  pub valid : IsCharter sets
+  pub named : AllByRecursion (λ name. IsTrue (is_name name)) sets.operators
+  pub operators_shown : IsPermutation (map operator_row sets.operators) (contents (trees operator.tree))
+  pub pool_shown : IsPermutation (map prefix_cells sets.pool) (contents (trees pool.tree))
+
+-- What the tables of both schemas have alike: the operators and the pool are those of a charter, and each row of each
+-- of these tables shows a value of its type. No SLURM file has more exceptions than a file may have.
+pub record OthersRead (trees : Trees) : Type 0 where
+  pub charter : HasSomeCharter trees
+  pub holders : AllByRecursion ShowsHolder (contents (trees holder.tree))
+  pub holdings : AllByRecursion (ShowsOfHolder holding_row (λ _. ⊤)) (contents (trees holding.tree))
+  pub grants : AllByRecursion (ShowsOfHolder granted_row GrantFits) (contents (trees granted.tree))
+  pub exceptions : AllByRecursion ShowsException (map exception_columns (contents (trees slurm.tree)))
+  pub exceptions_number : AreFewOfEach (contents (trees slurm.tree))
 
 -- the row of an authorization in the table `claim`, and those of its entries in the table `entry`
 abbrev pub row_of_claim : OfHolder Auth → Row
@@ -65,17 +69,11 @@ pub record HasSomeAuths (trees : Trees) : Type 0 where
   pub entries_shown : IsPermutation (flat_map rows_of_entries auths) (contents (trees entry.tree))
   pub unused : contents (trees auth.tree) ≡ []
 
--- The number of the schema is there, the operators and the pool make a charter, each row of each table shows a value
--- of its type, and claims and entries make authorizations. No SLURM file has more exceptions than a file may have.
+-- The number of the schema is there, the other rows read, and claims and entries make authorizations.
 pub record TablesRead (trees : Trees) : Type 0 where
   pub schema : Contains (contents (trees meta.tree)) schema_row
-  pub charter : HasSomeCharter trees
-  pub holders : AllByRecursion ShowsHolder (contents (trees holder.tree))
-  pub holdings : AllByRecursion (ShowsOfHolder holding_row (λ _. ⊤)) (contents (trees holding.tree))
-  pub grants : AllByRecursion (ShowsOfHolder granted_row GrantFits) (contents (trees granted.tree))
+  pub others : OthersRead trees
   pub authorizations : HasSomeAuths trees
-  pub exceptions : AllByRecursion ShowsException (map exception_columns (contents (trees slurm.tree)))
-  pub exceptions_number : AreFewOfEach (contents (trees slurm.tree))
 
 -- the tables hold this charter and some rows, with SLURM files each of which is in its range
 abbrev pub HoldSomeRows : CharterSets → Trees → Type 0
