@@ -1,12 +1,11 @@
 -- The rows of tables that read are in range.
-use Rattle.store.proofs.Vocabulary.{◌≡◌, ℕ, List, ◌++◌, map, filter, Option, Some, None, IsTrue, refl, sym, ap, subst, ◌∙◌, arith, length, ◌≤◌, AllByRecursion, and_from, le-leb, All-from_recursion, recursion_from_All, IsPermutation-sym, Text, Row, column, Trees, all-map, all_from_map, all-filter, Has, all_from, all_has, has_contained, test_from, mapped_has, fits_max_length, is_name, some_row, Auth, RoaPrefix, Granted, AreEntries, Rows, AuthFits, ExceptionsFit, FileFits, FilesFit, FilterFits, FitIfAny, GrantFits, IsCount, IsU32, VrpFits, EntryRow, claim_of, entry_rows_of, claim_entry, claim_row, entry_row, exception_cells, exception_row, granted_row, holder_row, kind_number, number_cell, claim, contents, entry, slurm, ArePlaced, HoldsExceptions, HoldsFiles, is_of_file, claim_part, entry_part, granted_part, holder_part, claim_row_once, entry_row_once, HasSomeAuths, ShowsException, ShowsHolder, ShowsOfHolder, row_of_claim, rows_of_entries, RowsInRangeGive, RowsThatReadFit, gives_each, claim_fits, entries_of_fit, inl, TablesHold, TablesRead, CharterSets, AllRows, in_table, has_entry_row, has_permuted, has_mapped, RowsFit, has_left, has_right}
+use Rattle.store.proofs.Vocabulary.{◌≡◌, ℕ, List, ◌++◌, map, filter, Option, Some, None, IsTrue, refl, sym, ap, subst, ◌∙◌, arith, length, ◌≤◌, AllByRecursion, and_from, le-leb, All-from_recursion, recursion_from_All, IsPermutation-sym, Text, Row, column, Trees, all-map, all_from_map, all-filter, Has, all_from, all_has, has_contained, test_from, mapped_has, fits_max_length, is_name, some_row, Auth, RoaPrefix, Granted, AreEntries, Rows, AuthFits, ExceptionsFit, FileFits, FilesFit, FilterFits, FitIfAny, GrantFits, IsCount, VrpFits, EntryRow, claim_of, entry_rows_of, claim_entry, claim_row, entry_row, exception_row, granted_row, holder_row, claim, contents, entry, slurm, ArePlaced, HoldsExceptions, HoldsFiles, is_of_file, claim_part, entry_part, granted_part, holder_part, claim_row_once, entry_row_once, HasSomeAuths, ShowsException, ShowsHolder, ShowsOfHolder, row_of_claim, rows_of_entries, RowsInRangeGive, RowsThatReadFit, gives_each, claim_fits, entries_of_fit, inl, TablesHold, TablesRead, CharterSets, AllRows, in_table, has_entry_row, has_permuted, has_mapped, RowsFit, has_left, has_right}
 use Rattle.store_tables.proofs.SomeRow.{has_joined}
 use Rattle.slurm.specs.Exceptions.{Exceptions}
 use Rattle.slurm.specs.SlurmSets.{exceptions_named}
 use Rattle.slurm.specs.declared.set.NamedSlurm.{NamedSlurm}
 use Rattle.store_transactions.proofs.NamedFiles.{said}
 use Rattle.slurm.specs.declared.exceptions.TheConstants.{MOST_ENTRIES}
-use Rattle.slurm.specs.declared.filter.Filter.TheVariants.{Under, By, Both}
 use Rattle.store_tables.specs.declared.claim.Claim.{Claim}
 use Rattle.store_tables.specs.Decode.{ClaimFits, EntryRowFits, ExceptionFits, exception_columns}
 use Rattle.store_tables.specs.declared.exception.Exception.{Exception}
@@ -14,6 +13,7 @@ use Rattle.store_tables.specs.declared.exception.Exception.TheVariants.{Filter a
 use Rattle.store_tables.specs.declared.exception.ExceptionRow.{ExceptionRow}
 use Rattle.store_tables.proofs.CellsOnce.{one_grant}
 use Rattle.store_tables.proofs.HeldExceptions.{held_number}
+use Rattle.store_read.proofs.HeldAlike.{one_exception}
 use Rattle.store_transactions.specs.Files.{AreFewOfEach}
 
 -- ---- rows of holders
@@ -70,34 +70,17 @@ module _ (charter : CharterSets) (rows : AllRows) (trees : Trees) (holds : Table
 
 -- ---- exceptions
 
-same_exception : (e f : Exception) → number_cell (kind_number e) ≡ number_cell (kind_number f) → exception_cells e ≡ exception_cells f
-    → ExceptionFits f → ExceptionFits e
-same_exception (FilterOf (Under p)) f kind cells fits = tt
-same_exception (FilterOf (By asn)) (FilterOf (Under q)) kind cells fits = absurd cc
-same_exception (FilterOf (By asn)) (FilterOf (By other)) kind cells fits = let one : asn.0 ≡ other.0 = cc in subst IsU32 (sym one) fits
-same_exception (FilterOf (By asn)) (FilterOf (Both q other)) kind cells fits = absurd cc
-same_exception (FilterOf (By asn)) (Assertion v) kind cells fits = absurd cc
-same_exception (FilterOf (Both p asn)) (FilterOf (Under q)) kind cells fits = absurd cc
-same_exception (FilterOf (Both p asn)) (FilterOf (By other)) kind cells fits = absurd cc
-same_exception (FilterOf (Both p asn)) (FilterOf (Both q other)) kind cells fits = let one : asn.0 ≡ other.0 = cc in subst IsU32 (sym one) fits
-same_exception (FilterOf (Both p asn)) (Assertion v) kind cells fits = absurd cc
-same_exception (Assertion v) (FilterOf f) kind cells fits = absurd cc
-same_exception (Assertion v) (Assertion w) kind cells fits = let one : v.asn.0 ≡ w.asn.0 = cc in subst IsU32 (sym one) fits
-
-exception_fits : (r : ExceptionRow) → ShowsException (exception_row r) → ExceptionFits r.exception
-exception_fits r (shown, fits, is) =
-    let kind : number_cell (kind_number r.exception) ≡ number_cell (kind_number shown.exception) = cc in
-    let cells : exception_cells r.exception ≡ exception_cells shown.exception = cc in
-    same_exception r.exception shown.exception kind cells fits.exception
+abbrev brings : ExceptionRow → Exception
+brings r = r.exception
 
 module _ (name : List ℕ) (exceptions : Exceptions) (table : List Row) (holds : HoldsExceptions name exceptions table) (all : AllByRecursion ShowsException (map exception_columns table)) where
   -- an exception that rows of the table bring is in its range
   brought_fits : (xs : List Exception) (rows : List ExceptionRow) → ArePlaced name xs rows → ((r : ExceptionRow) → Has rows r → Has (holds.filters ++ holds.assertions) r)
       → (e : Exception) → Has xs e → ExceptionFits e
   brought_fits xs rows placed among e has =
-      let (r, in_rows, is) = has_mapped (λ (r : ExceptionRow). r.exception) rows e (subst (λ l. Has l e) (sym placed.brought) has) in
+      let (r, in_rows, is) = has_mapped brings rows e (subst (λ l. Has l e) (sym placed.brought) has) in
       let shown = all_has ShowsException _ (exception_row r) all (has_permuted _ _ _ holds.rows (mapped_has exception_row _ r (among r in_rows))) in
-      subst ExceptionFits (sym is) (exception_fits r shown)
+      subst ExceptionFits (sym (is ∙ ap brings (one_exception r shown.0 shown.2))) shown.1.exception
 
   exceptions_fit : length table ≤ MOST_ENTRIES → ExceptionsFit exceptions
   exceptions_fit few = record {

@@ -31,7 +31,7 @@ one_assertion v w is =
     let max : v.max ≡ w.max = cc in
     same_vrp v w (one_prefix v.prefix w.prefix cc) max asn
 
-one_exception : (r s : ExceptionRow) → exception_row r ≡ exception_row s → r ≡ s
+pub one_exception : (r s : ExceptionRow) → exception_row r ≡ exception_row s → r ≡ s
 one_exception r s is =
     let file : r.file ≡ s.file = cc in
     let position : r.position ≡ s.position = cc in
