@@ -1,2 +1,3 @@
 mod Dedup
+pub mod EachOnce
 pub mod Places

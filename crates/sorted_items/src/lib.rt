@@ -1,11 +1,11 @@
 //! Vectors whose items rise, each once.
 #![tactic(auto)]
 
-ghost use Rattle.std.specs.Prelude.{◌≡◌, ◌≤◌, ◌<◌, false, not, ◌&&◌, ◌||◌, length, insert, remove, IfOk, OnOk, OnErr};
-ghost use Rattle.std.specs.List.{list_any};
+ghost use Rattle.std.specs.Prelude.{◌≡◌, ◌≤◌, ◌<◌, ◌↔◌, false, not, ◌&&◌, ◌||◌, length, insert, remove, IsTrue, IfOk, OnOk, OnErr, IsPermutation};
+ghost use Rattle.std.specs.List.{list_any, IsDistinct};
 ghost use Rattle.std.specs.List.Sorted.{IsStrictlySortedBy};
 ghost use Rattle.std.specs.Ordering.{eq_by_cmp};
-ghost use Rattle.sorted_items.specs.Rising.{RiseBy};
+ghost use Rattle.sorted_items.specs.Rising.{RiseBy, Gives};
 
 use smallvec::SmallVec;
 use std::alloc::{AllocError, Global};
@@ -100,4 +100,26 @@ pub fn sort_and_dedup<T: Ord + Drop>(items: &mut Vec<T>)
 {
     items.sort_unstable();
     items.dedup();
+}
+
+/// Whether the key of each item is before that of the next one.
+pub fn rise_by_key<T, K: Ord + Drop, F: Fn(&T) -> K>(items: &[T], key: F) -> bool
+    requires { F.IsAlwaysCallable key }
+    ensures { (of : T → K) → Gives F.Fn key of
+        → (IsTrue result ↔ IsStrictlySortedBy (λ x y. K.cmp (of x) (of y)) items.now) }
+{
+    items.is_sorted_by(|a, b| key(a) < key(b))
+}
+
+/// Sorts the items by their keys; returns whether no two of them have one key.
+pub fn sort_each_once<T: Drop, K: Ord + Drop, F: Fn(&T) -> K>(items: &mut Vec<T>, key: F) -> bool
+    requires { F.IsAlwaysCallable key }
+    ensures same_items { IsPermutation items.old.items items.new.items }
+    ensures once { (of : T → K) → Gives F.Fn key of
+        → (IsTrue result ↔ IsDistinct (λ x y. eq_by_cmp K.cmp (of x) (of y)) items.old.items) }
+    ensures rising { (of : T → K) → Gives F.Fn key of
+        → (IsTrue result ↔ IsStrictlySortedBy (λ x y. K.cmp (of x) (of y)) items.new.items) }
+{
+    items.sort_unstable_by_key(|item| key(item));
+    rise_by_key(items, key)
 }
