@@ -1,11 +1,12 @@
 //! Sets of named SLURM files (RFC 8416 section 4.2).
-ghost use Rattle.std.specs.Prelude.{◌≡◌, ◌≤◌, ◌↔◌, List, length, IsTrue, Err, IsOk, IfOk, IsPermutation};
+ghost use Rattle.std.specs.Prelude.{◌≡◌, ◌≤◌, ◌↔◌, List, length, Err, IsOk, IfOk, IsPermutation};
 ghost use Rattle.slurm.specs.SlurmSets.{AreFiles, AreNamedOnce, RiseByName};
 ghost use Rattle.slurm.specs.declared.set.NamedSlurm.{NamedSlurm};
 ghost use Rattle.slurm.specs.declared.set.TheConstants.{MOST_FILES};
 
 use crate::Slurm;
 use addr::Name;
+use sorted_items::sort_each_once;
 use std::alloc::AllocError;
 use std::marker::Model;
 use thiserror::Error;
@@ -78,8 +79,7 @@ impl SlurmSet {
         if files.len() > MOST_FILES {
             return Err(SlurmSetFault::TooMany);
         }
-        files.sort_unstable_by_key(|named| named.name);
-        if !rise(&files) {
+        if !sort_each_once(&mut files, |named| named.name) {
             return Err(SlurmSetFault::Repeated);
         }
         Ok(SlurmSet { files })
@@ -93,11 +93,4 @@ impl SlurmSet {
     {
         &self.files
     }
-}
-
-/// Whether the name of each file is before that of the next one.
-fn rise(files: &[NamedSlurm]) -> bool
-    ensures { IsTrue result ↔ RiseByName files.now }
-{
-    files.is_sorted_by(|a, b| a.name < b.name)
 }

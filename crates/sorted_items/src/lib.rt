@@ -115,6 +115,7 @@ pub fn rise_by_key<T, K: Ord + Drop, F: Fn(&T) -> K>(items: &[T], key: F) -> boo
 pub fn sort_each_once<T: Drop, K: Ord + Drop, F: Fn(&T) -> K>(items: &mut Vec<T>, key: F) -> bool
     requires { F.IsAlwaysCallable key }
     ensures same_items { IsPermutation items.old.items items.new.items }
+    ensures number { length items.new.items ≡ length items.old.items }
     ensures once { (of : T → K) → Gives F.Fn key of
         → (IsTrue result ↔ IsDistinct (λ x y. eq_by_cmp K.cmp (of x) (of y)) items.old.items) }
     ensures rising { (of : T → K) → Gives F.Fn key of

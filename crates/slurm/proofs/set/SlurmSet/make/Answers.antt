@@ -1,27 +1,30 @@
-use Rattle.slurm.proofs.Vocabulary.{◌≡◌, refl, rules, both_ways, always_returns_same, AreNamedOnce}
-use Rattle.slurm.proofs.RisingNames.{given_once, given_repeats}
+use Rattle.slurm.proofs.Vocabulary.{◌↔◌, IsTrue, refl, rules, both_ways, AreNamedOnce}
+use Rattle.slurm.proofs.RisingNames.{by_bytes}
 use Rattle.slurm.proofs.set.SlurmSet.make.Goals as goal
 
 -- the files in order do not rise
-repeated : (c : goal.After-drop-files-then-not-rise) → ¬ AreNamedOnce c.args.files.items
-repeated c =
-    given_repeats c.args.files.items c.sort_unstable_by_key.new.self.items c.sort_unstable_by_key.ensures.permutation
-    (c.sort_unstable_by_key.ensures.sorted (λ f. f.name) (always_returns_same _ (λ a r. r ≡ a.0.now.name) _ (λ a r q k. search rules)))
-    (λ rising. both_ways c.rise.result c.if-not-rise.true (c.rise.ensures.1 (rw c.deref.ensures.value rising)))
+repeated : (c : goal.After-drop-files-then-not-sort_each_once) → ¬ AreNamedOnce c.args.files.items
+repeated c once =
+    both_ways c.sort_each_once.result c.if-not-sort_each_once.true
+    ((by_bytes (λ P. IsTrue c.sort_each_once.result ↔ P) _ (c.sort_each_once.ensures.once (λ f. f.name) (λ x k named. search rules))).1 once)
 
-once : (c : goal.Else-not-rise) → AreNamedOnce c.args.files.items
-once c =
-    given_once c.args.files.items c.sort_unstable_by_key.new.self.items c.sort_unstable_by_key.ensures.permutation
-    (rw (← c.deref.ensures.value) (c.rise.ensures.0 c.if-not-rise.false))
+once : (c : goal.Else-not-sort_each_once) → AreNamedOnce c.args.files.items
+once c = by_bytes (λ P. P) _ ((c.sort_each_once.ensures.once (λ f. f.name) (λ x k named. search rules)).0 c.if-not-sort_each_once.false)
 
-pub returns-then-not-rise-clause-ok : goal.returns-then-not-rise-clause-ok
-returns-then-not-rise-clause-ok c = (λ is. absurd cc, λ fits. absurd (repeated c fits.1))
+pub returns-then-not-sort_each_once-clause-ok : goal.returns-then-not-sort_each_once-clause-ok
+returns-then-not-sort_each_once-clause-ok c = (λ is. absurd cc, λ fits. absurd (repeated c fits.1))
 
-pub returns-then-not-rise-clause-repeated : goal.returns-then-not-rise-clause-repeated
-returns-then-not-rise-clause-repeated c = (λ is. (search rules, repeated c), λ _. refl)
+pub returns-then-not-sort_each_once-clause-repeated : goal.returns-then-not-sort_each_once-clause-repeated
+returns-then-not-sort_each_once-clause-repeated c = (λ is. (search rules, repeated c), λ _. refl)
 
 pub returns-clause-ok : goal.returns-clause-ok
 returns-clause-ok c = (λ is. (search rules, once c), λ _. refl)
 
+pub returns-clause-rising : goal.returns-clause-rising
+returns-clause-rising c = (c.sort_each_once.ensures.rising (λ f. f.name) (λ x k named. search rules)).0 c.if-not-sort_each_once.false
+
 pub returns-clause-repeated : goal.returns-clause-repeated
 returns-clause-repeated c = (λ is. absurd cc, λ twice. absurd (twice.1 (once c)))
+
+pub invariant_of-result : goal.invariant_of-result
+invariant_of-result c = record { number = search rules; rising = returns-clause-rising c }
