@@ -47,14 +47,14 @@ none_from : {T : Type 0} (test : T → Bool) (xs : List T) → AllByRecursion (�
 none_from test [] all = refl
 none_from test (x ∷ xs) all = ap (λ b. b || list_any test xs) all.0 ∙ none_from test xs all.1
 
-distinct_to : {T : Type 0} (same : T → T → Bool) (xs : List T) → has_repeat same xs ≡ false → IsDistinct same xs
+pub distinct_to : {T : Type 0} (same : T → T → Bool) (xs : List T) → has_repeat same xs ≡ false → IsDistinct same xs
 unfolding IsDistinct
 distinct_to same [] none = tt
 distinct_to same (x ∷ xs) none =
     let both = or_parts (list_any (λ y. same x y) xs) (has_repeat same xs) none in
     (none_to (λ y. same x y) xs both.0, distinct_to same xs both.1)
 
-distinct_from : {T : Type 0} (same : T → T → Bool) (xs : List T) → IsDistinct same xs → has_repeat same xs ≡ false
+pub distinct_from : {T : Type 0} (same : T → T → Bool) (xs : List T) → IsDistinct same xs → has_repeat same xs ≡ false
 unfolding IsDistinct
 distinct_from same [] distinct = refl
 distinct_from same (x ∷ xs) distinct =

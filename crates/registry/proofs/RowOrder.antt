@@ -1,5 +1,5 @@
 -- The rows of an import that tie in their order are those whose fields are all the same.
-use Rattle.registry.proofs.Vocabulary.{◌≡◌, Bool, ◌&&◌, ◌==◌, sym, is_eq, prefix_eq, ImportRow}
+use Rattle.registry.proofs.Vocabulary.{◌≡◌, ◌&&◌, ◌==◌, is_eq, prefix_eq, ImportRow}
 use Rattle.std.specs.Cmp.{both_tied, unsigned_ties}
 use Rattle.addr.specs.steps.TotalOrders.{prefix_ties}
 use Rattle.registry.specs.contracts.authorization.ImportRowOrd.TheImpl as ImportRowOrd

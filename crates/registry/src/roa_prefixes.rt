@@ -4,6 +4,7 @@ ghost use Rattle.registry.specs.RoaPrefixes.{AreInNumber, AreEntries, Rise, repe
 ghost use Rattle.addr.specs.declared.roa_prefix.RoaPrefix.{RoaPrefix};
 
 use addr::{Prefix, RoaPrefix};
+use sorted_items::{rise_by_key, sort_each_once};
 use std::alloc::{AllocError, Global};
 use std::marker::Model;
 use thiserror::Error;
@@ -51,8 +52,7 @@ impl RoaPrefixes {
         if !are_in_number(&entries) {
             return Err(RoaPrefixesFault::Count);
         }
-        entries.sort_unstable_by_key(|entry| entry.prefix);
-        if !rise(&entries) {
+        if !sort_each_once(&mut entries, |entry| entry.prefix) {
             return Err(RoaPrefixesFault::Repeated);
         }
         Ok(RoaPrefixes { entries })
@@ -113,5 +113,5 @@ fn are_in_number(entries: &[RoaPrefix]) -> bool
 fn rise(entries: &[RoaPrefix]) -> bool
     ensures { IsTrue result ↔ Rise entries.now }
 {
-    entries.is_sorted_by(|a, b| a.prefix < b.prefix)
+    rise_by_key(entries, |entry| entry.prefix)
 }

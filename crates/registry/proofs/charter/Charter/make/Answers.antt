@@ -1,5 +1,4 @@
-use Rattle.registry.proofs.Vocabulary.{◌≡◌, ◌≤◌, ℕ, length, nat_eq, sym, ◌∙◌, ap, subst, get_or, ◌+◌, pointwise, length_permutation, prefix_eq, has_repeat}
-use Rattle.std.proofs.Common.{is_lt}
+use Rattle.registry.proofs.Vocabulary.{◌≡◌, ◌≤◌, ℕ, length, nat_eq, sym, ◌∙◌, ap, subst, pointwise, length_permutation, prefix_eq, has_repeat}
 use Rattle.std.proofs.lemmas.Cmp.{nat_list_eq_equiv}
 use Rattle.registry.specs.declared.charter.TheConstants.{MOST_OPERATORS, MOST_POOL_PREFIXES}
 use Rattle.registry.proofs.Repeats.{has_repeat-moved, prefix_eq-flips}
