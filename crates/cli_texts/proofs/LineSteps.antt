@@ -1,5 +1,5 @@
 -- Lines of a check: one more row that is in the file, and texts that are written in pieces.
-use Rattle.cli_texts.proofs.Vocabulary.{◌≡◌, ◌≤◌, ◌<◌, ◌+◌, ℕ, List, [], ◌∷◌, ◌++◌, length, take, drop, true, get_or, refl, sym, ap, ◌∙◌, append_assoc, add-one, drop-cons, slice_range, Option, Some, None, IfSome, MatchOption, Bor, bytes_eq, append-nil, take-append-drop, bytes_eq-Decides, state_text, state_of, after_rows, row_line, rows_text, WritesBeginning, RowsLieIn}
+use Rattle.cli_texts.proofs.Vocabulary.{◌≡◌, ◌≤◌, ◌<◌, ◌+◌, ℕ, List, [], ◌∷◌, ◌++◌, length, take, drop, true, get_or, refl, sym, ap, ◌∙◌, append_assoc, drop_more, slice_range, Option, Some, None, IfSome, MatchOption, Bor, bytes_eq, append-nil, take-append-drop, bytes_eq-Decides, state_text, state_of, after_rows, row_line, rows_text, WritesBeginning, RowsLieIn}
 use Rattle.payload.specs.declared.validity.Validity.{Validity}
 use Rattle.payload.specs.declared.validity.Validity.TheVariants.{Valid}
 use Rattle.streams.specs.Streams.{AppendsBeginning}
@@ -57,18 +57,14 @@ lines-more text rest others prefix origin rows more r state m none at texts same
 abbrev pub no_row : JudgedRow
 no_row = record { start = 0; end = 0; state = Valid }
 
-drop-next : (rows : List JudgedRow) (index : ℕ) → index < length rows
-    → drop index rows ≡ get_or rows index no_row ∷ drop (index + 1) rows
-drop-next rows index below = rw add-one (drop-cons rows index no_row below)
-
 pub fits-next : (rest : List ℕ) (rows : List JudgedRow) (index : ℕ) → index < length rows → RowsLieIn rest (drop index rows)
     → RowsLieIn (drop (get_or rows index no_row).end rest) (drop (index + 1) rows)
-fits-next rest rows index below fits = let next = rw (drop-next rows index below) at fits in next.2
+fits-next rest rows index below fits = let next = rw (drop_more rows index no_row below) at fits in next.2
 
 pub text-next : (rest : List ℕ) (rows : List JudgedRow) (index : ℕ) → index < length rows
     → rows_text rest (drop index rows)
     ≡ row_line rest (get_or rows index no_row) ++ rows_text (drop (get_or rows index no_row).end rest) (drop (index + 1) rows)
-text-next rest rows index below = rw (drop-next rows index below) refl
+text-next rest rows index below = rw (drop_more rows index no_row below) refl
 
 -- ---- where a row is
 

@@ -1,8 +1,7 @@
 -- Rows of CSV files.
-use Rattle.cli_texts.proofs.Vocabulary.{◌≡◌, ◌<◌, inl, inr, ℕ, List, [], ◌∷◌, Option, Some, None, refl, arith, cases_Bool, Spells, Prefix, loose-spelling, faultless-Spells, RecordFields, fields_eq, rows_after, header_fault, length_and_width, decimal_between, payload_texts_fault, origin_fault, route_texts_fault, RowFault}
+use Rattle.cli_texts.proofs.Vocabulary.{◌≡◌, inl, inr, ℕ, List, [], ◌∷◌, Option, Some, None, refl, cases_Bool, Spells, Prefix, loose-Spells, faultless-Spells, RecordFields, fields_eq, rows_after, header_fault, length_and_width, decimal_between, payload_texts_fault, origin_fault, route_texts_fault, RowFault}
 use Rattle.addr.specs.Family.{width}
 use Rattle.addr.specs.Digits.{asn_in}
-use Rattle.addr.proofs.AddressLemmas.{first_below, width_small}
 use Rattle.csv_records.proofs.FieldLemmas.{header-there}
 use Rattle.cli_texts.specs.declared.fault.FileFault.TheVariants as file
 use Rattle.cli_texts.specs.declared.fault.RowFault.TheVariants as row
@@ -26,11 +25,8 @@ header-missing header (first ∷ rows) none = elim (cases_Bool (fields_eq first 
 
 -- ---- payload rows
 
-prefix_short : (p : Prefix) → p.length < 1000
-prefix_short p = let small = width_small p.family in let fits = p.length_fits in omega arith
-
 pub length_and_width-Spells : (p : Prefix) (text : List ℕ) → Spells p text → length_and_width text ≡ Some (p.length, width p.family)
-length_and_width-Spells p text spelled = rw (spelled, loose-spelling p.family p.first p.length (first_below p) (prefix_short p)) refl
+length_and_width-Spells p text spelled = rw (loose-Spells p text spelled) refl
 
 pub faultless_payload : (asn prefix max : List ℕ) (n m : ℕ) (p : Prefix) → Some n ≡ asn_in asn → Spells p prefix → Some m ≡ decimal_between p.length (width p.family) max
     → payload_texts_fault asn prefix max ≡ None

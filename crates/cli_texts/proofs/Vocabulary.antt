@@ -1,13 +1,13 @@
 -- The names of the logic, of other crates and of the definitions that the proofs use, in one place.
-pub use Rattle.std.proofs.Common.{Bool, List, None, Option, Some, [], add-one, ap, append_assoc, arith, codes, cond, drop, drop-cons, false, get_or, inl, inr, length, length-append, map, nat_eq, not, refl, rules, slice_index_or, subst, suc, sym, take, true, zero, ℕ, ◌++◌, ◌+◌, ◌-◌, ◌<◌, ◌∙◌, ◌∷◌, ◌≡◌, ◌≢◌, ◌≤◌}
+pub use Rattle.std.proofs.Common.{Bool, List, None, Option, Some, [], ap, append_assoc, arith, codes, cond, drop, false, get_or, inl, inr, length, length-append, map, nat_eq, not, refl, rules, slice_index_or, subst, suc, sym, take, true, zero, ℕ, ◌++◌, ◌+◌, ◌-◌, ◌<◌, ◌∙◌, ◌∷◌, ◌≡◌, ◌≢◌, ◌≤◌}
 pub use Rattle.std.proofs.lemmas.Bool.{cases_Bool, not-false, not-true, or_from, or_parts}
-pub use Rattle.std.proofs.lemmas.List.{append-nil, length-map, map-append, nil_from_length, take-append-drop, take_rest}
+pub use Rattle.std.proofs.lemmas.List.{append-nil, drop_more, length-map, map-append, nil_from_length, take-append-drop, take_rest}
 pub use Rattle.std.proofs.lemmas.Slice.Eq.{bytes_eq-Decides}
 pub use Rattle.std.specs.Borrow.{Bor}
 pub use Rattle.std.specs.Prelude.{Err, IfSome, MatchOption, slice_range, ◌||◌}
 pub use Rattle.std.specs.Str.{bytes_eq}
 pub use Rattle.csv.proofs.RecordFacts.{on_err-map}
-pub use Rattle.addr.proofs.PrefixSpellingLemmas.{Spells_unique, faultless-Spells, loose-spelling}
+pub use Rattle.addr.proofs.PrefixSpellingLemmas.{Spells_unique, faultless-Spells, loose-Spells}
 pub use Rattle.addr.specs.OriginValidation.{ValidationState, state_text, validation_state}
 pub use Rattle.addr.specs.PrefixText.{Spells}
 pub use Rattle.addr.specs.declared.prefix.Prefix.{Prefix}
