@@ -1,5 +1,5 @@
 -- Items that are put in order one by one: they rise where none is there twice, and have that order alone.
-use Rattle.requests.proofs.Vocabulary.{◌≡◌, Bool, true, false, if◌then◌else◌, List, [], ◌∷◌, Ordering, inl, inr, refl, sym, ap, subst, ◌∙◌, IsPermutation, Less, Equal, Greater, IsTotalOrder, is_lt, ordering_reverse, AllByRecursion, list_any, both_ways, or_parts, All-from_recursion, recursion_from_All, All-permutation, IsPermutation-refl, IsPermutation-sym, IsPermutation-trans, IsPermutation-cons, IsPermutation-middle, list_any-IsPermutation, sorted_head, sorted_tail, has_repeat, in_order, with_item}
+use Rattle.requests.proofs.Vocabulary.{◌≡◌, zero, suc, arith, Bool, true, false, if◌then◌else◌, List, [], ◌∷◌, Ordering, inl, inr, refl, sym, ap, subst, ◌∙◌, IsPermutation, Less, Equal, Greater, IsTotalOrder, is_lt, ordering_reverse, AllByRecursion, Contains, All-contains, Contains-append_right, Contains-permutation, list_any, both_ways, or_parts, All-from_recursion, IsPermutation-refl, IsPermutation-sym, IsPermutation-trans, IsPermutation-cons, IsPermutation-middle, list_any-IsPermutation, sorted_head, sorted_tail, has_repeat, in_order, with_item}
 use Rattle.std.specs.Prelude.{◌⊎◌}
 use Rattle.std.specs.List.Sorted.{IsStrictlySortedBy}
 
@@ -24,56 +24,43 @@ module _ {A : Type 0} (order : A → A → Ordering) (total : IsTotalOrder order
 
   -- ---- two rising lists of the same items are equal
 
-  abbrev Has : List A → A → Type 0
-  Has [] x = ⊥
-  Has (y ∷ ys) x = (x ≡ y) ⊎ Has ys x
+  -- an item is the first or among the others
+  first_or_later : (x y : A) (ys : List A) → Contains (y ∷ ys) x → (y ≡ x) ⊎ Contains ys x
+  first_or_later x y ys (zero, below, is) = inl is
+  first_or_later x y ys (suc i, below, is) = inr (i, omega arith, is)
 
-  had_before : (x y : A) (zs : List A) → IsBefore x zs → Has zs y → order x y ≡ Less
-  had_before x y [] before has = absurd has
-  had_before x y (z ∷ zs) before (inl is) = subst (λ (a : A). order x a ≡ Less) (sym is) before.0
-  had_before x y (z ∷ zs) before (inr has) = had_before x y zs before.1 has
+  had_before : (x y : A) (zs : List A) → IsBefore x zs → Contains zs y → order x y ≡ Less
+  had_before x y zs before has = All-contains (λ z. order x z ≡ Less) zs y (All-from_recursion (λ z. order x z ≡ Less) zs before) has
 
-  has_more : (x : A) (ys some : List A) → AllByRecursion (Has ys) some → AllByRecursion (Has (x ∷ ys)) some
-  has_more x ys [] all = tt
-  has_more x ys (z ∷ some) all = (inr all.0, has_more x ys some all.1)
-
-  has_all : (xs : List A) → AllByRecursion (Has xs) xs
-  has_all [] = tt
-  has_all (x ∷ xs) = (inl refl, has_more x xs xs (has_all xs))
-
-  same_first : (x y : A) (xs ys : List A) → IsBefore x xs → IsBefore y ys → Has (y ∷ ys) x → Has (x ∷ xs) y → x ≡ y
-  same_first x y xs ys one other (inl is) back = is
-  same_first x y xs ys one other (inr has) (inl is) = sym is
+  same_first : (x y : A) (xs ys : List A) → IsBefore x xs → IsBefore y ys → (y ≡ x) ⊎ Contains ys x → (x ≡ y) ⊎ Contains xs y → x ≡ y
+  same_first x y xs ys one other (inl is) back = sym is
+  same_first x y xs ys one other (inr has) (inl is) = is
   same_first x y xs ys one other (inr has) (inr back) =
       absurd (not_before_itself x (total.trans x y x (had_before x y xs one back) (had_before y x ys other has)))
 
-  not_first : (x y : A) (zs : List A) → order x y ≡ Less → Has (x ∷ zs) y → Has zs y
-  not_first x y zs less (inl is) = absurd (not_before_itself x (subst (λ (a : A). order x a ≡ Less) is less))
-  not_first x y zs less (inr has) = has
-
-  among_others : (x : A) (ys zs : List A) → IsBefore x ys → AllByRecursion (Has (x ∷ zs)) ys → AllByRecursion (Has zs) ys
-  among_others x [] zs before all = tt
-  among_others x (y ∷ ys) zs before all = (not_first x y zs before.0 all.0, among_others x ys zs before.1 all.1)
+  -- what is after the first in one is so in the other
+  later : (x y z : A) (xs ys : List A) → IsBefore x xs → x ≡ y → Contains xs z → (y ≡ z) ⊎ Contains ys z → Contains ys z
+  later x y z xs ys before first has (inl is) =
+      absurd (not_before_itself x (subst (λ a. order x a ≡ Less) (sym (first ∙ is)) (had_before x z xs before has)))
+  later x y z xs ys before first has (inr there) = there
 
   same_list : (xs ys : List A) → IsStrictlySortedBy order xs → IsStrictlySortedBy order ys
-      → AllByRecursion (Has ys) xs → AllByRecursion (Has xs) ys → xs ≡ ys
-  same_list [] [] one other had has = refl
-  same_list [] (y ∷ ys) one other had has = absurd has.0
-  same_list (x ∷ xs) [] one other had has = absurd had.0
-  same_list (x ∷ xs) (y ∷ ys) one other had has =
+      → ((z : A) → Contains xs z → Contains ys z) → ((z : A) → Contains ys z → Contains xs z) → xs ≡ ys
+  same_list [] [] one other to back = refl
+  same_list [] (y ∷ ys) one other to back = let none = (back y (0, omega arith, refl)).1 in absurd (omega arith)
+  same_list (x ∷ xs) [] one other to back = let none = (to x (0, omega arith, refl)).1 in absurd (omega arith)
+  same_list (x ∷ xs) (y ∷ ys) one other to back =
       let after = sorted_head order x xs one in
       let behind = sorted_head order y ys other in
-      let first : x ≡ y = same_first x y xs ys after behind had.0 has.0 in
-      let left = among_others x xs ys after (subst (λ (a : A). AllByRecursion (Has (a ∷ ys)) xs) (sym first) had.1) in
-      let right = among_others y ys xs behind (subst (λ (a : A). AllByRecursion (Has (a ∷ xs)) ys) first has.1) in
-      let rest : xs ≡ ys = same_list xs ys (sorted_tail order x xs one) (sorted_tail order y ys other) left right in
+      let first : x ≡ y = same_first x y xs ys after behind (first_or_later x y ys (to x (0, omega arith, refl))) (first_or_later y x xs (back y (0, omega arith, refl))) in
+      let rest : xs ≡ ys = same_list xs ys (sorted_tail order x xs one) (sorted_tail order y ys other)
+      (λ z has. later x y z xs ys after first has (first_or_later z y ys (to z (Contains-append_right (x ∷ []) xs z has))))
+      (λ z has. later y x z ys xs behind (sym first) has (first_or_later z x xs (back z (Contains-append_right (y ∷ []) ys z has)))) in
       λ i. first i ∷ rest i
 
-  moved_has : (xs ys : List A) → IsPermutation xs ys → AllByRecursion (Has xs) ys
-  moved_has xs ys moved = recursion_from_All (Has xs) ys (All-permutation (Has xs) xs ys moved (All-from_recursion (Has xs) xs (has_all xs)))
-
   one_order : (xs ys : List A) → IsPermutation xs ys → IsStrictlySortedBy order xs → IsStrictlySortedBy order ys → ys ≡ xs
-  one_order xs ys moved one other = same_list ys xs other one (moved_has xs ys moved) (moved_has ys xs (IsPermutation-sym xs ys moved))
+  one_order xs ys moved one other =
+      same_list ys xs other one (λ z. Contains-permutation ys xs z (IsPermutation-sym xs ys moved)) (λ z. Contains-permutation xs ys z moved)
 
   -- ---- the same items in order
 

@@ -1,6 +1,6 @@
 -- What is read of a SLURM file in a request: the exceptions that it says are those that one reading
 -- of its tree gives, and its fault is that reading's.
-use Rattle.requests.proofs.Vocabulary.{◌≡◌, List, [], ◌∷◌, Option, Some, None, Result, Ok, Err, length, refl, sym, ap, ◌∙◌, subst, map, codes, none-some, same_Some, All-from_recursion, recursion_from_All, All-permutation, length_permutation, AllByRecursion, AllZip, option_to_list, IfOk, IsPermutation, result_err, result_map_both, same_vrp, Prefix, Data, get, slurm_fault, filters_at, assertions_at, SlurmFault, lowest, required_faults, required, file, sent_file_faults, fault_order, File, Members, HasMainFile, main_alone, as_file, file_in, file_of, main_file_in, main_file_of, reads-mapped}
+use Rattle.requests.proofs.Vocabulary.{◌≡◌, List, [], ◌∷◌, Option, Some, None, Result, Ok, Err, refl, sym, ap, ◌∙◌, subst, map, codes, none-some, same_Some, All-from_recursion, lit<, All-permutation, length_permutation, AllZip, option_to_list, IfOk, IsPermutation, result_err, result_map_both, same_vrp, Prefix, Data, get, slurm_fault, filters_at, assertions_at, SlurmFault, lowest, required_faults, required, file, sent_file_faults, fault_order, File, Members, HasMainFile, main_alone, as_file, file_in, file_of, main_file_in, main_file_of, reads-mapped}
 use Rattle.addr.proofs.PrefixSpellingLemmas.{Spells_unique}
 use Rattle.addr.specs.PrefixText.{Spells}
 use Rattle.addr.specs.declared.asn.Asn.{Asn}
@@ -117,12 +117,7 @@ pub reads-main_file_of : (found : Option Data) → ReadsUnlessFaulty (main_file_
 reads-main_file_of found = reads-mapped main_alone (λ file says. (file, says, refl)) (reads-file_of found)
 
 -- one file in another order
-alone : {X : Type 0} (x : X) (ys : List X) → length ys ≡ 1 → AllByRecursion (λ y. y ≡ x) ys → ys ≡ x ∷ []
-alone x [] long all = absurd cc
-alone x (y ∷ []) long all = ap (λ z. z ∷ []) all.0
-alone x (y ∷ z ∷ ys) long all = absurd cc
-
 pub still_alone : {X : Type 0} (x : X) (ys : List X) → IsPermutation (x ∷ []) ys → ys ≡ x ∷ []
-still_alone x ys moved =
-    alone x ys (length_permutation (x ∷ []) ys moved)
-    (recursion_from_All (λ y. y ≡ x) ys (All-permutation (λ y. y ≡ x) (x ∷ []) ys moved (All-from_recursion (λ y. y ≡ x) (x ∷ []) (refl, tt))))
+still_alone x [] moved = absurd (let long = length_permutation (x ∷ []) [] moved in cc)
+still_alone x (y ∷ []) moved = ap (λ z. z ∷ []) (All-permutation (λ z. z ≡ x) (x ∷ []) (y ∷ []) moved (All-from_recursion (λ z. z ≡ x) (x ∷ []) (refl, tt)) 0 y (lit< tt))
+still_alone x (y ∷ z ∷ ys) moved = absurd (let long = length_permutation (x ∷ []) (y ∷ z ∷ ys) moved in cc)

@@ -1,14 +1,14 @@
 -- The names of the logic, of other crates and of the definitions that the proofs use, in one place.
-pub use Rattle.std.proofs.Common.{Bool, Err, IsUtf8, List, None, Ok, Option, Ordering, Result, Some, [], add-one, ap, append_assoc, arith, codes, drop, drop-cons, false, find, fold, get_or, if◌then◌else◌, inl, inr, is_some, length, map, nat_le, nat_lt, not, option_and_then, refl, subst, suc, sym, take, true, ℕ, ◌++◌, ◌+◌, ◌<◌, ◌==◌, ◌||◌, ◌∙◌, ◌∷◌, ◌≡◌, ◌≤◌, ◌⊎◌}
+pub use Rattle.std.proofs.Common.{Bool, Err, IsUtf8, List, None, Ok, Option, Ordering, Result, Some, [], add-one, ap, append_assoc, arith, codes, drop, drop-cons, false, find, fold, get_or, if◌then◌else◌, inl, inr, is_some, length, lit<, map, nat_le, nat_lt, not, option_and_then, refl, subst, suc, sym, take, true, zero, ℕ, ◌++◌, ◌+◌, ◌<◌, ◌==◌, ◌||◌, ◌∙◌, ◌∷◌, ◌≡◌, ◌≤◌, ◌⊎◌}
 pub use Rattle.std.proofs.lemmas.Bool.{and_from, both_ways, false_from_ne_true, false≢true, le-leb, leb-true, or_parts}
 pub use Rattle.std.proofs.lemmas.List.{length-map, length-take}
-pub use Rattle.std.proofs.lemmas.List.Elements.{All-from_recursion, recursion_from_All}
-pub use Rattle.std.proofs.lemmas.List.Sorted.{All-permutation, IsPermutation-cons, IsPermutation-middle, IsPermutation-refl, IsPermutation-sym, IsPermutation-trans, length_permutation, list_any-IsPermutation}
+pub use Rattle.std.proofs.lemmas.List.Elements.{All-contains, All-from_recursion, Contains-append_right}
+pub use Rattle.std.proofs.lemmas.List.Sorted.{All-permutation, Contains-permutation, IsPermutation-cons, IsPermutation-middle, IsPermutation-refl, IsPermutation-sym, IsPermutation-trans, length_permutation, list_any-IsPermutation}
 pub use Rattle.std.proofs.lemmas.Map.Keys.{sorted_head, sorted_tail}
 pub use Rattle.std.proofs.lemmas.Option.{none-some, same_Some}
 pub use Rattle.std.specs.Cmp.{IsTotalOrder, on_total}
 pub use Rattle.std.specs.Global.{Vec}
-pub use Rattle.std.specs.List.{AllByRecursion, AllZip, flat_map, list_any}
+pub use Rattle.std.specs.List.{AllByRecursion, AllZip, Contains, flat_map, list_any}
 pub use Rattle.std.specs.Option.{ok_or, option_copied, option_to_list}
 pub use Rattle.std.specs.Ordering.{is_eq, is_lt, ordering_reverse}
 pub use Rattle.std.specs.Prelude.{IfOk, IsPermutation}
