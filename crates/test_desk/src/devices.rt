@@ -1,6 +1,6 @@
 //! How a script is read and its replies are written: pieces, ends, failures and the limit of a line.
 use crate::fakes::{Drip, Peer, Tape};
-use crate::ready::{assert_same, new_desk};
+use crate::ready::{assert_same, on_new_desk};
 use desk::Desk;
 use sqlite::MemStore;
 use std::alloc::Global;
@@ -79,9 +79,10 @@ fn assert_new_answer(
     replies: &str,
     about: &str,
 ) {
-    let mut desk = new_desk(rt, alloc);
-    let replies = replies.as_bytes();
-    assert_answer(rt, alloc, &mut desk, script, expected, replies, about);
+    on_new_desk(rt, alloc, |desk| {
+        let replies = replies.as_bytes();
+        assert_answer(rt, alloc, desk, script, expected, replies, about);
+    });
 }
 
 /// The answer to an input and the replies, in whatever pieces it comes.
@@ -168,10 +169,11 @@ fn assert_acted_on(
     replies: &[u8],
     commands: usize,
 ) {
-    let mut desk = new_desk(rt, alloc);
-    assert_answer(rt, alloc, &mut desk, script, expected, replies, "cut short");
-    let denied = denied_again(rt, alloc, &mut desk);
-    assert_same(rt, denied, commands, "sent again");
+    on_new_desk(rt, alloc, |desk| {
+        assert_answer(rt, alloc, desk, script, expected, replies, "cut short");
+        let denied = denied_again(rt, alloc, desk);
+        assert_same(rt, denied, commands, "sent again");
+    });
 }
 
 fn assert_replies_cut(rt: &impl Abort, alloc: Global, room: usize) {
@@ -267,15 +269,16 @@ fn run_with(
 
 #[test]
 fn reply_reaches_the_peer_before_the_next_line_is_read(rt: HostRuntime) {
-    let mut desk = new_desk(&rt, rt.alloc());
     let peer = Peer {
         lines: Cell::new(3),
         sent: Cell::new(0),
         replies: Cell::new(0),
     };
-    let result = run_with(&rt, rt.alloc(), &mut desk, &peer);
-    assert_same(&rt, result, Ok(()), "the script");
-    assert_same(&rt, peer.replies.get(), 3, "the replies");
+    on_new_desk(&rt, rt.alloc(), |desk| {
+        let result = run_with(&rt, rt.alloc(), desk, &peer);
+        assert_same(&rt, result, Ok(()), "the script");
+        assert_same(&rt, peer.replies.get(), 3, "the replies");
+    });
 }
 
 /// Every kind of error except `Interrupted`, after which a call is made again.

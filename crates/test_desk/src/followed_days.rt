@@ -1,7 +1,7 @@
 //! A desk that keeps a day beside one that builds it anew before each question, over the same
 //! commands, which a fixed seed chooses.
 use crate::ready::{database, new_desk, old_database, opened_desk, row_of};
-use crate::scripts::{ALPHA, AUTHORIZATION, assert_reply, desk_after, reply_to};
+use crate::scripts::{ALPHA, AUTHORIZATION, assert_reply, closed_after, reply_to};
 use addr::Day;
 use desk::Desk;
 use sqlite::{Connection, MemStore};
@@ -324,7 +324,7 @@ fn moved_tables_keep_the_day(rt: HostRuntime) {
 
 /// The database of a desk that was closed.
 fn closed(rt: &impl Abort, alloc: Global) -> Connection<MemStore> {
-    desk_after(rt, alloc, "closed", &[ALPHA, AUTHORIZATION]).close()
+    closed_after(rt, alloc, "closed", &[ALPHA, AUTHORIZATION])
 }
 
 #[test]

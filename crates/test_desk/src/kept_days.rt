@@ -3,7 +3,7 @@
 //!
 //! Beside the rows of a script there are two that call the desk: `payloads`, for the VRPs of the day,
 //! which are written as the reply is, and `kept`, for the day that is kept, if one is.
-use crate::ready::{new_desk, row_of, value_of};
+use crate::ready::{on_new_desk, row_of, value_of};
 use crate::scripts::{
     FIRST_DAY, assert_reply, assert_script, push_line, reply_to, set_day, setups_of, text_of,
 };
@@ -325,8 +325,9 @@ fn assert_follows(rt: &impl Abort, alloc: Global, desk: &mut Desk<MemStore>, scr
 #[test]
 fn kept_day_follows_commands(rt: HostRuntime) {
     for script in SCRIPTS.split("\n# ").skip(1) {
-        let mut desk = new_desk(&rt, rt.alloc());
-        assert_follows(&rt, rt.alloc(), &mut desk, script);
+        on_new_desk(&rt, rt.alloc(), |desk| {
+            assert_follows(&rt, rt.alloc(), desk, script);
+        });
     }
 }
 

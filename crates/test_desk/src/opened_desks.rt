@@ -1,7 +1,7 @@
 //! Desks that go on where another one ended.
 use crate::ready::{database, old_database, opened_desk};
 use crate::scripts::exceptions::FILTER_AND_ASSERTION;
-use crate::scripts::{ALPHA, AUTHORIZATION, assert_lines, desk_after};
+use crate::scripts::{ALPHA, AUTHORIZATION, assert_lines, closed_after};
 use sqlite::{Connection, MemStore};
 use std::alloc::Global;
 use std::process::Abort;
@@ -60,8 +60,8 @@ fn old_tables_are_moved_on_opening(rt: HostRuntime) {
 #[test]
 fn closed_desk_is_opened(rt: HostRuntime) {
     let name = "closed_desk_is_opened";
-    let desk = desk_after(&rt, rt.alloc(), name, &[ALPHA, AUTHORIZATION]);
-    assert_goes_on(&rt, rt.alloc(), name, desk.close());
+    let conn = closed_after(&rt, rt.alloc(), name, &[ALPHA, AUTHORIZATION]);
+    assert_goes_on(&rt, rt.alloc(), name, conn);
 }
 
 #[test]
@@ -84,8 +84,8 @@ bob {"do":"payloads"} => {"payloads":[]}
 fn opened_desk_has_its_exceptions(rt: HostRuntime) {
     let name = "opened_desk_has_its_exceptions";
     let setup = [ALPHA, AUTHORIZATION, FILTER_AND_ASSERTION];
-    let desk = desk_after(&rt, rt.alloc(), name, &setup);
-    assert_opened(&rt, rt.alloc(), name, desk.close(), EXCEPTIONS_AFTERWARDS);
+    let conn = closed_after(&rt, rt.alloc(), name, &setup);
+    assert_opened(&rt, rt.alloc(), name, conn, EXCEPTIONS_AFTERWARDS);
 }
 
 /// Two files of a set, and what is left of them when the desk is opened again.
@@ -102,8 +102,8 @@ bob {"do":"payloads"} => {"payloads":[{"asn":64496,"prefix":"192.0.2.0/24","max"
 #[test]
 fn opened_desk_has_its_slurm_files(rt: HostRuntime) {
     let name = "opened_desk_has_its_slurm_files";
-    let desk = desk_after(&rt, rt.alloc(), name, &[ALPHA, AUTHORIZATION, FILES]);
-    assert_opened(&rt, rt.alloc(), name, desk.close(), FILES_AFTERWARDS);
+    let conn = closed_after(&rt, rt.alloc(), name, &[ALPHA, AUTHORIZATION, FILES]);
+    assert_opened(&rt, rt.alloc(), name, conn, FILES_AFTERWARDS);
 }
 
 /// The rows of a file as schema 1 has them.

@@ -1,6 +1,6 @@
 //! What tests begin with, and their one comparison. A test that lacks something ends here, so that
 //! the functions which call these have no early end of their own to prove.
-use crate::desks::{desk_of, example_desk, opened};
+use crate::desks::{EXAMPLE_POOL, desk_of, example_desk, opened};
 use desk::Desk;
 use sqlite::{Connection, MemStore};
 use std::alloc::Global;
@@ -28,14 +28,30 @@ pub(crate) fn assert_same<T: PartialEq + Debug + Drop, C: Debug + Drop>(
     assert_eq!(rt; found, expected, "at {case:?}");
 }
 
-/// A new desk with the operator `reg` and this pool.
-pub(crate) fn new_desk_of(rt: &impl Abort, alloc: Global, pool: &[&str]) -> Desk<MemStore> {
-    value_of(rt, desk_of(alloc, pool), "desk")
-}
-
 /// A new desk with the charter of the example.
 pub(crate) fn new_desk(rt: &impl Abort, alloc: Global) -> Desk<MemStore> {
     value_of(rt, example_desk(alloc), "desk")
+}
+
+/// Lends a new desk with the operator `reg` and this pool. What owns a desk is slow to prove, so
+/// tests borrow theirs.
+pub(crate) fn on_desk_of<F: FnOnce(&mut Desk<MemStore>)>(
+    rt: &impl Abort,
+    alloc: Global,
+    pool: &[&str],
+    ask: F,
+)
+    requires { F.IsAlwaysCallable ask }
+{
+    let mut desk = value_of(rt, desk_of(alloc, pool), "desk");
+    ask(&mut desk);
+}
+
+/// Lends a new desk with the charter of the example.
+pub(crate) fn on_new_desk<F: FnOnce(&mut Desk<MemStore>)>(rt: &impl Abort, alloc: Global, ask: F)
+    requires { F.IsAlwaysCallable ask }
+{
+    on_desk_of(rt, alloc, EXAMPLE_POOL, ask);
 }
 
 /// The desk of a database.

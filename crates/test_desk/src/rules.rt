@@ -1,7 +1,7 @@
 //! Requests that no line brings, and rows that no short script leaves.
 use crate::desks::example_charter;
-use crate::ready::{assert_same, value_of};
-use crate::scripts::{ALPHA, desk_after};
+use crate::ready::{assert_same, on_new_desk, value_of};
+use crate::scripts::{ALPHA, assert_lines};
 use addr::{Asn, Day, Holdings, Name, Prefix};
 use desk::{Desk, Reply, Request};
 use policy::{
@@ -51,10 +51,18 @@ fn assert_makes_nothing(
 #[test]
 fn import_without_rows_asks_no_rule(rt: HostRuntime) {
     let alloc = rt.alloc();
-    let mut desk = desk_after(&rt, alloc, "import_without_rows_asks_no_rule", &[ALPHA]);
-    assert_makes_nothing(&rt, alloc, &mut desk, "ann", "alpha");
-    assert_makes_nothing(&rt, alloc, &mut desk, "bob", "alpha");
-    assert_makes_nothing(&rt, alloc, &mut desk, "bob", "zeta");
+    on_new_desk(&rt, alloc, |desk| {
+        assert_lines(
+            &rt,
+            alloc,
+            "import_without_rows_asks_no_rule",
+            desk,
+            &[ALPHA],
+        );
+        assert_makes_nothing(&rt, alloc, desk, "ann", "alpha");
+        assert_makes_nothing(&rt, alloc, desk, "bob", "alpha");
+        assert_makes_nothing(&rt, alloc, desk, "bob", "zeta");
+    });
 }
 
 fn holdings(rt: &impl Abort, alloc: Global) -> Holdings {

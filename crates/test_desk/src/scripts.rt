@@ -6,9 +6,9 @@
 //! `day DAY`, the day of the lines that follow it.
 use crate::desks::EXAMPLE_POOL;
 use crate::fakes::Tape;
-use crate::ready::{new_desk, new_desk_of, row_of};
+use crate::ready::{new_desk, on_desk_of, row_of};
 use desk::{Asked, Desk, Reply};
-use sqlite::MemStore;
+use sqlite::{Connection, MemStore};
 use std::alloc::Global;
 use std::process::Abort;
 use test_library::sheet::Sheet;
@@ -166,16 +166,16 @@ pub(crate) fn push_item(rt: &impl Abort, list: &mut String, item: &str) {
     list.push_str(item).expect(rt, "a longer list");
 }
 
-/// A new desk to which these lines were sent.
-pub(crate) fn desk_after(
+/// The database of a new desk that was closed after these lines.
+pub(crate) fn closed_after(
     rt: &impl Abort,
     alloc: Global,
     name: &str,
     texts: &[&str],
-) -> Desk<MemStore> {
+) -> Connection<MemStore> {
     let mut desk = new_desk(rt, alloc);
     assert_lines(rt, alloc, name, &mut desk, texts);
-    desk
+    desk.close()
 }
 
 /// These lines, sent to the desk one by one, have their replies.
@@ -242,10 +242,12 @@ impl Dialogue {
 
     /// Each way of sending the lines has its own new desk.
     fn assert_on_new_desks(&self, rt: &impl Abort, name: &str, pool: &[&str]) {
-        let mut desk = new_desk_of(rt, self.alloc, pool);
-        self.assert_replies_of_lines(rt, name, &mut desk);
-        let mut desk = new_desk_of(rt, self.alloc, pool);
-        self.assert_replies_of_run(rt, name, &mut desk);
+        on_desk_of(rt, self.alloc, pool, |desk| {
+            self.assert_replies_of_lines(rt, name, desk);
+        });
+        on_desk_of(rt, self.alloc, pool, |desk| {
+            self.assert_replies_of_run(rt, name, desk);
+        });
     }
 
     /// The lines that are requests, and their replies.
