@@ -6,7 +6,6 @@ pub mod Entries
 pub mod Blocks
 pub mod Prefixes
 pub mod Contents
-pub mod Order
 pub mod RisingEntries
 pub mod Loop
 pub mod Written

@@ -1,124 +1,123 @@
--- Entries that rise: they have one order, and each is there once.
-use Rattle.roa.proofs.Vocabulary.{◌≡◌, ℕ, zero, suc, ◌+◌, ◌<◌, ◌≤◌, ◌==◌, true, false, cond, List, [], ◌∷◌, length, get_or, inl, inr, refl, sym, ap, subst, ◌∙◌, Contains, arith, ◌⊎◌, IsPermutation, Less, Greater, ordering_reverse, AllByRecursion, count_by, and_parts, cases_Bool, eqb-true, All-contains, All-from_recursion, Contains-append_right, Contains-permutation, IsPermutation-sym, sum_by-cons, equal_prefix, prefix_eq, Rises, entry_eq, entry_order}
+-- Entries that rise: they have one order, and each is there once. Where not each is there once, one is there twice.
+use Rattle.roa.proofs.Vocabulary.{◌≡◌, ℕ, zero, suc, ◌+◌, ◌≤◌, Bool, true, false, cond, List, [], ◌∷◌, inl, inr, refl, sym, ap, subst, ◌∙◌, Contains, arith, ◌⊎◌, ◌↔◌, IsPermutation, Less, AllByRecursion, count_by, cases_Bool, cases_lt, All-contains, Contains-append_right, Contains-permutation, IsPermutation-sym, sum_by-cons, Rises, entry_eq, entry_order}
+use Rattle.std.specs.Cmp.{IsEquivalence, IsTotalOrder, both_tied, unsigned_ties}
+use Rattle.std.specs.List.{IsDistinct}
+use Rattle.std.specs.List.Sorted.{IsStrictlySortedBy}
+use Rattle.std.specs.Ordering.{eq_by_cmp}
+use Rattle.std.proofs.lemmas.Cmp.{eq_by_cmp_equiv, nat_cmp_total, on_total, then_total, tied_itself}
+use Rattle.std.proofs.lemmas.Map.Keys.{IsDistinct-from_sorted, sorted_tail}
+use Rattle.std.proofs.lemmas.Map.Views.{All-after_first}
 use Rattle.addr.specs.declared.roa_prefix.RoaPrefix.{RoaPrefix as Entry}
-use Rattle.roa.proofs.Order.{entry_order_total}
+use Rattle.addr.specs.steps.TotalOrders.{prefix_ties, prefix_total}
+use Rattle.sorted_items.proofs.EachOnce.{rise-cons}
 
-not_before_itself : (a : Entry) → entry_order a a ≡ Less → ⊥
-not_before_itself a less =
-    let back : entry_order a a ≡ Greater = entry_order_total.antisymm a a ∙ ap ordering_reverse less in
-    absurd cc
+entry_total : IsTotalOrder entry_order
+entry_total = then_total (on_total (λ (a : Entry). a.prefix) prefix_total) (on_total (λ (a : Entry). a.max) nat_cmp_total)
 
-abbrev IsBefore : Entry → Entry → Type 0
-IsBefore a b = entry_order a b ≡ Less
+abbrev Rise : List Entry → Type 0
+Rise es = IsStrictlySortedBy entry_order es
 
--- each entry is before all that are behind it
-abbrev Ascends : List Entry → Type 0
-Ascends [] = Unit {0}
-Ascends (a ∷ es) = AllByRecursion (IsBefore a) es × Ascends es
-
-before_too : (a b : Entry) (es : List Entry) → IsBefore a b → AllByRecursion (IsBefore b) es → AllByRecursion (IsBefore a) es
-before_too a b [] less before = tt
-before_too a b (e ∷ es) less before = (entry_order_total.trans a b e less before.0, before_too a b es less before.1)
-
-ascends : (es : List Entry) → Rises es → Ascends es
-ascends [] rising = tt
-ascends (a ∷ []) rising = (tt, tt)
-ascends (a ∷ b ∷ es) rising =
-    let later = ascends (b ∷ es) rising.1 in
-    ((rising.0, before_too a b es rising.0 later.0), later)
-
-before_each : (a : Entry) (es : List Entry) (e : Entry) → AllByRecursion (IsBefore a) es → Contains es e → IsBefore a e
-before_each a es e before there = All-contains (IsBefore a) es e (All-from_recursion (IsBefore a) es before) there
+pub rise_is : (es : List Entry) → Rise es ↔ Rises es
+unfolding IsStrictlySortedBy
+rise_is [] = (λ _. tt, λ _. tt)
+rise_is (a ∷ []) = (λ _. tt, λ _. (tt, tt))
+rise_is (a ∷ b ∷ es) = (
+  λ rising. (rising.0.0, (rise_is (b ∷ es)).0 rising.1),
+  λ rising. rise-cons entry_total a b es rising.0 ((rise_is (b ∷ es)).1 rising.1),
+)
 
 -- ---- two rising lists of the same entries are equal
 
-none_there : (e : Entry) → Contains [] e → ⊥
-none_there e there = absurd (omega (arith, there.1))
+not_before_itself : (a : Entry) → entry_order a a ≡ Less → ⊥
+not_before_itself a less = let tied = tied_itself entry_total a in absurd cc
 
-first_there : (a : Entry) (es : List Entry) → Contains (a ∷ es) a
-first_there a es = (0, omega arith, refl)
+before_each : (a e : Entry) (es : List Entry) → Rise (a ∷ es) → Contains es e → entry_order a e ≡ Less
+before_each a e es rising there = All-contains (λ x. entry_order a x ≡ Less) es e (All-after_first entry_order a es rising) there
 
-first_or_later : (a : Entry) (es : List Entry) (e : Entry) → Contains (a ∷ es) e → (a ≡ e) ⊎ Contains es e
-first_or_later a es e there = at there.0 there.1 there.2
-  where
-    at : (k : _) → k < length (a ∷ es) → get_or (a ∷ es) k e ≡ e → (a ≡ e) ⊎ Contains es e
-    at zero below is = inl is
-    at (suc k) below is = inr (k, omega (arith, below), is)
+first_or_later : (a e : Entry) (es : List Entry) → Contains (a ∷ es) e → (a ≡ e) ⊎ Contains es e
+first_or_later a e es (zero, below, is) = inl is
+first_or_later a e es (suc k, below, is) = inr (k, omega arith, is)
 
-same_first : (a b : Entry) (es ds : List Entry) → AllByRecursion (IsBefore a) es → AllByRecursion (IsBefore b) ds → Contains (b ∷ ds) a → Contains (a ∷ es) b → a ≡ b
-same_first a b es ds one other of_a of_b = go (first_or_later b ds a of_a) (first_or_later a es b of_b)
-  where
-    go : (b ≡ a) ⊎ Contains ds a → (a ≡ b) ⊎ Contains es b → a ≡ b
-    go (inl is) back = sym is
-    go (inr later) (inl is) = is
-    go (inr later) (inr back) =
-        absurd (not_before_itself a (entry_order_total.trans a b a (before_each a es b one back) (before_each b ds a other later)))
+same_first : (a b : Entry) (es ds : List Entry) → Rise (a ∷ es) → Rise (b ∷ ds) → (b ≡ a) ⊎ Contains ds a → (a ≡ b) ⊎ Contains es b → a ≡ b
+same_first a b es ds one other (inl is) back = sym is
+same_first a b es ds one other (inr has) (inl is) = is
+same_first a b es ds one other (inr has) (inr back) =
+    absurd (not_before_itself a (entry_total.trans a b a (before_each a b es one back) (before_each b a ds other has)))
 
-not_first : (a e : Entry) (ds : List Entry) → IsBefore a e → Contains (a ∷ ds) e → Contains ds e
-not_first a e ds less there = elim (first_or_later a ds e there) [
-  | inl is ↦ absurd (not_before_itself a (subst (IsBefore a) (sym is) less))
-  | inr later ↦ later
-]
+-- what is behind the first in one is so in the other
+behind : (a b e : Entry) (es ds : List Entry) → Rise (a ∷ es) → a ≡ b → Contains es e → (b ≡ e) ⊎ Contains ds e → Contains ds e
+behind a b e es ds one first has (inl is) =
+    absurd (not_before_itself a (subst (λ x. entry_order a x ≡ Less) (sym (first ∙ is)) (before_each a e es one has)))
+behind a b e es ds one first has (inr there) = there
 
-same_list : (es ds : List Entry) → Ascends es → Ascends ds
+same_list : (es ds : List Entry) → Rise es → Rise ds
     → ((e : Entry) → Contains es e → Contains ds e) → ((e : Entry) → Contains ds e → Contains es e) → es ≡ ds
-same_list [] [] one other had has = refl
-same_list [] (b ∷ ds) one other had has = absurd (none_there b (has b (first_there b ds)))
-same_list (a ∷ es) [] one other had has = absurd (none_there a (had a (first_there a es)))
-same_list (a ∷ es) (b ∷ ds) one other had has =
-    let first : a ≡ b = same_first a b es ds one.0 other.0 (had a (first_there a es)) (has b (first_there b ds)) in
-    let left : (e : Entry) → Contains es e → Contains ds e =
-    λ e is. not_first b e ds (subst (λ (x : Entry). IsBefore x e) first (before_each a es e one.0 is)) (had e (Contains-append_right (a ∷ []) es e is)) in
-    let right : (e : Entry) → Contains ds e → Contains es e =
-    λ e is. not_first a e es (subst (λ (x : Entry). IsBefore x e) (sym first) (before_each b ds e other.0 is)) (has e (Contains-append_right (b ∷ []) ds e is)) in
-    let rest : es ≡ ds = same_list es ds one.1 other.1 left right in
+same_list [] [] one other to back = refl
+same_list [] (b ∷ ds) one other to back = let none = (back b (0, omega arith, refl)).1 in absurd (omega arith)
+same_list (a ∷ es) [] one other to back = let none = (to a (0, omega arith, refl)).1 in absurd (omega arith)
+same_list (a ∷ es) (b ∷ ds) one other to back =
+    let first : a ≡ b = same_first a b es ds one other (first_or_later b a ds (to a (0, omega arith, refl))) (first_or_later a b es (back b (0, omega arith, refl))) in
+    let rest : es ≡ ds = same_list es ds (sorted_tail entry_order a es one) (sorted_tail entry_order b ds other)
+    (λ e has. behind a b e es ds one first has (first_or_later b e ds (to e (Contains-append_right (a ∷ []) es e has))))
+    (λ e has. behind b a e ds es other (sym first) has (first_or_later a e es (back e (Contains-append_right (b ∷ []) ds e has)))) in
     λ i. first i ∷ rest i
 
 pub one_order : (es ds : List Entry) → IsPermutation es ds → Rises es → Rises ds → ds ≡ es
 one_order es ds moved one other =
-    same_list ds es (ascends ds other) (ascends es one)
+    same_list ds es ((rise_is ds).1 other) ((rise_is es).1 one)
     (λ e. Contains-permutation ds es e (IsPermutation-sym es ds moved)) (λ e. Contains-permutation es ds e moved)
 
--- ---- an entry is there once
+-- ---- an entry is there once, or some entry is there twice
 
-same_entry : (a b : Entry) → entry_eq a b ≡ true → a ≡ b
-same_entry a b is =
-    let parts = and_parts (prefix_eq a.prefix b.prefix) (a.max == b.max) is in
-    let prefix = equal_prefix a.prefix b.prefix parts.0 in
-    let max = eqb-true a.max b.max parts.1 in
-    λ i. record { prefix = prefix i; max = max i }
+-- entries that tie are equal
+by_ties : (P : (Entry → Entry → Bool) → Type 0) → P (eq_by_cmp entry_order) → P entry_eq
+by_ties P = subst P (λ i a b. sym (both_tied _ _ _ _ (prefix_ties a.prefix b.prefix) (unsigned_ties a.max b.max)) i)
+
+laws : IsEquivalence entry_eq
+laws = by_ties IsEquivalence (eq_by_cmp_equiv entry_total)
 
 module _ (e : Entry) where
-  once : Entry → ℕ
-  once a = cond (entry_eq e a) 1 0
+  times : List Entry → ℕ
+  times es = count_by (entry_eq e) es
 
-  once-equal : (a : Entry) → entry_eq e a ≡ true → once a ≡ 1
-  unfolding once
-  once-equal a is = ap (λ b. cond b 1 0) is
+  more : (a : Entry) (es : List Entry) (same : Bool) → entry_eq e a ≡ same → times (a ∷ es) ≡ cond same 1 0 + times es
+  unfolding times
+  more a es same is = sum_by-cons (λ x. cond (entry_eq e x) 1 0) a es ∙ ap (λ b. cond b 1 0 + times es) is
 
-  once-other : (a : Entry) → entry_eq e a ≡ false → once a ≡ 0
-  unfolding once
-  once-other a other = ap (λ b. cond b 1 0) other
+  none_there : (a : Entry) (es : List Entry) → entry_eq e a ≡ true → AllByRecursion (λ x. entry_eq a x ≡ false) es → times es ≡ 0
+  unfolding times
+  none_there a [] same apart = refl
+  none_there a (x ∷ es) same apart = omega (arith, more x es false (laws.congr e a x same ∙ apart.0), none_there a es same apart.1)
 
-  more : (a : Entry) (es : List Entry) → count_by (entry_eq e) (a ∷ es) ≡ once a + count_by (entry_eq e) es
-  unfolding once
-  more a es = sum_by-cons (λ x. cond (entry_eq e x) 1 0) a es
-
-  none_behind : (es : List Entry) → AllByRecursion (IsBefore e) es → count_by (entry_eq e) es ≡ 0
-  none_behind [] before = refl
-  none_behind (a ∷ es) before = elim (cases_Bool (entry_eq e a)) [
-    | inl is ↦ absurd (not_before_itself e (subst (IsBefore e) (sym (same_entry e a is)) before.0))
-    | inr other ↦ omega (arith, more a es, once-other a other, none_behind es before.1)
-  ]
-
-  one_at_most : (es : List Entry) → Ascends es → count_by (entry_eq e) es ≤ 1
-  one_at_most [] rising = omega arith
-  one_at_most (a ∷ es) rising = elim (cases_Bool (entry_eq e a)) [
-    | inl is ↦
-        let before = subst (λ (x : Entry). AllByRecursion (IsBefore x) es) (sym (same_entry e a is)) rising.0 in
-        omega (arith, more a es, once-equal a is, none_behind es before)
-    | inr other ↦ omega (arith, more a es, once-other a other, one_at_most es rising.1)
+  once : (es : List Entry) → IsDistinct entry_eq es → times es ≤ 1
+  unfolding IsDistinct times
+  once [] apart = omega arith
+  once (a ∷ es) apart = elim (cases_Bool (entry_eq e a)) [
+    | inl same ↦ omega (arith, more a es true same, none_there a es same apart.0)
+    | inr other ↦ omega (arith, more a es false other, once es apart.1)
   ]
 
   pub at_most_once : (es : List Entry) → Rises es → count_by (entry_eq e) es ≤ 1
-  at_most_once es rising = one_at_most es (ascends es rising)
+  unfolding times
+  at_most_once es rising = once es (by_ties (λ same. IsDistinct same es) (IsDistinct-from_sorted entry_order es ((rise_is es).1 rising)))
+
+  all_apart : (es : List Entry) → times es ≡ 0 → AllByRecursion (λ x. entry_eq e x ≡ false) es
+  all_apart [] none = tt
+  all_apart (a ∷ es) none = elim (cases_Bool (entry_eq e a)) [
+    | inl same ↦ absurd (omega (arith, more a es true same, none))
+    | inr other ↦ (other, all_apart es (omega (arith, more a es false other, none)))
+  ]
+
+twice : (es : List Entry) → (IsDistinct entry_eq es → ⊥) → (e : Entry) × (2 ≤ times e es)
+unfolding IsDistinct
+twice [] falls = absurd (falls tt)
+twice (a ∷ es) falls = elim (cases_lt 0 (times a es)) [
+  | inl some ↦ (a, omega (arith, more a a es true (laws.refl a), some))
+  | inr none ↦
+      let found = twice es (λ apart. falls (all_apart a es (omega (arith, none)), apart)) in
+      (found.0, omega (arith, more found.0 a es (entry_eq found.0 a) refl, found.1))
+]
+
+pub is_repeated : (es : List Entry) → (IsDistinct (eq_by_cmp entry_order) es → ⊥) → (e : Entry) × (2 ≤ count_by (entry_eq e) es)
+unfolding times
+is_repeated es falls = twice es (by_ties (λ same. IsDistinct same es → ⊥) falls)

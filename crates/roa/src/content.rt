@@ -4,6 +4,7 @@ ghost use Rattle.std.specs.List.{list_all};
 ghost use Rattle.roa.specs.declared.content.TheConstants.Content.{MAX_ENTRIES};
 
 use addr::{Asn, RoaPrefix as Entry};
+use sorted_items::{rise_by_key, sort_each_once};
 use std::marker::Model;
 use thiserror::Error;
 
@@ -82,8 +83,7 @@ impl Content {
         if !are_in_range(&entries) {
             return Err(ContentFault::MaxLength);
         }
-        entries.sort_unstable();
-        if !rises(&entries) {
+        if !sort_each_once(&mut entries, |entry| *entry) {
             return Err(ContentFault::Repeated);
         }
         Ok(Content { asn, entries })
@@ -135,5 +135,5 @@ fn are_in_range(entries: &[Entry]) -> bool
 fn rises(entries: &[Entry]) -> bool
     ensures { IsTrue result ↔ Rises entries.now }
 {
-    entries.is_sorted_by(|a, b| a < b)
+    rise_by_key(entries, |entry| *entry)
 }

@@ -1,6 +1,8 @@
-use Rattle.roa.proofs.Vocabulary.{rules, answers_always}
-use Rattle.roa.proofs.Order.{is_before, rises_from_answer}
+use Rattle.roa.proofs.Vocabulary.{rules}
+use Rattle.roa.proofs.RisingEntries.{rise_is}
 use Rattle.roa.proofs.content.rises.Goals as goal
 
 pub returns : goal.returns
-returns c = rises_from_answer c.args.entries.now c.is_sorted_by.result (c.is_sorted_by.ensures.cases is_before (answers_always _ _ _ (λ f a r q k. search rules)))
+returns c =
+    let answer = c.rise_by_key.ensures (λ e. e) (λ x k entry. search rules) in
+    (λ yes. (rise_is c.args.entries.now).0 (answer.0 yes), λ rising. answer.1 ((rise_is c.args.entries.now).1 rising))
