@@ -1,15 +1,15 @@
 -- The names of the logic, of other crates and of the definitions that the proofs use, in one place.
 pub use Rattle.std.proofs.Common.{All, Bool, Bor, Contains, IfNone, IfSome, IsSomeAnd, List, MatchOption, None, Option, Ordering, Some, [], ap, append-nil, arith, cond, drop, eqb, false, filter, get_or, inl, inr, length, map, min, nat_eq, not, option_copied, refl, rules, slice_set, subst, suc, sym, take, true, zero, ℕ, ◌&&◌, ◌++◌, ◌+◌, ◌-◌, ◌<◌, ◌==◌, ◌||◌, ◌↔◌, ◌∙◌, ◌∷◌, ◌≡◌, ◌≤◌}
 pub use Rattle.std.proofs.Math.Bool.{or-true}
-pub use Rattle.std.proofs.lemmas.Bool.{and_from, and_parts, both_ways, cases_Bool, cases_lt, cond-false, cond-true, eq-eqb, eqb-true, false≢true, or_parts, or_right}
+pub use Rattle.std.proofs.lemmas.Bool.{and_from, and_parts, both_ways, cases_Bool, cases_lt, cond-false, cond-true, eq-eqb, eqb-true, false≢true, or_parts}
 pub use Rattle.std.proofs.lemmas.Bool.Decides.{nat_tests}
 pub use Rattle.std.proofs.lemmas.List.{drop_all, take_all}
 pub use Rattle.std.proofs.lemmas.List.Elements.{All-cons, All-contains, All-head, All-more, All-nil, All-tail}
-pub use Rattle.std.proofs.lemmas.List.Sorted.{IsPermutation-sym, answers_always, length_permutation}
+pub use Rattle.std.proofs.lemmas.List.Sorted.{length_permutation}
 pub use Rattle.std.specs.Cmp.Lexicographic.{bytes_decides, pointwise}
-pub use Rattle.std.specs.List.{AllAdjacentBelow, AllByRecursion, IsAllAdjacentAnswer, find, list_any}
-pub use Rattle.std.specs.List.Sorted.{IsPermutation, IsSortedByKey}
-pub use Rattle.std.specs.Ordering.{is_eq, is_lt, ordering_reverse}
+pub use Rattle.std.specs.List.{AllByRecursion, find, list_any}
+pub use Rattle.std.specs.List.Sorted.{IsPermutation}
+pub use Rattle.std.specs.Ordering.{is_eq}
 pub use Rattle.addr.proofs.AddressLemmas.{between_at, overlaps_some}
 pub use Rattle.addr.proofs.Equality.{equal_prefix, prefix_itself}
 pub use Rattle.addr.specs.Address.{Address, fits_max_length, has_address, is_between, last_of, overlaps, prefix_eq}

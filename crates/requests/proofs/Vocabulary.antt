@@ -31,7 +31,7 @@ pub use Rattle.registry.specs.declared.asked.Asked.{Asked}
 pub use Rattle.registry.specs.declared.asked.Request.{Request}
 pub use Rattle.registry.specs.declared.authorization.ImportRow.{ImportRow}
 pub use Rattle.registry.specs.declared.command.Command.TheVariants.{Amend, Import}
-pub use Rattle.registry.specs.declared.command.Query.TheVariants.{Validity, WhatIf}
+pub use Rattle.registry.specs.declared.command.Query.TheVariants.{Validity}
 pub use Rattle.serde_json.specs.Data.{Data, Items, null}
 pub use Rattle.serde_json.specs.Find.{as_array, as_str, get}
 pub use Rattle.slurm.specs.SlurmFaults.{assertions_at, filters_at, slurm_fault}
@@ -55,4 +55,4 @@ pub use Rattle.requests.specs.declared.request.entries.TheConstants.{MOST_ENTRIE
 pub use Rattle.requests.specs.declared.request.fault.Fault.{Fault}
 pub use Rattle.requests.specs.declared.request.fault.Fault.TheVariants.{Caller, Count, Day, File, FileName, Holder, Json, Max, Members, Number, Repeated, Role, TooLong}
 pub use Rattle.requests.specs.steps.HttpReading.{asked_of, import_body, import_rows, object_body, path_subject, request_by, tree_request}
-pub use Rattle.requests.specs.steps.RequestReading.{AskedTerms, RequestTerms, amend, arranged, as_file, asked_as, asked_by, asked_from, asked_in, asked_terms, asked_with, asn_and_days_in, change_by, change_in, changes_in, chosen, entries_arranged, entries_in, entry_in, entry_members_in, file_in, file_list_in, file_members_in, file_of, files_arranged, files_in, grant_terms_in, import, in_order, items_of, line_subject, main_file_in, main_file_of, max_item_in, maxes_in, member_in, named_file_in, once_in_order, one_entry_in, one_max_in, repeats_name, request, request_in, request_terms, route_in, routes_in, row_in, row_list_in, slurm_request, terms_in, validity, what_if, with_item, with_only}
+pub use Rattle.requests.specs.steps.RequestReading.{AskedTerms, RequestTerms, amend, arranged, as_file, asked_as, asked_by, asked_from, asked_in, asked_terms, asn_and_days_in, change_by, change_in, changes_in, chosen, entries_arranged, entries_in, entry_in, entry_members_in, file_in, file_list_in, file_members_in, file_of, files_arranged, files_in, grant_terms_in, import, in_order, items_of, line_subject, main_file_in, main_file_of, max_item_in, maxes_in, member_in, named_file_in, once_in_order, one_entry_in, one_max_in, repeats_name, request, request_in, request_terms, route_in, routes_in, row_in, row_list_in, slurm_request, terms_in, validity, what_if, with_item, with_only}

@@ -6,15 +6,15 @@ pub use Rattle.std.proofs.lemmas.Bool.Decides.{Decides-and, Decides-eqb, Decides
 pub use Rattle.std.proofs.lemmas.Fn.{always_returns_same, dedup_same}
 pub use Rattle.std.proofs.lemmas.List.{append-nil, get_or-take, get_or_read, length-take-le, map-append, take_all, take_more}
 pub use Rattle.std.proofs.lemmas.List.Folds.{Any-from_list_any, list_any-append, list_any-from_Any, list_any_at}
-pub use Rattle.std.proofs.lemmas.List.Sorted.{IsPartitionPoint-from_clause, IsPermutation-sym, answers_always, list_any-IsPermutation, ranks_by, sorted_far}
+pub use Rattle.std.proofs.lemmas.List.Sorted.{IsPartitionPoint-from_clause, list_any-IsPermutation, ranks_by, sorted_far}
 pub use Rattle.std.proofs.lemmas.Slice.Eq.{bytes_eq-Decides}
 pub use Rattle.std.specs.Bool.{Decides}
 pub use Rattle.std.specs.Cmp.{IsEquivalence, IsTotalOrder, nat_cmp_total, nat_eq_equiv, on_equiv, on_total, then_total}
-pub use Rattle.std.specs.Cmp.Lexicographic.{options_equiv, options_total, slice_cmp}
-pub use Rattle.std.specs.List.{All, AllAdjacentBelow, AllByRecursion, AllPairs, AllZip, Any, IsAllAdjacentAnswer, dedup, dedup_from, filter_map, flat_map, list_any}
+pub use Rattle.std.specs.Cmp.Lexicographic.{options_equiv, options_total}
+pub use Rattle.std.specs.List.{All, AllByRecursion, AllPairs, AllZip, Any, dedup, dedup_from, filter_map, flat_map, list_any}
 pub use Rattle.std.specs.List.Sorted.{IsPartitionPoint, IsPartitionedBy, IsPermutation, IsSorted, IsSortedByKey}
 pub use Rattle.std.specs.Option.{ok_or, option_cmp, option_eq}
-pub use Rattle.std.specs.Ordering.{eq_by_cmp, is_eq, is_le, is_lt, nat_cmp, ordering_reverse, ordering_then}
+pub use Rattle.std.specs.Ordering.{eq_by_cmp, is_le, is_lt, nat_cmp, ordering_reverse, ordering_then}
 pub use Rattle.std.specs.Prelude.{IfErr, IfOk, OnOk}
 pub use Rattle.std.specs.Str.{bytes_eq}
 pub use Rattle.std.specs.declared.cmp.Ordering.TheVariants.{Equal, Greater, Less}
@@ -22,7 +22,7 @@ pub use Rattle.serde_json.specs.Data.{Data, Items, array, boolean, float, item, 
 pub use Rattle.serde_json.specs.Find.{as_object, as_str, get}
 pub use Rattle.serde_json.specs.View.{items_view, view}
 pub use Rattle.addr.proofs.AddressLemmas.{contains_each, first-last, overlaps_some}
-pub use Rattle.addr.proofs.OrderLemmas.{le-trans, less_is, prefix_order}
+pub use Rattle.addr.proofs.OrderLemmas.{le-trans, prefix_order}
 pub use Rattle.addr.proofs.PrefixOrderLemmas.{at_most-ends, block-within, cmp-equal, cmp-greater, contains-at_most, contains-between, contains-ends, ends-contains, first-size, size}
 pub use Rattle.addr.specs.Address.{Contains, FitsMaxLength, Overlaps, contains, fits_max_length, last_of, overlaps}
 pub use Rattle.addr.specs.Family.{family_eq, width}

@@ -1,17 +1,8 @@
 -- Queries outside a transaction, one after the other.
-use Rattle.store_transactions.proofs.Vocabulary.{◌≡◌, Result, Ok, inl, refl, ◌∙◌, arith, IsErr, IsTrue, false, on_ok_weaker, Held, state, Ghosts, unchanged_then, survives_then, IsAsked, IsClean}
+use Rattle.store_transactions.proofs.Vocabulary.{Result, Ok, ◌∙◌, arith, IsErr, on_ok_weaker, Held, state, Ghosts, unchanged_then, survives_then, IsAsked, IsClean}
 use Rattle.store_transactions.proofs.QueryLemmas.{no_answer}
 
 module _ {S : Type 0} (g : Ghosts S) where
-  -- no query
-  pub asked_none : {X E : Type 0} (x : X) (h : Held S) → h.in_transaction ≡ false → (IsClean g h → IsTrue (state g h).is_open) → IsAsked {X = X} {E = E} g h h (Ok x)
-  asked_none x h idle opened = record {
-    idle = idle;
-    same = λ clean. (record { was_open = opened clean; is_open = opened clean; now_is = refl; committed_is = refl; mode = refl }, record { changes = refl; last_rowid = refl }, refl);
-    kept = λ clean still. (still, refl, refl);
-    survives = record { clean = omega arith; shield = λ shielded. shielded; counts = omega arith; limit = refl; closes = λ clean still. inl still; crash = λ clean db left. inl left };
-  }
-
   pub asked_then : {X Y E F : Type 0} (x : X) (r : Result Y F) (a b c : Held S) → IsAsked {X = X} {E = E} g a b (Ok x) → IsAsked g b c r → IsAsked g a c r
   asked_then x r a b c first second =
       let before : IsClean g c → IsClean g b = λ clean. omega (arith, clean, second.survives.clean) in

@@ -99,10 +99,6 @@ slurm_key = 1 ∷ 2 ∷ 3 ∷ []
 abbrev same_at : ℕ → Row → Row → Bool
 same_at at a b = equal Binary (column a at) (column b at)
 
-slurm_key_is : (a b : Row) → agree rising slurm_key a slurm_key b ≡ (same_at 1 a b && (same_at 2 a b && (same_at 3 a b && true)))
-unfolding first_key
-slurm_key_is a b = refl
-
 -- the row has this value, which is not NULL, in the column
 abbrev pub HasAt : ℕ → Value → Row → Type 0
 HasAt at v c = (column c at ≡ v) × (is_null v ≡ false)
@@ -150,10 +146,6 @@ agree_in_number a b filled same =
     number_key_is a b
     ∙ and_from _ _ (cell 0 (required_column (codes "holder") OfText) refl refl (ap (λ c. column c 0) same))
     (and_from _ _ (cell 1 (required_column (codes "number") OfInteger) refl refl (ap (λ c. column c 1) same)) refl)
-
-pub agree_in_key : (u v w : Value) (a b : Row) → HasAt 1 u a → HasAt 1 u b → HasAt 2 v a → HasAt 2 v b → HasAt 3 w a → HasAt 3 w b → agree rising slurm_key a slurm_key b ≡ true
-agree_in_key u v w a b u_a u_b v_a v_b w_a w_b =
-    slurm_key_is a b ∙ and_from _ _ (have_same 1 u a b u_a u_b) (and_from _ _ (have_same 2 v a b v_a v_b) (and_from _ _ (have_same 3 w a b w_a w_b) refl))
 
 module _ (schema : Schema) (db : Trees) (tables : schema.tables ≡ desk_tables) (sound : IsSound schema db) where
   passed : (rule : Constraint) (t : Table) → Has desk_tables t → AllByRecursion (λ r. passes rule schema db t r ≡ true) (db t.tree)

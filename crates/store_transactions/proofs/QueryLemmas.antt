@@ -45,9 +45,6 @@ pub kept_inside : (sql : List ℕ) (params : Row) (old new : State) (e : Error) 
 kept_inside sql params old new e (inl failed) = unchanged_keeps old new (failed_to_query sql params old new e failed)
 kept_inside sql params old new e (inr late) = unchanged_keeps old new (inl late.5)
 
-pub answered_inside : (sql : List ℕ) (command : Command) → Means sql command → (params : Row) (old new : State) (rows : List Row) → IsReady old → Shown sql params old new rows → IsUnchanged old new
-answered_inside sql command means params old new rows ready shown = asked_same sql command means params old new rows (ready.tables (shown_open sql params old new rows shown)) shown
-
 -- what was ready and is as it was is ready still
 pub still_ready : (old new : State) → IsReady old → IsUnchanged old new → IsReady new
 still_ready old new ready same = record { tables = λ _. ap (λ (d : Database). d.schema.tables) same.0.now_is ∙ ready.tables same.0.was_open; inside = same.0.mode ∙ ready.inside }
