@@ -1,5 +1,5 @@
 -- Tables of either schema that hold a charter and rows that fit read.
-use Rattle.store.proofs.Vocabulary.{◌≡◌, ℕ, Bool, true, false, ◌||◌, List, [], ◌∷◌, Option, Some, refl, inl, inr, sym, subst, IsTrue, map, IsPermutation, ⊤, AllByRecursion, recursion_from_All, Row, Trees, Has, all_has, all_from, contains_had, has_mapped, is_name, CharterSets, IsCharter, Charter, Command, Register, History, registers, is_registered, Rows, RowsIfAny, RowsFit, AuthFits, GrantFits, CommandFits, HistoryFits, FilesFit, AllRows, HasRows, IsLegal, same_name-true, schema_row, operator_row, prefix_cells, holder_row, holding_row, granted_row, meta, operator, pool, contents, Part, TablesHold, HoldsPart, holder_part, holding_part, granted_part, has_permuted, of_some, OldTablesHold, HistoriesRead, OldHistoriesRead, OldTablesRead, ShowsHolder, ShowsOfHolder, TablesRead, files_few, files_read, OthersRead, HoldsFiles, slurm}
+use Rattle.store.proofs.Vocabulary.{◌≡◌, ℕ, Bool, true, false, ◌||◌, List, [], ◌∷◌, Option, Some, refl, inl, inr, sym, subst, IsTrue, map, IsPermutation, ⊤, AllByRecursion, recursion_from_All, Row, Trees, Has, all_has, all_from, contains_had, has_mapped, is_name, CharterSets, IsCharter, Charter, Command, Register, History, registers, is_registered, Rows, RowsIfAny, RowsFit, AuthFits, GrantFits, CommandFits, HistoryFits, FilesFit, AllRows, HasRows, IsLegal, same_name-true, schema_row, operator_row, prefix_cells, holder_row, holding_row, granted_row, meta, operator, pool, contents, Part, TablesHold, HoldsPart, holder_part, holding_part, granted_part, has_permuted, of_some, OldTablesHold, HistoriesRead, OldHistoriesRead, OldTablesRead, ShowsHolder, ShowsOfHolder, TablesRead, files_few, files_read, CommonTablesRead, HoldsFiles, slurm}
 use Rattle.registry_laws.specs.Ranges.{FilesInForceFit, LegalRowsFit}
 use Rattle.store.proofs.Gathering.{some_auths, some_old_auths}
 
@@ -24,10 +24,10 @@ module _ (charter : CharterSets) (rows : AllRows) (trees : Trees) (is : IsCharte
   auths_fit h r there = let it = fit h r there in (it.0, recursion_from_All AuthFits r.auths it.1.auths)
 
   -- what the tables of both schemas have alike
-  others_read : IsPermutation (map operator_row charter.operators) (contents (trees operator.tree)) → IsPermutation (map prefix_cells charter.pool) (contents (trees pool.tree))
+  common_read : IsPermutation (map operator_row charter.operators) (contents (trees operator.tree)) → IsPermutation (map prefix_cells charter.pool) (contents (trees pool.tree))
       → HoldsPart holder_part rows.of_holder (contents (trees holder_part.tree)) → HoldsPart holding_part rows.of_holder (contents (trees holding_part.tree))
-      → HoldsPart granted_part rows.of_holder (contents (trees granted_part.tree)) → HoldsFiles rows.files (contents (trees slurm.tree)) → OthersRead trees
-  others_read operators pool holders holdings grants files = record {
+      → HoldsPart granted_part rows.of_holder (contents (trees granted_part.tree)) → HoldsFiles rows.files (contents (trees slurm.tree)) → CommonTablesRead trees
+  common_read operators pool holders holdings grants files = record {
     charter = record { sets = charter; valid = is; named = named; operators_shown = operators; pool_shown = pool };
     holders = of_part holder_part rows.of_holder _ ShowsHolder holders (λ h r c there has.
         let it = fit h r there in
@@ -44,14 +44,14 @@ module _ (charter : CharterSets) (rows : AllRows) (trees : Trees) (is : IsCharte
   held_read : TablesHold charter rows trees → TablesRead trees
   held_read holds = record {
     schema = contains_had _ schema_row (has_permuted (schema_row ∷ []) (contents (trees meta.tree)) schema_row holds.charter_kept.schema (inl refl));
-    others = others_read holds.charter_kept.operators holds.charter_kept.pool holds.holders holds.holdings holds.grants holds.files;
+    common = common_read holds.charter_kept.operators holds.charter_kept.pool holds.holders holds.holdings holds.grants holds.files;
     authorizations = some_auths rows.of_holder trees holds.claims holds.entries holds.unused auths_fit;
   }
 
   old_held_read : OldTablesHold charter rows trees → OldTablesRead trees
   old_held_read holds = record {
     schema = holds.charter_kept.schema;
-    others = others_read holds.charter_kept.operators holds.charter_kept.pool holds.holders holds.holdings holds.grants holds.files;
+    common = common_read holds.charter_kept.operators holds.charter_kept.pool holds.holders holds.holdings holds.grants holds.files;
     authorizations = some_old_auths rows.of_holder trees holds.auths holds.have_one_entry auths_fit;
     whole = holds.whole;
   }

@@ -33,7 +33,7 @@ entry_in_range trees read h d has =
 module _ (charter : CharterSets) (rows : AllRows) (trees : Trees) (holds : TablesHold charter rows trees) (read : TablesRead trees) (h : List ℕ) (r : Rows) (of : rows.of_holder h ≡ Some r) where
   counters_fit : IsCount r.granted × IsCount r.created
   counters_fit =
-      let (shown, fits, is) = all_has ShowsHolder _ _ read.others.holders (in_table holder_part rows.of_holder _ holds.holders (holder_row h r.granted r.created) h r of (inl refl)) in
+      let (shown, fits, is) = all_has ShowsHolder _ _ read.common.holders (in_table holder_part rows.of_holder _ holds.holders (holder_row h r.granted r.created) h r of (inl refl)) in
       let first : r.granted ≡ shown.counters.granted = cc in
       let second : r.created ≡ shown.counters.created = cc in
       (subst IsCount (sym first) fits.1, subst IsCount (sym second) fits.2)
@@ -41,7 +41,7 @@ module _ (charter : CharterSets) (rows : AllRows) (trees : Trees) (holds : Table
   grant_fits : (g : Granted) → Has r.grants g → GrantFits g
   grant_fits g has =
       let row = in_table granted_part rows.of_holder _ holds.grants (granted_row h g) h r of (mapped_has (granted_row h) r.grants g has) in
-      let (k, shown, fits, is) = all_has (ShowsOfHolder granted_row GrantFits) _ _ read.others.grants row in
+      let (k, shown, fits, is) = all_has (ShowsOfHolder granted_row GrantFits) _ _ read.common.grants row in
       subst GrantFits (sym (one_grant g shown cc)) fits
 
   auth_fits : (x : Auth) → Has r.auths x → AuthFits x
@@ -112,7 +112,7 @@ module _ (files : List NamedSlurm) (table : List Row) (holds : HoldsFiles files 
   files_fit = All-from_recursion FileFits files (all_from FileFits files file_fits)
 
 pub rows_fit : RowsThatReadFit
-rows_fit charter rows trees holds read = (λ h. go h (rows.of_holder h) refl, files_fit rows.files (contents (trees slurm.tree)) holds.files read.others.exceptions read.others.exceptions_number)
+rows_fit charter rows trees holds read = (λ h. go h (rows.of_holder h) refl, files_fit rows.files (contents (trees slurm.tree)) holds.files read.common.exceptions read.common.exceptions_number)
   where
     go : (h : List ℕ) (o : Option Rows) → rows.of_holder h ≡ o → FitIfAny o
     go h None of = tt

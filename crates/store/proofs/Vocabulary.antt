@@ -15,12 +15,12 @@ pub use Rattle.sqlite.specs.Effect.{Database, IsDatabase}
 pub use Rattle.sqlite.specs.Held.{Held, state}
 pub use Rattle.sqlite.specs.State.{HasCleanDisk, IsLive, IsUnchanged, Shows, State, Survives}
 pub use Rattle.sqlite.specs.Store.{Ghosts}
-pub use Rattle.sqlite_keyed.proofs.ListLemmas.{all-filter, none_from_any}
+pub use Rattle.sqlite_keyed.proofs.ListLemmas.{all-filter}
 pub use Rattle.sqlite_rules.proofs.ListLemmas.{all_from, all_has, contains_had, has_contained, has_filtered, has_left, has_right, some_from, some_has, test_from}
 pub use Rattle.sqlite_rules.proofs.ProbeLemmas.{has_mapped, mapped_has}
 pub use Rattle.sqlite_rules.specs.Lists.{Has}
 pub use Rattle.sqlite_schema.specs.declared.schema.Schema.{Schema}
-pub use Rattle.sqlite_trees.proofs.ListLemmas.{IsPermutation-same, all-flat_map, all-map, all-permutation, all_from_map, all_of, all_weaker, ascending-append, ascending_weaker, filter_all, filter_none, filter_same, flat_map-map, flat_map_same_on}
+pub use Rattle.sqlite_trees.proofs.ListLemmas.{IsPermutation-same, all-map, all-permutation, all_from_map, all_of, all_weaker, ascending-append, ascending_weaker, filter_all, filter_none, filter_same, flat_map-map}
 pub use Rattle.sqlite_trees.specs.Tree.{IsAscending, Trees}
 pub use Rattle.sqlite_value.specs.Order.{Row, column}
 pub use Rattle.sqlite_value.specs.declared.value.Value.TheVariants.{Blob, Int, Null, Real, Text}
@@ -37,7 +37,7 @@ pub use Rattle.registry.specs.RoaPrefixes.{AreEntries, with_maxes}
 pub use Rattle.registry.specs.Rows.{Rows, RowsIfAny, auths_if_any, grants_if_any, rows_if_any}
 pub use Rattle.registry.specs.RowsOfAll.{AllRows, HasRows, IsGivenOn, IsTaken, blank_rows, changed_rows}
 pub use Rattle.registry.specs.Terms.{AreActive, HeldSinceMade, Keeps, OfActive, authorization_terms, authorizations_made, gives_some, grant_terms, granted_after, grants_after, grants_made, numbered_grant, terms_overlap}
-pub use Rattle.registry.specs.Values.{AuthFits, CommandFits, ExceptionsFit, FileFits, FilesFit, FilterFits, FitIfAny, GrantFits, HistoryFits, IsCount, IsU32, RowsFit, VrpFits}
+pub use Rattle.registry.specs.Values.{AuthFits, CommandFits, ExceptionsFit, FileFits, FilesFit, FilterFits, FitIfAny, GrantFits, HistoryFits, IsCount, RowsFit, VrpFits}
 pub use Rattle.registry.specs.Verdict.{IsLegal, auth_of_number, maxes_fit}
 pub use Rattle.registry.specs.declared.authorization.Auth.{Auth}
 pub use Rattle.registry.specs.declared.charter.Charter.{Charter}
@@ -48,7 +48,7 @@ pub use Rattle.registry.specs.declared.limits.TheConstants.{MOST_AUTHORIZATIONS}
 pub use Rattle.registry.specs.declared.rows.HolderRows.{HolderRows}
 pub use Rattle.store_open.specs.OldTablesRead.{HasSomeOldAuths, OldTablesRead, rows_of_auth}
 pub use Rattle.store_open.specs.Opening.{HasOtherNames, OpensDesk, has_new_table}
-pub use Rattle.store_open.specs.TablesRead.{HasSomeAuths, OthersRead, ShowsException, ShowsHolder, ShowsOfHolder, TablesRead, row_of_claim, rows_of_entries}
+pub use Rattle.store_open.specs.TablesRead.{HasSomeAuths, CommonTablesRead, ShowsException, ShowsHolder, ShowsOfHolder, TablesRead, row_of_claim, rows_of_entries}
 pub use Rattle.store_read.proofs.GivenAuths.{any_and, any_each, any_kept, created_shown, gives_from, gives_none, gives_out_of}
 pub use Rattle.store_read.proofs.Giving.{cells_of_vrp, gives_each, taken_iff}
 pub use Rattle.store_read.proofs.InTurn.{earlier, later, unfit_later}
@@ -59,7 +59,7 @@ pub use Rattle.store_tables.proofs.Once.{claim_row_once, entry_row_once, two_are
 pub use Rattle.store_tables.proofs.SomeRow.{has_entry_row, has_permuted, in_table, of_some}
 pub use Rattle.store_tables.proofs.TreeRows.{list_any-map}
 pub use Rattle.store_tables.specs.Authorizations.{claim_of, entry_rows_of}
-pub use Rattle.store_tables.specs.Cells.{claim_row, entry_row, exception_cells, exception_row, granted_row, holder_row, holding_row, kind_number, number_cell, operator_row, prefix_cells, schema_row}
+pub use Rattle.store_tables.specs.Cells.{claim_row, entry_row, exception_row, granted_row, holder_row, holding_row, operator_row, prefix_cells, schema_row}
 pub use Rattle.store_tables.specs.Groups.{claim_entry}
 pub use Rattle.store_tables.specs.Tables.{auth, claim, contents, desk_tables, entry, meta, operator, pool, slurm}
 pub use Rattle.store_tables.specs.TablesHold.{ArePlaced, HoldsExceptions, HoldsFiles, HoldsPart, Part, TablesHold, claim_part, entry_part, granted_part, holder_part, holding_part, is_of_file, is_text, items_if_any, part_rows}
@@ -77,6 +77,6 @@ pub use Rattle.store_write.specs.Changes.{MakesChange, PlacesExceptions, RowsBec
 pub use Rattle.store.specs.Given.{GivenOnce}
 pub use Rattle.store.specs.Laws.{HistoriesRead, LoadsFactsOfHistories, LoadsListsOfHistories, LoadsNumberOfHistories, LoadsPartsOfHistories, LoadsRowsOfHistories, OldHistoriesRead, RowsInRangeGive, RowsThatReadFit}
 pub use Rattle.store.specs.PartLoaded.{IsForChanges}
-pub use Rattle.store.specs.StoreRows.{EachHeldRows, Holds, HoldsAfter, IsOpened, IsRead, LeavesOnly, LeavesPlaced, MayLeave, StoreView, connection_state}
+pub use Rattle.store.specs.StoreRows.{EachHeldRows, HoldsAfter, IsOpened, IsRead, LeavesOnly, LeavesPlaced, MayLeave, StoreView, connection_state}
 pub use Rattle.store.specs.steps.Commits.{CommitsChange, MayCommit}
 pub use Rattle.store.specs.steps.PartNumbers.{AreOfNumbers, asks_for, gives_numbered, has_number, overlaps_numbered, some_asks_for}

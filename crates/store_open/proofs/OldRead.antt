@@ -1,5 +1,5 @@
 -- Where the tables of schema 1 read, their rows can be moved, and the tables that they are moved to read.
-use Rattle.store_open.proofs.Vocabulary.{◌≡◌, inl, List, [], ◌∷◌, map, flat_map, refl, subst, ◌∙◌, arith, IsPermutation, AllByRecursion, Contains-permutation, IsPermutation-map, IsPermutation-trans, Trees, all_of, all-flat_map, all-map, all-permutation, flat_map_same_on, map-flat_map, contains_had, GrantFits, Auth, OfHolder, claim_of, operator_row, prefix_cells, holding_row, granted_row, schema_row, exception_columns, meta, auth, contents, HasOneEntry, auth_row, claim_columns, entry_columns, AreAuthRows, AreMovable, IsMoved, claim_turned, entry_turned, joined_ones, stays, rows_of_auth, HasSomeOldAuths, OldTablesRead, rows_of_entries, row_of_claim, HasSomeAuths, ShowsHolder, ShowsOfHolder, ShowsException, TablesRead, AreFewOfEach, OthersRead}
+use Rattle.store_open.proofs.Vocabulary.{◌≡◌, inl, List, [], ◌∷◌, map, flat_map, refl, subst, ◌∙◌, arith, IsPermutation, AllByRecursion, Contains-permutation, IsPermutation-map, IsPermutation-trans, Trees, all_of, all-flat_map, all-map, all-permutation, flat_map_same_on, map-flat_map, contains_had, GrantFits, Auth, OfHolder, claim_of, operator_row, prefix_cells, holding_row, granted_row, schema_row, exception_columns, meta, auth, contents, HasOneEntry, auth_row, claim_columns, entry_columns, AreAuthRows, AreMovable, IsMoved, claim_turned, entry_turned, joined_ones, stays, rows_of_auth, HasSomeOldAuths, OldTablesRead, rows_of_entries, row_of_claim, HasSomeAuths, ShowsHolder, ShowsOfHolder, ShowsException, TablesRead, AreFewOfEach, CommonTablesRead}
 use Rattle.std.specs.Bool.{⊤}
 
 rows_are_auth_rows : (auths : List (OfHolder Auth)) → AreAuthRows (flat_map rows_of_auth auths)
@@ -22,8 +22,8 @@ entries_turned : (auths : List (OfHolder Auth)) → map entry_columns (flat_map 
 entries_turned auths = map-flat_map entry_columns rows_of_auth auths ∙ flat_map_same_on _ _ (λ x. entry_turned x.holder x.row) auths
 
 module _ (old new : Trees) (moved : IsMoved old new) where
-  others_stay : OthersRead old → OthersRead new
-  others_stay o = record {
+  common_stay : CommonTablesRead old → CommonTablesRead new
+  common_stay o = record {
     charter = record {
       sets = o.charter.sets;
       valid = o.charter.valid;
@@ -52,6 +52,6 @@ module _ (old new : Trees) (moved : IsMoved old new) where
   pub moved_read : OldTablesRead old → TablesRead new
   moved_read reads = record {
     schema = Contains-permutation (schema_row ∷ []) (contents (new meta.tree)) schema_row moved.number (contains_had (schema_row ∷ []) schema_row (inl refl));
-    others = others_stay reads.others;
+    common = common_stay reads.common;
     authorizations = auths_moved reads.authorizations;
   }

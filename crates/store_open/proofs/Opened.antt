@@ -161,7 +161,7 @@ module _ (db : Database) (tables : db.schema.tables ≡ desk_tables) (sound : Is
       tables_read : IsCharter charter → TablesRead db.trees
       tables_read sets = record {
         schema = Contains-permutation (schema_row ∷ []) (contents (db.trees meta.tree)) schema_row schema_only (contains_had (schema_row ∷ []) schema_row (inl refl));
-        others = record {
+        common = record {
           charter = record { sets = charter; valid = sets; named = chartered.named; operators_shown = operators_only; pool_shown = pool_only };
           holders = holders_read;
           holdings = all_weaker _ _ (λ c it. (it.name, it.value, it.in_range, it.is)) (contents (db.trees holding.tree)) held;

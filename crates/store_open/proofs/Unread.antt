@@ -58,40 +58,40 @@ number_in true db has = mapped_has (columns (0 ∷ 1 ∷ [])) (contents (db.tree
 number_in false db has = mapped_has (columns (0 ∷ 1 ∷ [])) (contents (db.trees meta.tree)) schema_row (has_contained _ _ has)
 
 module _ (db : Database) (read : TablesRead db.trees) where
-  pub operators_read : IsPermutation (map operator_row read.others.charter.sets.operators) (shown_in operator.tree (0 ∷ []) db)
+  pub operators_read : IsPermutation (map operator_row read.common.charter.sets.operators) (shown_in operator.tree (0 ∷ []) db)
   operators_read =
-      subst (λ l. IsPermutation l (shown_in operator.tree (0 ∷ []) db)) (map-map (columns (0 ∷ [])) operator_row read.others.charter.sets.operators)
-      (IsPermutation-map (columns (0 ∷ [])) _ _ read.others.charter.operators_shown)
+      subst (λ l. IsPermutation l (shown_in operator.tree (0 ∷ []) db)) (map-map (columns (0 ∷ [])) operator_row read.common.charter.sets.operators)
+      (IsPermutation-map (columns (0 ∷ [])) _ _ read.common.charter.operators_shown)
 
-  pub pool_read : IsPermutation (map prefix_cells read.others.charter.sets.pool) (shown_in pool.tree (0 ∷ 1 ∷ 2 ∷ []) db)
+  pub pool_read : IsPermutation (map prefix_cells read.common.charter.sets.pool) (shown_in pool.tree (0 ∷ 1 ∷ 2 ∷ []) db)
   pool_read =
-      subst (λ l. IsPermutation l (shown_in pool.tree (0 ∷ 1 ∷ 2 ∷ []) db)) (map-map (columns (0 ∷ 1 ∷ 2 ∷ [])) prefix_cells read.others.charter.sets.pool)
-      (IsPermutation-map (columns (0 ∷ 1 ∷ 2 ∷ [])) _ _ read.others.charter.pool_shown)
+      subst (λ l. IsPermutation l (shown_in pool.tree (0 ∷ 1 ∷ 2 ∷ []) db)) (map-map (columns (0 ∷ 1 ∷ 2 ∷ [])) prefix_cells read.common.charter.sets.pool)
+      (IsPermutation-map (columns (0 ∷ 1 ∷ 2 ∷ [])) _ _ read.common.charter.pool_shown)
 
   pub operators_in : AllByRecursion (ShowsSome (λ text. Text text ∷ []) (λ text. IsTrue (is_name text))) (shown_in operator.tree (0 ∷ []) db)
   operators_in =
-      all-permutation _ (map operator_row read.others.charter.sets.operators) _ operators_read
-      (all-map _ operator_row read.others.charter.sets.operators (all_weaker _ _ (λ name is. (name, is, refl)) read.others.charter.sets.operators read.others.charter.named))
+      all-permutation _ (map operator_row read.common.charter.sets.operators) _ operators_read
+      (all-map _ operator_row read.common.charter.sets.operators (all_weaker _ _ (λ name is. (name, is, refl)) read.common.charter.sets.operators read.common.charter.named))
 
   pub pool_in : AllByRecursion (ShowsSome prefix_cells (λ _. ⊤)) (shown_in pool.tree (0 ∷ 1 ∷ 2 ∷ []) db)
   pool_in =
-      all-permutation _ (map prefix_cells read.others.charter.sets.pool) _ pool_read
-      (all-map _ prefix_cells read.others.charter.sets.pool (all_of _ (λ p. (p, tt, refl)) read.others.charter.sets.pool))
+      all-permutation _ (map prefix_cells read.common.charter.sets.pool) _ pool_read
+      (all-map _ prefix_cells read.common.charter.sets.pool (all_of _ (λ p. (p, tt, refl)) read.common.charter.sets.pool))
 
   pub holders_in : AllByRecursion ShowsHolder (shown_in holder.tree (0 ∷ 1 ∷ 2 ∷ []) db)
-  holders_in = shows_in holder.tree (0 ∷ 1 ∷ 2 ∷ []) ShowsHolder _ (λ c it. (it.0, it.1, ap (columns (0 ∷ 1 ∷ 2 ∷ [])) it.2)) db read.others.holders
+  holders_in = shows_in holder.tree (0 ∷ 1 ∷ 2 ∷ []) ShowsHolder _ (λ c it. (it.0, it.1, ap (columns (0 ∷ 1 ∷ 2 ∷ [])) it.2)) db read.common.holders
 
   pub holdings_in : AllByRecursion (ShowsSome span_cells (λ _. ⊤)) (shown_in holding.tree (0 ∷ 1 ∷ 2 ∷ []) db)
-  holdings_in = shows_in holding.tree (0 ∷ 1 ∷ 2 ∷ []) (ShowsOfHolder holding_row (λ _. ⊤)) _ (λ c it. (it.1, tt, ap (columns (0 ∷ 1 ∷ 2 ∷ [])) it.3)) db read.others.holdings
+  holdings_in = shows_in holding.tree (0 ∷ 1 ∷ 2 ∷ []) (ShowsOfHolder holding_row (λ _. ⊤)) _ (λ c it. (it.1, tt, ap (columns (0 ∷ 1 ∷ 2 ∷ [])) it.3)) db read.common.holdings
 
   abbrev grant_places : List ℕ
   grant_places = 1 ∷ 2 ∷ 3 ∷ 4 ∷ 5 ∷ 6 ∷ 7 ∷ []
 
   pub grants_in : AllByRecursion (ShowsSome grant_cells GrantFits) (shown_in granted.tree grant_places db)
-  grants_in = shows_in granted.tree grant_places (ShowsOfHolder granted_row GrantFits) _ (λ c it. (it.1, it.2, ap (columns grant_places) it.3 ∙ grant_shown it.0 it.1)) db read.others.grants
+  grants_in = shows_in granted.tree grant_places (ShowsOfHolder granted_row GrantFits) _ (λ c it. (it.1, it.2, ap (columns grant_places) it.3 ∙ grant_shown it.0 it.1)) db read.common.grants
 
   pub exceptions_in : AllByRecursion (ShowsSome exception_row ExceptionRowFits) (shown_in slurm.tree exception_places db)
-  exceptions_in = read.others.exceptions
+  exceptions_in = read.common.exceptions
 
 -- ---- charters
 
@@ -110,7 +110,7 @@ module _ (db : Database) (names : List (List ℕ)) (prefixes : List Prefix)
   -- what is no charter is not read from tables that read
   pub some_charter : TablesRead db.trees → ¬ (AreAllowedCounts names prefixes → (has_repeat (pointwise nat_eq) names || has_repeat prefix_eq prefixes) ≡ true)
   some_charter read refused =
-      let kept = read.others.charter in
+      let kept = read.common.charter in
       let operators = same_members operator_row one_operator kept.sets.operators names _ (operators_read db read) (IsPermutation-sym _ _ named.same) in
       let pool = same_members prefix_cells one_prefix kept.sets.pool prefixes _ (pool_read db read) (IsPermutation-sym _ _ pooled.same) in
       let many = length_permutation _ _ operators in

@@ -47,7 +47,7 @@ pub use Rattle.addr.specs.declared.span.Span.{Span}
 pub use Rattle.registry.specs.CharterSets.{AreAllowedCounts, CharterSets, IsCharter}
 pub use Rattle.registry.specs.Repeats.{has_repeat}
 pub use Rattle.registry.specs.RoaPrefixes.{AreEntries}
-pub use Rattle.registry.specs.Values.{AuthFits, GrantFits, IsCount}
+pub use Rattle.registry.specs.Values.{AuthFits, GrantFits}
 pub use Rattle.registry.specs.declared.authorization.Auth.{Auth}
 pub use Rattle.registry.specs.declared.grant.Granted.{Granted}
 pub use Rattle.store_schema.proofs.EitherSchema.{hold_now, not_now}
@@ -89,7 +89,7 @@ pub use Rattle.store_transactions.specs.declared.fault.StoreFault.TheVariants.{S
 pub use Rattle.store_transactions.specs.steps.Statements.{AnswersSelect}
 pub use Rattle.store_open.specs.OldTablesRead.{HasSomeOldAuths, OldTablesRead, rows_of_auth}
 pub use Rattle.store_open.specs.Opening.{AreMoved, LeavesOldOrMoved, OpensDesk}
-pub use Rattle.store_open.specs.TablesRead.{HasSomeAuths, HasSomeCharter, HoldSomeRows, OthersRead, ShowsException, ShowsHolder, ShowsOfHolder, ShowsSome, TablesRead, row_of_claim, rows_of_entries}
+pub use Rattle.store_open.specs.TablesRead.{HasSomeAuths, HoldSomeRows, CommonTablesRead, ShowsException, ShowsHolder, ShowsOfHolder, ShowsSome, TablesRead, row_of_claim, rows_of_entries}
 pub use Rattle.store_open.specs.declared.join.Joined.{Joined}
 pub use Rattle.store_open.specs.declared.key.ClaimKey.{ClaimKey}
 pub use Rattle.store_open.specs.steps.Joining.{AreOfFirst, EachShowsEntry, EntriesRead, JoinsRows, MakeNoneOfRows, MakeNoneOfTable, MakeOfRows, MakeOfTable, NeverMake, ShowEntries, WalkGoesOn, WalkStands, first_claim_entry, shown_entries}

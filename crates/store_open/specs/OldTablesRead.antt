@@ -9,7 +9,7 @@ use Rattle.registry.specs.Values.{AuthFits}
 use Rattle.store_tables.specs.declared.groups.OfHolder.{OfHolder}
 use Rattle.store_tables.specs.Tables.{meta, auth, contents}
 use Rattle.store_schema.specs.OldTables.{auth_rows, old_schema_row, AreOldTrees, HasOneEntry}
-use Rattle.store_open.specs.TablesRead.{OthersRead}
+use Rattle.store_open.specs.TablesRead.{CommonTablesRead}
 
 -- the rows of an authorization in the table `auth`: one, where it has one entry
 abbrev pub rows_of_auth : OfHolder Auth → List Row
@@ -23,10 +23,10 @@ pub record HasSomeOldAuths (trees : Trees) : Type 0 where
   pub one_each : AllByRecursion (λ (x : OfHolder Auth). HasOneEntry x.row) auths
   pub shown : IsPermutation (flat_map rows_of_auth auths) (contents (trees auth.tree))
 
--- The number is that of schema 1 and no other row is beside it, the other rows read, and each row of each table has a
--- rowid of its own.
+-- The number is that of schema 1 and no other row is beside it, the tables that are the same in both schemas read, so
+-- do the authorizations, and each row of each table has a rowid of its own.
 pub record OldTablesRead (trees : Trees) : Type 0 where
   pub schema : IsPermutation (old_schema_row ∷ []) (contents (trees meta.tree))
-  pub others : OthersRead trees
+  pub common : CommonTablesRead trees
   pub authorizations : HasSomeOldAuths trees
   pub whole : AreOldTrees trees

@@ -43,9 +43,9 @@ pub record HasSomeCharter (trees : Trees) : Type 0 where
   pub operators_shown : IsPermutation (map operator_row sets.operators) (contents (trees operator.tree))
   pub pool_shown : IsPermutation (map prefix_cells sets.pool) (contents (trees pool.tree))
 
--- What the tables of both schemas have alike: the operators and the pool are those of a charter, and each row of each
--- of these tables shows a value of its type. No SLURM file has more exceptions than a file may have.
-pub record OthersRead (trees : Trees) : Type 0 where
+-- The tables that are the same in both schemas read: the operators and the pool are those of a charter, and each row of
+-- each other table shows a value of its type. No SLURM file has more exceptions than a file may have.
+pub record CommonTablesRead (trees : Trees) : Type 0 where
   pub charter : HasSomeCharter trees
   pub holders : AllByRecursion ShowsHolder (contents (trees holder.tree))
   pub holdings : AllByRecursion (ShowsOfHolder holding_row (λ _. ⊤)) (contents (trees holding.tree))
@@ -69,10 +69,11 @@ pub record HasSomeAuths (trees : Trees) : Type 0 where
   pub entries_shown : IsPermutation (flat_map rows_of_entries auths) (contents (trees entry.tree))
   pub unused : contents (trees auth.tree) ≡ []
 
--- The number of the schema is there, the other rows read, and claims and entries make authorizations.
+-- The number of the schema is there, the tables that are the same in both schemas read, and claims and entries make
+-- authorizations.
 pub record TablesRead (trees : Trees) : Type 0 where
   pub schema : Contains (contents (trees meta.tree)) schema_row
-  pub others : OthersRead trees
+  pub common : CommonTablesRead trees
   pub authorizations : HasSomeAuths trees
 
 -- the tables hold this charter and some rows, with SLURM files each of which is in its range

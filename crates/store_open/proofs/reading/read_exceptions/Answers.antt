@@ -6,7 +6,7 @@ pub returns-in_err-_files-clause-schema : goal.returns-in_err-_files-clause-sche
 returns-in_err-_files-clause-schema g c clean is read =
     let table = contents ((state_in g.S.Store c.args.tx.now).now.trees slurm.tree) in
     let values = c.in_ok-exceptions.ensures.read clean in
-    c.group_files.ensures.schema (refused_by _ _ _ c.in_err-_files.was c.from_residual-in_err-_files.ensures.1 is) table (record { fit = values.fit; same = values.same }) read.others.exceptions_number
+    c.group_files.ensures.schema (refused_by _ _ _ c.in_err-_files.was c.from_residual-in_err-_files.ensures.1 is) table (record { fit = values.fit; same = values.same }) read.common.exceptions_number
 
 pub returns-clause-found : goal.returns-clause-found
 returns-clause-found g c clean =
