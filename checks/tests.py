@@ -3,8 +3,8 @@
     tests.py
 
 `rt try --test` builds all that a crate uses, which takes longer than most of its tests, and runs them one after the
-other. So each process has a copy of the sources with one crate more, whose modules are the crates of tests. It keeps
-the share of the tests that this process runs. A test has passed only if its process said so by name, and the names are
+other. So each process has a copy of the sources with one crate more, whose modules are crates of tests. It keeps the
+share of the tests that this process runs. A test has passed only if its process said so by name, and the names are
 those that the sources have.
 
 Prints a line for each crate once its last test has ended, with the seconds since the beginning, and after the last
@@ -43,10 +43,13 @@ SECONDS = {
 }
 OTHER_SECONDS = 3
 
-# How many seconds a test may take, and a build. The megabytes that a process takes while it builds, and afterwards.
+# How many seconds a test may take, and a build.
 TEST_SECONDS = 600
-BUILD_SECONDS = 220
-BUILD_MEMORY = 8500
+BUILD_SECONDS = 150
+
+# The megabytes that a process takes while it builds, with so many for each of its crates of tests, and afterwards.
+BUILD_MEMORY = 4900
+CRATE_MEMORY = 1000
 TEST_MEMORY = 500
 
 
@@ -68,26 +71,40 @@ def tests_of(crate):
     return names
 
 
-def shares(tests, count, builds):
+def shares(crates, count, builds):
     """Divides the tests among so many processes, of which so many build at a time.
 
-    The slowest come first, each to the process that will have ended first.
+    Each crate more takes a process time and memory to build. So the last process, which begins last, has all tests of
+    each crate that has less than one share of the seconds. Those of the other crates follow, the slowest first, each in
+    the process that will have ended first.
     """
     shares, seconds = [set() for _ in range(count)], [nth // builds * BUILD_SECONDS for nth in range(count)]
-    for test in sorted(tests, key=seconds_of, reverse=True):
-        least = seconds.index(min(seconds))
-        shares[least].add(test)
-        seconds[least] += seconds_of(test)
-    return shares
+    mean = sum(seconds_of(test) for tests in crates.values() for test in tests) / count
+    divided = []
+
+    def add(test, nth):
+        shares[nth].add(test)
+        seconds[nth] += seconds_of(test)
+
+    for tests in crates.values():
+        if sum(map(seconds_of, tests)) > mean:
+            divided += tests
+        else:
+            for test in tests:
+                add(test, -1)
+    for test in sorted(divided, key=seconds_of, reverse=True):
+        add(test, seconds.index(min(seconds)))
+    return [share for share in shares if share]
 
 
 class Part(Job):
-    """A process with its share of the tests of these crates, in a copy of the sources."""
+    """A process with its share of the tests, which are of these crates, in a copy of the sources."""
 
     def __init__(self, crates, tests, top):
         self.crates, self.tests, self.top = crates, tests, top
         command = ["rt", "try", "--test", "--seconds", str(TEST_SECONDS)]
-        super().__init__(command, top / "crates" / ALL_TESTS, top / "said", BUILD_MEMORY)
+        memory = BUILD_MEMORY + CRATE_MEMORY * len(crates)
+        super().__init__(command, top / "crates" / ALL_TESTS, top / "said", memory)
 
     def begin(self):
         shutil.copytree(TOP / "crates", self.top / "crates", ignore=shutil.ignore_patterns("out"))
@@ -128,7 +145,6 @@ class Part(Job):
             crate, *_, name = path.removeprefix("of_").split("::")
             found[f"{crate}::{name}"] = (verdict, why)
         return found
-
 
     def is_whole(self):
         """Whether the process judged each of its tests and no other, and ended as these say."""
@@ -191,12 +207,14 @@ def main():
     need_rt()
     side_by_side.note_signals()
     crates = {name: tests for name in side_by_side.used_crates() if (tests := tests_of(name))}
-    builds = max(1, min(PROCESSORS, side_by_side.available_memory() // BUILD_MEMORY))
+    builds = max(1, side_by_side.available_memory() // (BUILD_MEMORY + CRATE_MEMORY))
     with tempfile.TemporaryDirectory(prefix="roadesk-test-") as work:
         # So that nothing is left of an rt that is killed.
         os.environ["TMPDIR"] = work
-        divided = shares([test for tests in crates.values() for test in tests], PROCESSORS, builds)
-        parts = [Part(list(crates), share, pathlib.Path(work) / str(nth)) for nth, share in enumerate(divided)]
+        parts = []
+        for nth, share in enumerate(shares(crates, PROCESSORS, builds)):
+            named = [name for name, tests in crates.items() if not share.isdisjoint(tests)]
+            parts.append(Part(named, share, pathlib.Path(work) / str(nth)))
         report = Report(crates, parts)
         side_by_side.run_side_by_side(parts, lambda part: True, lambda part: None, report.watch)
         passed = report.end()
