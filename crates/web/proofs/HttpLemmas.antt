@@ -1,15 +1,12 @@
 -- The answers to HTTP requests and the responses that give them.
-use Rattle.web.proofs.Vocabulary.{◌≡◌, ℕ, Bool, true, false, List, [], ◌∷◌, length, ◌++◌, codes, Option, Some, None, Result, Ok, Err, refl, ap, subst, ◌∙◌, append_assoc, get_or, inl, inr, is_some, sym, true≢false, option_copied, Bor, append-nil, append_cancel_left, IfSome, OnErr, OnOk, Ghosts, Vrp, History, Charter, Head, SaysHead, AnswersRequest, is_accepted, charter_of, RowsStay, Asked, LeavesAtMost, pending_after, Desk, Reply, Done, Imported, Listed, Payloads, Denied, Unavailable, HasErrorStatus, json_response, MayStayUnsent, reply_body, reply_response, reply_status, line_text, short_text, RepliesAt, AnswersNext, extent_of, IsResponseUnless, ReadsNext}
+use Rattle.web.proofs.Vocabulary.{◌≡◌, ℕ, Bool, true, false, List, [], ◌∷◌, length, ◌++◌, codes, Option, Some, None, Result, Ok, Err, refl, ap, subst, ◌∙◌, append_assoc, get_or, inl, inr, is_some, sym, true≢false, option_copied, Bor, append-nil, append_cancel_left, IfSome, OnErr, OnOk, Ghosts, History, Charter, Head, SaysHead, AnswersRequest, is_accepted, charter_of, RowsStay, Asked, LeavesAtMost, pending_after, Desk, Reply, Done, Imported, Denied, Unavailable, HasErrorStatus, json_response, MayStayUnsent, reply_response, reply_status, short_text, RepliesAt, AnswersNext, extent_of, IsResponseUnless, ReadsNext}
 use Rattle.std.specs.Fmt.{digits}
-use Rattle.std.specs.Global.{Vec}
 use Rattle.std.proofs.lemmas.Option.{same_Some}
 use Rattle.http_messages.specs.declared.head.TheConstants.{HEAD_LIMIT}
-use Rattle.registry.specs.declared.authorization.Auth.{Auth}
 use Rattle.http_messages.specs.HeadEnd.{IsWholeHead}
 use Rattle.http_messages.specs.Input.{Gives}
 use Rattle.http_messages.specs.ResponseText.{response_head, status_line}
 use Rattle.http_messages.specs.declared.response.ContentType.{ContentType}
-use Rattle.http_messages.specs.declared.response.ContentType.TheVariants.{Csv}
 use Rattle.http_messages.specs.declared.status.Status.TheVariants.{Done as DoneStatus, Forbidden, ServiceUnavailable}
 use Rattle.registry.specs.declared.asked.Request.{Request}
 use Rattle.registry.specs.declared.asked.Request.TheVariants.{Command as CommandRequest, Query as QueryRequest}
@@ -42,13 +39,6 @@ pub long-status : (reply : Reply) → short_text reply ≡ None → reply_status
 long-status (Denied rule row) long = cc
 long-status Unavailable long = cc
 long-status other long = refl
-
--- what CSV has no rows for
-pub csv-other : (reply : Reply) → ((auths : Vec Auth) → reply ≡ Listed auths → ⊥) → ((vrps : List Vrp) → reply ≡ Payloads vrps → ⊥)
-    → line_text reply ≡ reply_body Csv reply
-csv-other (Listed auths) no_list no_payloads = absurd (no_list auths refl)
-csv-other (Payloads vrps) no_list no_payloads = absurd (no_payloads vrps refl)
-csv-other other no_list no_payloads = refl
 
 -- ---- bytes
 

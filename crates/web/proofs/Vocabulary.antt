@@ -13,7 +13,7 @@ pub use Rattle.desk.specs.CrashOutcomes.{IsDurablyAnswered, LeavesAlong, LeavesA
 pub use Rattle.desk.specs.Desk.{EachHistory, IsOnCleanDisk, Represents, RowsStay, charter_of}
 pub use Rattle.desk.specs.declared.desk.Desk.{Desk}
 pub use Rattle.desk.specs.declared.reply.Reply.{Reply}
-pub use Rattle.desk.specs.declared.reply.Reply.TheVariants.{Denied, Done, Imported, Listed, Payloads, Unavailable}
+pub use Rattle.desk.specs.declared.reply.Reply.TheVariants.{Denied, Done, Imported, Payloads, Unavailable}
 pub use Rattle.registry.specs.History.{History}
 pub use Rattle.registry.specs.Values.{AskedFits, HistoryFits}
 pub use Rattle.registry.specs.declared.asked.Asked.{Asked}
@@ -21,7 +21,7 @@ pub use Rattle.registry.specs.declared.charter.Charter.{Charter}
 pub use Rattle.requests.specs.RequestHeads.{Head, SaysHead, head_view}
 pub use Rattle.streams.proofs.StreamLemmas.{appended_bytes-append, on-err, passes-more, passes-nothing}
 pub use Rattle.streams.specs.Streams.{AppendsBeginning}
-pub use Rattle.web.specs.HttpResponses.{HasErrorStatus, MayStayUnsent, json_response, reply_body, reply_response, reply_status, unavailable_response}
+pub use Rattle.web.specs.HttpResponses.{HasErrorStatus, MayStayUnsent, json_response, reply_response, reply_status, unavailable_response}
 pub use Rattle.web.specs.ReplyText.{auth_end, auth_start, auth_text, comma_joined, entries_list, entries_text, entry_text, line_text, list_text, short_text, shown_text, unavailable_text}
 pub use Rattle.web.specs.Script.{AnswersEach, BreaksOff, Replies}
 pub use Rattle.web.specs.ScriptAnswer.{AnswersLine, AnswersLineAt, AnswersLineLeaving, AnswersLineOn, AnswersLines, BreaksOffLines, IsLaterDesk, RepliesAt, RepliesLeaving, RepliesOn, SaysAccepted, Standing}
