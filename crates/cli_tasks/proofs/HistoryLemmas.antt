@@ -1,5 +1,5 @@
 -- The histories that a desk has after connections.
-use Rattle.cli_tasks.proofs.Vocabulary.{◌≡◌, ◌∙◌, ◌≤◌, ◌<◌, ℕ, Bool, true, false, List, [], ◌∷◌, ◌++◌, Option, Some, None, Result, Ok, Err, IfOk, OnOk, OnErr, ap, arith, refl, subst, sym, inl, inr, result_err, Ghosts, Charter, History, HistoryFits, Asked, asked, HttpRequest, malformed, ReadsHttp, refused, IsOnCleanDisk, Represents, Desk, AnswersHttp, RespondsTo, RepliesAt, RepliesLeaving, RepliesOn, Standing, WebFault, Read, Write, ConnectionLeads, LeavesInTurn, RespondsBy, AnswersInTurn, EndsWith, IsReadied, ReadiesAgain, ServesInTurn, Transcript}
+use Rattle.cli_tasks.proofs.Vocabulary.{◌≡◌, ◌∙◌, ◌≤◌, ◌<◌, ℕ, Bool, true, false, List, [], ◌∷◌, ◌++◌, Option, Some, None, Result, Ok, Err, OnOk, OnErr, ap, arith, refl, subst, sym, inl, inr, result_err, Ghosts, Charter, History, HistoryFits, Asked, asked, HttpRequest, malformed, ReadsHttp, refused, IsOnCleanDisk, Represents, Desk, AnswersHttp, RespondsTo, RepliesAt, RepliesLeaving, RepliesOn, Standing, WebFault, Read, Write, ConnectionLeads, LeavesInTurn, RespondsBy, AnswersInTurn, EndsWith, IsReadied, ReadiesAgain, ServesInTurn, Transcript}
 use Rattle.registry.specs.Verdict.{IsLegal}
 use Rattle.desk.specs.declared.reply.Reply.{Reply}
 use Rattle.web.proofs.RepliesAlong.{replied_leaving, replied_on, RepresentsFrom, StandsFrom}
@@ -144,13 +144,3 @@ pub at_most : {T E : Type 0} (result : Result T E) {served count : ℕ} → OnOk
     → served ≤ count
 at_most (Ok x) all few = omega (arith, all)
 at_most (Err e) all few = omega (arith, few)
-
-pub if_ok_both : {T E : Type 0} (result : Result T E) (P Q R : T → Type 0) → ((x : T) → P x → Q x → R x) → IfOk result P
-    → IfOk result Q → IfOk result R
-if_ok_both (Ok x) P Q R both p q = both x p q
-if_ok_both (Err e) P Q R both p q = tt
-
-pub all_ok : {T E U F : Type 0} {result : Result T E} {x : T} (other : Result U F) (P : Type 0) → result ≡ Ok x → OnOk result P
-    → OnOk other P
-all_ok (Ok y) P is holds = subst (λ r. OnOk r P) is holds
-all_ok (Err e) P is holds = tt

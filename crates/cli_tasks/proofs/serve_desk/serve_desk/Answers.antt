@@ -1,5 +1,5 @@
 use Rattle.cli_tasks.proofs.Vocabulary.{◌≡◌, inl, length, subst, ◌<◌, OnErr, OnOk, IfErr-weaker}
-use Rattle.cli_tasks.proofs.HistoryLemmas.{if_ok_both}
+use Rattle.desk_files.proofs.DeskFileLemmas.{if_ok_both}
 use Rattle.cli_tasks.proofs.ServedFileLemmas.{keep_served, not_closed}
 use Rattle.cli_tasks.proofs.serve_desk.serve_desk.Goals as goal
 

@@ -1,6 +1,6 @@
 use Rattle.cli_tasks.proofs.Vocabulary.{◌≡◌, ◌∙◌, inr, [], OnOk, refl, subst, true, IfErr-weaker, image_of}
 use Rattle.cli_tasks.proofs.ConnectionLemmas.{accepts-then, logs-none}
-use Rattle.cli_tasks.proofs.HistoryLemmas.{if_ok_both}
+use Rattle.desk_files.proofs.DeskFileLemmas.{if_ok_both}
 use Rattle.cli_tasks.proofs.ServedFileLemmas.{if_closed, if_unclosed, keep_unserved, keeps_files, late_cause, late_opened, late_served, leaves_none, not_closed, not_closed_over}
 use Rattle.cli_tasks.proofs.serve_desk.serve_files.Goals as goal
 
