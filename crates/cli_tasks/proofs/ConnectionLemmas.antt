@@ -1,5 +1,6 @@
 -- Connections that are accepted and answered in turn, and the lines for those that failed.
-use Rattle.cli_tasks.proofs.Vocabulary.{◌≡◌, ◌∙◌, ◌+◌, ℕ, suc, Bool, List, [], ◌∷◌, ◌++◌, length, Option, Some, None, ap, append_assoc, arith, refl, subst, sym, append-nil, Appends, result_err, WebFault, Accepts, Logs, AnswersInTurn, fault_lines, line_for, Transcript}
+use Rattle.cli_tasks.proofs.Vocabulary.{◌≡◌, ◌∙◌, ◌+◌, ℕ, suc, Bool, List, [], ◌∷◌, ◌++◌, length, Option, Some, None, ap, append_assoc, arith, refl, subst, sym, append-nil, result_err, WebFault, Accepts, Logs, AnswersInTurn, fault_lines, line_for, Transcript}
+use Rattle.std.proofs.KnownBytes.{Appends-nil, Appends-trans}
 
 -- ---- what is known
 
@@ -11,28 +12,18 @@ accepts-then (Some old) (Some state) None first later h k = absurd k
 accepts-then (Some old) (Some state) (Some new) first later h k =
     k ∙ ap (λ passed. passed ++ later) h ∙ append_assoc old first later
 
-appends-none : (known : Option (List ℕ)) → Appends known known []
-appends-none None = tt
-appends-none (Some bytes) = sym (append-nil bytes)
-
-appends-then : (old state new : Option (List ℕ)) (first later : List ℕ)
-    → Appends old state first → Appends state new later → Appends old new (first ++ later)
-appends-then None state new first later h k = tt
-appends-then (Some old) None new first later h k = absurd h
-appends-then (Some old) (Some state) None first later h k = absurd k
-appends-then (Some old) (Some state) (Some new) first later h k =
-    k ∙ ap (λ bytes. bytes ++ later) h ∙ append_assoc old first later
+pub accepts-none : (known : Option (List Transcript)) → Accepts known known []
+accepts-none None = tt
+accepts-none (Some passed) = sym (append-nil passed)
 
 pub logs-none : (lost : Bool) (known : Option (List ℕ)) → Logs lost lost known known []
-logs-none lost known = λ none. (none, appends-none known)
+logs-none lost known = λ none. (none, Appends-nil known)
 
 pub logs-then : (lost_old lost_state lost_new : Bool) (old state new : Option (List ℕ)) (first later : List ℕ)
     → Logs lost_old lost_state old state first → Logs lost_state lost_new state new later
     → Logs lost_old lost_new old new (first ++ later)
 logs-then lost_old lost_state lost_new old state new first later h k = λ none.
-    let (none_before, added) = k none in
-    let (none_first, added_first) = h none_before in
-    (none_first, appends-then old state new first later added_first added)
+    let (none_first, added) = h (k none).0 in (none_first, Appends-trans old state new first later added (k none).1)
 
 -- ---- one more
 
@@ -50,10 +41,7 @@ lines-then number [] one =
     append-nil (line_for number (result_err one.ended)) ∙ ap (λ n. line_for n (result_err one.ended)) counted
 lines-then number (first ∷ later) one =
     let counted : length later + suc number ≡ suc (length later) + number = omega arith in
-    ap (λ lines. line_for number (result_err first.ended) ++ lines) (lines-then (suc number) later one
-    ∙ ap (λ n. fault_lines (suc number) later ++ line_for n (result_err one.ended)) counted)
-    ∙ sym (append_assoc (line_for number (result_err first.ended)) (fault_lines (suc number) later)
-    (line_for (suc (length later) + number) (result_err one.ended)))
+    rw (lines-then (suc number) later one, counted) (sym (append_assoc _ (fault_lines (suc number) later) _))
 
 pub logs-one : (lost_old lost_state lost_new : Bool) (old state new : Option (List ℕ)) (served : ℕ) (passed : List Transcript)
     (one : Transcript) (fault : Option WebFault) → length passed ≡ served → result_err one.ended ≡ fault
@@ -61,15 +49,5 @@ pub logs-one : (lost_old lost_state lost_new : Bool) (old state new : Option (Li
     → Logs lost_state lost_new state new (line_for (served + 1) fault)
     → Logs lost_old lost_new old new (fault_lines 1 (passed ++ one ∷ []))
 logs-one lost_old lost_state lost_new old state new served passed one fault counted is logged logged_one =
-    let line : line_for (length passed + 1) (result_err one.ended) ≡ line_for (served + 1) fault =
-    ap (λ n. line_for (n + 1) (result_err one.ended)) counted ∙ ap (line_for (served + 1)) is in
-    let lines : fault_lines 1 (passed ++ one ∷ []) ≡ fault_lines 1 passed ++ line_for (served + 1) fault =
-    lines-then 1 passed one ∙ ap (λ l. fault_lines 1 passed ++ l) line in
-    subst (Logs lost_old lost_new old new) (sym lines)
+    rw (lines-then 1 passed one, counted, is)
     (logs-then lost_old lost_state lost_new old state new (fault_lines 1 passed) (line_for (served + 1) fault) logged logged_one)
-
-pub length-then : (passed : List Transcript) (one : Transcript) → length (passed ++ one ∷ []) ≡ length passed + 1
-length-then [] one = refl
-length-then (first ∷ later) one =
-    let counted : suc (length later + 1) ≡ suc (length later) + 1 = omega arith in
-    ap suc (length-then later one) ∙ counted

@@ -1,5 +1,5 @@
 -- The histories that a desk has after connections.
-use Rattle.cli_tasks.proofs.Vocabulary.{◌≡◌, ◌∙◌, ◌≤◌, ◌<◌, ℕ, Bool, true, false, List, [], ◌∷◌, ◌++◌, Option, Some, None, Result, Ok, Err, OnOk, OnErr, ap, arith, refl, subst, sym, inl, inr, result_err, Ghosts, Charter, History, HistoryFits, Asked, asked, HttpRequest, malformed, ReadsHttp, refused, IsOnCleanDisk, Represents, Desk, AnswersHttp, RespondsTo, RepliesAt, RepliesLeaving, RepliesOn, Standing, WebFault, Read, Write, ConnectionLeads, LeavesInTurn, RespondsBy, AnswersInTurn, EndsWith, IsReadied, ReadiesAgain, ServesInTurn, Transcript}
+use Rattle.cli_tasks.proofs.Vocabulary.{◌≡◌, ◌∙◌, ℕ, Bool, true, false, List, [], ◌∷◌, ◌++◌, Option, Some, None, ap, refl, subst, sym, inl, inr, result_err, Ghosts, Charter, History, HistoryFits, Asked, asked, HttpRequest, malformed, ReadsHttp, refused, IsOnCleanDisk, Represents, Desk, AnswersHttp, RespondsTo, RepliesAt, RepliesLeaving, RepliesOn, Standing, WebFault, Read, Write, ConnectionLeads, LeavesInTurn, RespondsBy, AnswersInTurn, EndsWith, IsReadied, ReadiesAgain, ServesInTurn, Transcript}
 use Rattle.registry.specs.Verdict.{IsLegal}
 use Rattle.desk.specs.declared.reply.Reply.{Reply}
 use Rattle.web.proofs.RepliesAlong.{replied_leaving, replied_on, RepresentsFrom, StandsFrom}
@@ -137,10 +137,3 @@ module _ {S : Type 0} (g : Ghosts S) where
       (still_leaving charter before)
       day passed old new before in_turn clean ((is, λ fits. fits), (λ fits. fits), leaves) in
       (after, leads, represents, values, fitting, left)
-
--- ---- files
-
-pub at_most : {T E : Type 0} (result : Result T E) {served count : ℕ} → OnOk result (served ≡ count) → OnErr result (served < count)
-    → served ≤ count
-at_most (Ok x) all few = omega (arith, all)
-at_most (Err e) all few = omega (arith, few)

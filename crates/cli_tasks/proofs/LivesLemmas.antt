@@ -1,7 +1,7 @@
 -- The lives of `serve` on files whose disk may crash.
 use Rattle.cli_tasks.proofs.Vocabulary.{◌≡◌, ◌<◌, ◌≤◌, ◌+◌, ◌∙◌, ℕ, Bool, List, [], ◌∷◌, ◌++◌, inl, inr, Option, Result, Ok, Err, IfOk, IfErr, OnOk, OnErr, arith, length, length-append, get_or, take, true, false, ap, refl, subst, sym, flat_map_more, take_more, flat_map, ErrorKind, image_of, over_files, Files, view, FileStore, IsClean, AreClean, Image, Charter, History, AskedFits, Asked, IsOnCleanDisk, Desk, FilesLeaveAtMost, LeavesFiles, ResumesLeft, RefusedLeaves, RefusesNoLegal, CloseFault, Standing, Accepts, Logs, LeavesInTurn, FailsToCloseOver, IfClosed, IfUnclosed, IsCauseOf, IsServedCount, FilesGoOn, LeavesUnclosed, end_of_close, end_of_serve, EndsLife, EndsLives, HasLifeCount, LeavesEnded, LeavesRefused, LifeLeads, LivesAllow, LivesLead, ServesLife, ServesLives, fault_lines, Transcript, ServeFault, Accept, Bind, Close, Open}
 use Rattle.std.proofs.Math.Logic.{∥∥₁_elim, ∥∥₁_map}
-use Rattle.std.proofs.lemmas.Bool.{false≢true}
+use Rattle.std.proofs.lemmas.List.{nil_from_length}
 use Rattle.std.proofs.lemmas.List.Elements.{All-nil}
 use Rattle.std.specs.Prelude.{is_some}
 use Rattle.sqlite.specs.declared.file.Leftover.TheVariants as left
@@ -9,6 +9,8 @@ use Rattle.sqlite_disk.specs.declared.Disk.{Ghosts}
 use Rattle.sqlite_trees.specs.Props.{Trees-set}
 use Rattle.sqlite_wal.proofs.LogLemmas.{SeenMayStay}
 use Rattle.sqlite_wal.specs.Files.{outcomes}
+use Rattle.registry.specs.CharterSets.{IsCharter}
+use Rattle.registry.specs.Verdict.{IsLegal}
 use Rattle.desk.specs.Resumed.{IsAtMostOneMore, MayBeLeftInEitherSchema, PendingFits}
 use Rattle.desk_files.proofs.DeskFileLemmas.{kept_leaves_lem, stopped_leaves_lem}
 use Rattle.desk_files.proofs.RefusedFileLemmas.{left_in_either_found}
@@ -55,20 +57,14 @@ closes_life g stays day passed files left keeps charter before chartered legal f
       kept_leaves_lem g charter kept.after left kept.kept,
     ))
 
-none_served : (passed : List Transcript) → length passed ≡ 0 → passed ≡ []
-none_served [] none = refl
-none_served (p ∷ passed) none = absurd (omega (arith, none))
-
 -- all connections were served, unless accepting failed
-pub life_count : {T E : Type 0} (result : Result T E) {served count : ℕ} {has_failed : Bool} → OnOk result (served ≡ count) → OnErr result (has_failed ≡ true)
-    → HasLifeCount served count false has_failed
-life_count (Ok x) all failed = inl all
-life_count (Err e) all failed = inr (inr failed)
+pub life_count : {T E : Type 0} (result : Result T E) {served count : ℕ} {has_failed : Bool} → OnOk result (served ≡ count)
+    → OnErr result (served < count) → OnErr result (has_failed ≡ true) → (served ≤ count) × HasLifeCount served count false has_failed
+life_count (Ok x) all few failed = (omega (arith, all), inl all)
+life_count (Err e) all few failed = (omega (arith, few), inr (inr failed))
 
 pub count_of_stop : {served count : ℕ} {cannot_listen has_failed : Bool} → HasLifeCount served count false has_failed → HasLifeCount served count cannot_listen has_failed
-count_of_stop (inl all) = inl all
-count_of_stop (inr (inl cannot)) = absurd (false≢true cannot)
-count_of_stop (inr (inr failed)) = inr (inr failed)
+count_of_stop why = grind arith
 
 -- how `serve` ended is how the life did
 module _ {D : Type 0} (g : Ghosts D) (stays : SeenMayStay g) (day count : ℕ) (files : Files D) (passed : List Transcript)
@@ -108,7 +104,7 @@ module _ {D : Type 0} (g : Ghosts D) (stays : SeenMayStay g) (day count : ℕ) (
   serve_ends (Ok left) clean clean_store counted closed unclosed cause =
       (omega (arith, counted), inl counted, clean, (λ was. closes_life g stays day passed files left (closed was)), tt)
   serve_ends (Err (Open fault)) clean clean_store counted closed unclosed cause =
-      (omega (arith, counted), tt, tt, tt, (none_served passed counted, cause.0, cause.2, cause.3))
+      (omega (arith, counted), tt, tt, tt, (nil_from_length passed counted, cause.0, cause.2, cause.3))
   serve_ends (Err (Bind fault end)) clean clean_store counted closed unclosed cause =
       closed_ends end (omega (arith, counted)) (inr (inl (ap is_some cause.1))) clean clean_store closed unclosed
   serve_ends (Err (Accept end)) clean clean_store counted closed unclosed cause =
@@ -128,60 +124,48 @@ lead_then charter before middle next history [] [] life passed led more few lead
     (history, next, subst (λ (s : Standing). IsAtMostOneMore charter s.history s.pending history) led more, few, leads, refl)
 lead_then charter before middle next history [] (p ∷ served) life passed led more few leads = absurd led
 lead_then charter before middle next history (l ∷ lives) [] life passed led more few leads = absurd led
-lead_then charter before middle next history (l ∷ lives) (p ∷ served) life passed led more few leads = (
-  led.0,
-  led.1,
-  led.2,
-  led.3,
-  led.4,
-  lead_then charter led.1 middle next history lives served life passed led.5 more few leads,
-)
+lead_then charter before middle next history (l ∷ lives) (p ∷ served) life passed (begun, at, one, within, led_one, led) more few leads =
+    (begun, at, one, within, led_one, lead_then charter at middle next history lives served life passed led more few leads)
+
+-- the lives up to an index, and the one there
+life_taken : (lives : List Life) (index : ℕ) (life : Life) → index < length lives → life ≡ get_or lives index life
+    → take (index + 1) lives ≡ take index lives ++ life ∷ []
+life_taken lives index life below here = take_more lives index life below ∙ ap (λ x. take index lives ++ x ∷ []) (sym here)
 
 pub serves_none : {D : Type 0} (g : Ghosts D) (files : Files D) → ServesLives g [] files [] files
 serves_none g files charter before chartered legal found = ∣ (before, refl, legal, (λ fits. fits), found) ∣₁
 
 module _ {D : Type 0} (g : Ghosts D) (more_fits : PendingFits) (start old crashed new : Files D) where
-  -- the files were crashed, and served one more
-  one_more_life : (lives : List Life) (served : List (List Transcript)) (life : Life) (passed : List Transcript)
-      → ServesLives g lives start served old
-      → ((image : Image) → outcomes g crashed.log crashed.db image → outcomes g old.log old.db image)
-      → (length passed ≤ life.count) → ServesLife g life.is_closed life.day crashed passed new
-      → ServesLives g (lives ++ life ∷ []) start (served ++ passed ∷ []) new
-  one_more_life lives served life passed so_far crash few serves charter before chartered legal found =
-      ∥∥₁_elim (so_far charter before chartered legal found) squash₁ (λ was.
-      ∥∥₁_map (serves charter was.0 chartered was.2 (λ image may. was.4 image (crash image may))) (λ lived. (
-        lived.2,
-        lead_then charter before was.0 lived.2 lived.0 lives served life passed was.1 lived.1 few lived.3,
-        lived.4,
-        (λ fits.
-            let at = was.3 fits in lived.5 (more_fits charter was.0.history was.0.pending lived.0 at.0 at.1 lived.1)),
-        lived.6,
-      )))
-
-  -- the same of the life at an index
+  -- the files were crashed, and served the life at an index
   pub lives_more : (lives : List Life) (index : ℕ) (served : List (List Transcript)) (life : Life) (passed : List Transcript)
       → index < length lives → life ≡ get_or lives index life
       → ServesLives g (take index lives) start served old
       → ((image : Image) → outcomes g crashed.log crashed.db image → outcomes g old.log old.db image)
       → (length passed ≤ life.count) → ServesLife g life.is_closed life.day crashed passed new
       → ServesLives g (take (index + 1) lives) start (served ++ passed ∷ []) new
-  lives_more lives index served life passed below here so_far crash few serves =
-      let taken : take (index + 1) lives ≡ take index lives ++ life ∷ [] =
-      take_more lives index life below ∙ ap (λ x. take index lives ++ x ∷ []) (sym here) in
-      subst (λ (l : List Life). ServesLives g l start (served ++ passed ∷ []) new) (sym taken)
-      (one_more_life (take index lives) served life passed so_far crash few serves)
+  lives_more lives index served life passed below here so_far crash few serves charter before chartered legal found =
+      ∥∥₁_elim (so_far charter before chartered legal found) squash₁ (λ was.
+      ∥∥₁_map (serves charter was.0 chartered was.2 (λ image may. was.4 image (crash image may))) (λ lived. (
+        lived.2,
+        rw (life_taken lives index life below here)
+            (lead_then charter before was.0 lived.2 lived.0 (take index lives) served life passed was.1 lived.1 few lived.3),
+        lived.4,
+        (λ fits.
+            let at = was.3 fits in lived.5 (more_fits charter was.0.history was.0.pending lived.0 at.0 at.1 lived.1)),
+        lived.6,
+      )))
 
 -- ---- a refused opening
 
 module _ {D : Type 0} (g : Ghosts D) (stays : SeenMayStay g) (more_fits : PendingFits) (lives : List Life) (served : List (List Transcript))
     (start : Files D) where
   leads_on : (now : Files D) (Allows : Charter → History → List Asked → Type 0) → ServesLives g lives start served now
-      → ((charter : Charter) (history : History) (pending : List Asked)
+      → ((charter : Charter) (history : History) (pending : List Asked) → IsCharter charter → IsLegal charter history
       → FilesLeaveAtMost g charter now history pending → ∥ Allows charter history pending ∥₁)
       → LivesAllow g lives start served Allows
   leads_on now Allows led allows charter before chartered legal found =
       ∥∥₁_elim (led charter before chartered legal found) squash₁ (λ at.
-      ∥∥₁_map (allows charter at.0.history at.0.pending at.4) (λ allowed. (at.0, at.1, at.2, at.3, allowed)))
+      ∥∥₁_map (allows charter at.0.history at.0.pending chartered at.2 at.4) (λ allowed. (at.0, at.1, at.2, at.3, allowed)))
 
   leaves_refused : (found : Files D) (fault : OpenFault D g)
       → (AreClean g found.log found.db → ServesLives g lives start served found)
@@ -189,16 +173,17 @@ module _ {D : Type 0} (g : Ghosts D) (stays : SeenMayStay g) (more_fits : Pendin
       → LeavesRefused g lives start served found fault
   leaves_refused found (Path fault) led no_legal keeps = absurd keeps
   leaves_refused found (File fault (left.Files now)) led no_legal keeps = λ was clean.
-      leads_on found _ (led was) (λ charter history pending allowed. ∣ (λ image may. allowed image (keeps.1 clean image may)) ∣₁)
+      leads_on found _ (led was) (λ charter history pending chartered legal allowed.
+      ∣ (λ image may. allowed image (keeps.1 clean image may)) ∣₁)
   leaves_refused found (File fault (left.Unopened now)) led no_legal keeps = tt
   leaves_refused found (File fault (left.Store now)) led no_legal keeps = λ was clean.
-      leads_on found _ (led was) (λ charter history pending allowed.
+      leads_on found _ (led was) (λ charter history pending chartered legal allowed.
       ∥∥₁_map (allowed (image_of g found) (stays found.log, stays found.db)) (λ held trees may.
       let same : trees ≡ held.0 = ∥∥₁_elim held.2 (Trees-set _ _) ((keeps.1 clean trees may).1 held.0) in
       subst (MayBeLeftInEitherSchema charter history pending) (sym same) held.1))
   leaves_refused found (Store fault now) led no_legal keeps = λ clean.
       let (was, no_more) = keeps clean in (
-        leads_on found _ (led was) (λ charter history pending allowed. ∣ no_more charter history pending allowed ∣₁),
+        leads_on found _ (led was) (λ charter history pending chartered legal allowed. ∣ no_more charter history pending allowed ∣₁),
         λ is it.
             ∥∥₁_elim (led was it.charter it.before it.chartered it.legal it.left) (λ x y. absurd x) (λ at.
             let fits = at.3 it.fits in
@@ -221,16 +206,9 @@ module _ {D : Type 0} (g : Ghosts D) (stays : SeenMayStay g) (more_fits : Pendin
       → LeavesEnded g lives start served day found passed fault
   leaves_ended found day passed (ended.Open fault) led ends = leaves_refused found fault led ends.2 ends.3
   leaves_ended found day passed (ended.Close fault) led ends = λ clean.
-      let (was, fails, leaves) = ends clean in λ charter before chartered legal start_left.
-      ∥∥₁_elim (led was charter before chartered legal start_left) squash₁ (λ at.
-      ∥∥₁_map (at.4 (image_of g found) (stays found.log, stays found.db)) (λ held. (
-        at.0,
-        at.1,
-        at.2,
-        at.3,
-        leaves charter at.0.history at.0.pending chartered at.2
-            (held.0, left_in_either_found charter at.0.history at.0.pending held.0 held.1, held.2),
-      )))
+      let (was, fails, leaves) = ends clean in leads_on found _ (led was) (λ charter history pending chartered legal left.
+      ∥∥₁_map (left (image_of g found) (stays found.log, stays found.db)) (λ held.
+      leaves charter history pending chartered legal (held.0, left_in_either_found charter history pending held.0 held.1, held.2)))
 
 module _ {D : Type 0} (g : Ghosts D) (stays : SeenMayStay g) (more_fits : PendingFits) (start old crashed : Files D) where
   -- the life at an index did not end well
@@ -245,16 +223,14 @@ module _ {D : Type 0} (g : Ghosts D) (stays : SeenMayStay g) (more_fits : Pendin
       let led : AreClean g crashed.log crashed.db → ServesLives g (take (length served) lives) start served crashed = λ clean.
       leads_on g stays more_fits (take (length served) lives) served start old _
       (subst (λ n. ServesLives g (take n lives) start served old) (sym counted) (so_far (crash_clean clean)))
-      (λ charter history pending allowed. ∣ (λ image may. allowed image (crash image may)) ∣₁) in
+      (λ charter history pending chartered legal allowed. ∣ (λ image may. allowed image (crash image may)) ∣₁) in
       let one_more : length (served ++ passed ∷ []) ≡ index + 1 = omega (arith, counted, length-append served (passed ∷ [])) in
-      let taken : take (length (served ++ passed ∷ [])) lives ≡ take index lives ++ life ∷ [] =
-      ap (λ n. take n lives) one_more ∙ take_more lives index life below ∙ ap (λ x. take index lives ++ x ∷ []) (sym here) in
       record {
         whole = served;
         passed = passed;
         all = refl;
         life = life;
-        reached = subst (λ n. take (length (served ++ passed ∷ [])) lives ≡ take n lives ++ life ∷ []) (sym counted) taken;
+        reached = rw (one_more, counted) (life_taken lives index life below here);
         few = few;
         found = crashed;
         clean = λ clean. cleaned (crash_clean clean);
@@ -269,9 +245,8 @@ pub accepts_more : (old state new : Option (List Transcript)) (served : List (Li
     → Accepts old state (flat_map (λ connections. connections) served) → Accepts state new passed
     → Accepts old new (flat_map (λ connections. connections) (served ++ passed ∷ []))
 accepts_more old state new served passed before more =
-    let all : List (List Transcript) → List Transcript = flat_map (λ connections. connections) in
     subst (Accepts old new) (flat_map_more (λ (connections : List Transcript). connections) [] served passed)
-    (accepts-then old state new (all served) passed before more)
+    (accepts-then old state new _ passed before more)
 
 pub logs_more : (lost_old lost_state lost_new : Bool) (old state new : Option (List ℕ)) (served : List (List Transcript))
     (passed : List Transcript) → Logs lost_old lost_state old state (flat_map (fault_lines 1) served)

@@ -1,5 +1,5 @@
 -- A desk over several connections.
-use Rattle.cli_tasks.proofs.Vocabulary.{◌≡◌, ◌∙◌, ℕ, Bool, true, false, List, [], ◌∷◌, ◌++◌, Result, Ok, Err, IfOk, ap, refl, subst, sym, Ghosts, Desk, Gives, HasNoMore, IsCutShort, RespondsTo, IsLaterDesk, WebFault, Read, Write, AnswersInTurn, AnswersReady, IsReadied, ReadiesAgain, Serves, ServesInTurn, TellsReady, Transcript}
+use Rattle.cli_tasks.proofs.Vocabulary.{◌≡◌, ◌∙◌, ℕ, Bool, true, false, List, [], ◌∷◌, ◌++◌, Result, Ok, Err, IfOk, refl, subst, sym, Ghosts, Desk, Gives, HasNoMore, IsCutShort, RespondsTo, IsLaterDesk, WebFault, Read, Write, AnswersInTurn, AnswersReady, IsReadied, ReadiesAgain, Serves, ServesInTurn, TellsReady, Transcript}
 use Rattle.streams.specs.Streams.{AppendsBeginning}
 use Rattle.web.specs.RequestExtent.{HasExtent}
 use Rattle.web.specs.declared.http.Extent.{Extent}
@@ -36,51 +36,30 @@ module _ {S : Type 0} (g : Ghosts S) where
       later_still old ready new (later_readied day old ready readied) (later_in_turn day ready new passed in_turn)
 
   -- what `serve_request` says of a connection on which nothing has passed before
-  pub serves : (result : Result Extent WebFault) (day : ℕ) (old new : Desk S) (given_old given_new : List ℕ)
-      (written_old written_new : List ℕ) (has_ended read_failed write_failed : Bool)
-      → IsLaterDesk g old new
-      → IfOk result (λ extent. (bytes text : List ℕ) × Gives bytes given_old given_new × RespondsTo g old day bytes text new
-      × HasExtent day bytes text extent × (written_new ≡ written_old ++ text))
-      → (result ≡ Err Read → (bytes : List ℕ) × Gives bytes given_old given_new × IsCutShort bytes
-      × HasNoMore has_ended read_failed × (new ≡ old) × (written_new ≡ written_old))
-      → (result ≡ Err Write → (bytes text : List ℕ) × Gives bytes given_old given_new × RespondsTo g old day bytes text new
-      × AppendsBeginning written_old written_new text)
-      → (result ≡ Err Write → write_failed ≡ true)
-      → given_old ≡ [] → written_old ≡ []
-      → Serves g day old (record {
-        received = given_new;
-        has_ended = has_ended;
-        read_failed = read_failed;
-        sent = written_new;
-        write_failed = write_failed;
-        ended = result;
-      }) new
-  serves (Ok x) day old new given_old given_new written_old written_new has_ended read_failed write_failed later ok read write
-      failed none_given none_written =
-      let (bytes, text, given, responds, extent, written) = ok in
-      let received : bytes ≡ given_new = sym (given ∙ ap (λ before. before ++ bytes) none_given) in
-      let sent : text ≡ written_new = sym (written ∙ ap (λ before. before ++ text) none_written) in (
-        later,
-        subst (λ b. RespondsTo g old day b written_new new) received (subst (λ t. RespondsTo g old day bytes t new) sent responds),
-        subst (λ b. HasExtent day b written_new x) received (subst (λ t. HasExtent day bytes t x) sent extent),
-      )
-  serves (Err Read) day old new given_old given_new written_old written_new has_ended read_failed write_failed later ok read write
-      failed none_given none_written =
-      let (bytes, given, cut, over, same, kept) = read refl in
-      let received : bytes ≡ given_new = sym (given ∙ ap (λ before. before ++ bytes) none_given) in
-      (later, (subst IsCutShort received cut, over, kept ∙ none_written, same), tt)
-  serves (Err Write) day old new given_old given_new written_old written_new has_ended read_failed write_failed later ok read write
-      failed none_given none_written =
-      let (bytes, text, given, responds, (out, more, written, whole)) = write refl in
-      let received : bytes ≡ given_new = sym (given ∙ ap (λ before. before ++ bytes) none_given) in
-      let sent : out ≡ written_new = sym (written ∙ ap (λ before. before ++ out) none_written) in
-      let all : text ≡ written_new ++ more = whole ∙ ap (λ begun. begun ++ more) sent in (
-        later,
-        (
-          more,
-          subst (λ b. RespondsTo g old day b (written_new ++ more) new) received
-              (subst (λ t. RespondsTo g old day bytes t new) all responds),
-          failed refl,
-        ),
-        tt,
-      )
+  module _ (day : ℕ) (old new : Desk S) (given_old given_new written_old written_new : List ℕ)
+      (has_ended read_failed write_failed : Bool) where
+    pub serves : (result : Result Extent WebFault) → IsLaterDesk g old new
+        → IfOk result (λ extent. (bytes text : List ℕ) × Gives bytes given_old given_new × RespondsTo g old day bytes text new
+        × HasExtent day bytes text extent × (written_new ≡ written_old ++ text))
+        → (result ≡ Err Read → (bytes : List ℕ) × Gives bytes given_old given_new × IsCutShort bytes
+        × HasNoMore has_ended read_failed × (new ≡ old) × (written_new ≡ written_old))
+        → (result ≡ Err Write → (bytes text : List ℕ) × Gives bytes given_old given_new × RespondsTo g old day bytes text new
+        × AppendsBeginning written_old written_new text)
+        → (result ≡ Err Write → write_failed ≡ true)
+        → given_old ≡ [] → written_old ≡ []
+        → Serves g day old (record {
+          received = given_new;
+          has_ended = has_ended;
+          read_failed = read_failed;
+          sent = written_new;
+          write_failed = write_failed;
+          ended = result;
+        }) new
+    serves (Ok x) later (bytes, text, given, responds, extent, written) read write failed none_given none_written =
+        rw (given, written, none_given, none_written) (later, responds, extent)
+    serves (Err Read) later ok read write failed none_given none_written =
+        let (bytes, given, cut, over, same, kept) = read refl in
+        rw (given, none_given) (later, (cut, over, kept ∙ none_written, same), tt)
+    serves (Err Write) later ok read write failed none_given none_written =
+        let (bytes, text, given, responds, (out, more, written, whole)) = write refl in
+        rw (given, written, none_given, none_written) (later, (more, rw whole at responds, failed refl), tt)

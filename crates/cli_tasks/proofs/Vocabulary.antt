@@ -1,7 +1,7 @@
 -- The names of the logic, of other crates and of the definitions that the proofs use, in one place.
 pub use Rattle.std.proofs.Common.{Bool, Err, IfErr, IfOk, List, None, Ok, OnErr, OnOk, Option, Result, Some, [], ap, append_assoc, arith, false, get_or, inl, inr, length, length-append, refl, subst, suc, sym, take, take_all, true, ℕ, ◌++◌, ◌+◌, ◌-◌, ◌<◌, ◌∙◌, ◌∷◌, ◌≡◌, ◌≤◌, ◌⊎◌}
 pub use Rattle.std.proofs.lemmas.List.{append-nil, flat_map_more, take_more}
-pub use Rattle.std.proofs.lemmas.Result.{IfErr-weaker}
+pub use Rattle.std.proofs.lemmas.Result.{IfErr-weaker, IfOk-weaker}
 pub use Rattle.std.specs.Io.KnownBytes.{Appends, Consumes, prepend_known}
 pub use Rattle.std.specs.List.{flat_map}
 pub use Rattle.std.specs.Result.{result_err}

@@ -1,7 +1,6 @@
 use Rattle.cli_tasks.proofs.Vocabulary.{[], ◌≡◌, OnErr, arith, refl, subst}
-use Rattle.cli_tasks.proofs.ConnectionLemmas.{logs-none}
+use Rattle.cli_tasks.proofs.ConnectionLemmas.{accepts-none, logs-none}
 use Rattle.cli_tasks.proofs.LivesLemmas.{count_of_stop}
-use Rattle.cli_tasks.proofs.ServedFileLemmas.{accepts_none}
 use Rattle.cli_tasks.proofs.lives.serve_life.Goals as goal
 
 pub returns-then-life-clause-served : goal.returns-then-life-clause-served
@@ -19,7 +18,7 @@ returns-in-Err-clause-served g c =
       [],
       omega arith,
       tt,
-      rw same.0 (accepts_none _),
+      rw same.0 (accepts-none _),
       rw same.1 (logs-none _ _),
       tt,
       (refl, c.in-Err.ensures.err, c.in-Err.ensures.no_legal, c.in-Err.ensures.left),

@@ -1,13 +1,12 @@
 use Rattle.cli_tasks.proofs.Vocabulary.{[], ◌∷◌, ◌++◌, arith, length-append, refl, take_all, Files}
 use Rattle.sqlite_wal.proofs.CleanLemmas.{both_clean}
-use Rattle.cli_tasks.proofs.ConnectionLemmas.{logs-none}
+use Rattle.cli_tasks.proofs.ConnectionLemmas.{accepts-none, logs-none}
 use Rattle.cli_tasks.proofs.LivesLemmas.{accepts_more, ends_lives, lives_more, logs_more, serves_none}
-use Rattle.cli_tasks.proofs.ServedFileLemmas.{accepts_none}
 use Rattle.cli_tasks.proofs.lives.serve_lives.Goals as goal
 
 pub loop-life-init : goal.loop-life-init
 loop-life-init g c =
-    ([], refl, omega arith, (λ clean. clean), accepts_none _, logs-none _ _, (λ clean. serves_none g.D.Disk c.args.files))
+    ([], refl, omega arith, (λ clean. clean), accepts-none _, logs-none _ _, (λ clean. serves_none g.D.Disk c.args.files))
 
 pub loop-life-preserved : goal.loop-life-preserved
 loop-life-preserved g c =

@@ -1,13 +1,13 @@
-use Rattle.cli_tasks.proofs.HistoryLemmas.{at_most}
 use Rattle.cli_tasks.proofs.LivesLemmas.{life_count, serves_life}
 use Rattle.cli_tasks.proofs.lives.serve_until_stop.Goals as goal
 
 pub returns-clause-served : goal.returns-clause-served
 returns-clause-served g c =
-    let (passed, all, few, accepted, in_turn, leaves, logged) = c.serve_on-ended.ensures.served in (
+    let (passed, all, few, accepted, in_turn, leaves, logged) = c.serve_on-ended.ensures.served in
+    let (within, counted) = life_count c.serve_on-ended.result all few c.serve_on-ended.ensures.failed in (
       passed,
-      at_most c.serve_on-ended.result all few,
-      life_count c.serve_on-ended.result all c.serve_on-ended.ensures.failed,
+      within,
+      counted,
       accepted,
       logged,
       λ clean.

@@ -1,17 +1,16 @@
-use Rattle.cli_tasks.proofs.Vocabulary.{◌∙◌, ◌+◌, ◌≤◌, ◌++◌, ◌∷◌, [], ap, arith, result_err, AnswersReady}
-use Rattle.cli_tasks.proofs.ConnectionLemmas.{accepts-then, in-turn-then, length-then, logs-one}
+use Rattle.cli_tasks.proofs.Vocabulary.{◌∙◌, ◌++◌, ◌∷◌, [], ap, arith, length-append, result_err, AnswersReady}
+use Rattle.cli_tasks.proofs.ConnectionLemmas.{accepts-then, in-turn-then, logs-one}
 use Rattle.cli_tasks.proofs.serve.answer_each.Goals as goal
 
 pub loop-served-preserved : goal.loop-served-preserved
 loop-served-preserved g c =
     let (few, listens, flawless, passed, counted, accepted, in_turn, logged) = c.loop-served.invariant in
-    let (one, ended, accepted_one, answered) = c.in-Ok.ensures.ok in
-    let below : c.loop-served.served + 1 ≤ c.args.count = omega (arith, c.loop-served-test.true) in (
-      below,
+    let (one, ended, accepted_one, answered) = c.in-Ok.ensures.ok in (
+      omega (arith, c.loop-served-test.true),
       c.answer_next.ensures.listens.0 ∙ listens,
       c.answer_next.ensures.listens.1 ∙ flawless,
       passed ++ one ∷ [],
-      length-then passed one ∙ ap (λ n. n + 1) counted,
+      omega (arith, counted, length-append passed (one ∷ [])),
       accepts-then _ _ _ passed (one ∷ []) accepted accepted_one,
       in-turn-then (AnswersReady (g.E.AnswerConnections.answers c.args.day) (g.E.AnswerConnections.tells_ready c.args.day)
           (g.E.AnswerConnections.readied c.args.day)) c.args.engine.now c.loop-served.engine c.make_ready_again.new.engine
