@@ -130,8 +130,7 @@ module _ {D : Type 0} (g : Ghosts D) (conn : Held (FileStore D g)) (back : FileS
       let none = stopped_store now.log now.db given clean in
       let held = subst (λ p. AreClean g p.0 p.1) given clean in
       let at = may_leave_is back.pool image held (subst (λ p. outcomes g p.0 p.1 image) given may) in
-      ∥∥₁_map (opens_again back (numbered none) (sound none) image at) (λ db.
-      let r : (trees : Trees) × (file_state conn).may_leave trees × HoldsDatabase image trees = (db.0, quiet.outcomes db.0 db.1, db.2) in r)
+      ∥∥₁_map (opens_again back (numbered none) (sound none) image at) (λ db. (db.0, quiet.outcomes db.0 db.1, db.2))
 
 -- a desk whose connection was stopped left no more than a crash of the desk
 pub desk_left : {D : Type 0} (g : Ghosts D) (desk : Desk (FileStore D g)) (conn : Held (FileStore D g)) (now : Files D)
@@ -140,16 +139,11 @@ pub desk_left : {D : Type 0} (g : Ghosts D) (desk : Desk (FileStore D g)) (conn 
     → LeavesAtMost over_files charter desk history pending
     → (image : Image) → outcomes g now.log now.db image → ∥ AreLeftFiles image charter history pending ∥₁
 desk_left g desk conn now same holds charter history pending left image may =
-    ∥∥₁_map (holds image may) (λ held. let r : AreLeftFiles image charter history pending = (
-      held.0,
-      left held.0 (subst (λ h. (file_state h).may_leave held.0) same held.1),
-      ∣ held.2 ∣₁,
-    ) in r)
+    ∥∥₁_map (holds image may) (λ held. (held.0, left held.0 (subst (λ h. (file_state h).may_leave held.0) same held.1), ∣ held.2 ∣₁))
 
 pub kept_leaves_lem : {D : Type 0} (g : Ghosts D) → HeldLeaves g
 kept_leaves_lem g charter history now kept image may = ∣ (kept.trees, inl (inl kept.desk), (kept.left image may).both) ∣₁
 
 pub stopped_leaves_lem : {D : Type 0} (g : Ghosts D) → StoppedLeaves g
 stopped_leaves_lem g desk now charter history pending leaves left image may =
-    ∥∥₁_map (leaves.left charter history pending left image may) (λ held.
-    let r : AreLeftFilesInEitherSchema image charter history pending = (held.0, inl held.1, held.2) in r)
+    ∥∥₁_map (leaves.left charter history pending left image may) (λ held. (held.0, inl held.1, held.2))

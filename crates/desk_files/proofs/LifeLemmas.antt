@@ -26,13 +26,8 @@ Lives-append charter before middle left next [] [] asked list lived runs more =
     (left, next, subst (λ (h : History). Runs charter h asked list left) lived runs, more, refl)
 Lives-append charter before middle left next [] (r ∷ replies) asked list lived runs more = absurd lived
 Lives-append charter before middle left next (a ∷ lives) [] asked list lived runs more = absurd lived
-Lives-append charter before middle left next (a ∷ lives) (r ∷ replies) asked list lived runs more = (
-  lived.0,
-  lived.1,
-  lived.2,
-  lived.3,
-  Lives-append charter lived.1 middle left next lives replies asked list lived.4 runs more,
-)
+Lives-append charter before middle left next (a ∷ lives) (r ∷ replies) asked list (then, at, ran, one, lived) runs more =
+    (then, at, ran, one, Lives-append charter at middle left next lives replies asked list lived runs more)
 
 module _ {S : Type 0} (g : Ghosts S) where
   -- The desk before the crash was given back as a store, the store crashed and was opened again, and the connection over it
@@ -74,27 +69,6 @@ module _ {S : Type 0} (g : Ghosts S) where
     kept_on charter history is =
         subst (λ (k : Charter). IsLegal k history → AreDurablyAnswered g k history asked list old ran) is.chartered
         (λ legal. keeps history legal is.rows) is.legal
-
-  -- one more list, then a crash
-  one_more_life : PendingFits → (start old ran new : Desk S) (lives : List (List Asked)) (replies : List (List Reply)) (asked : List Asked) (list : List Reply)
-      → LivesOn g start lives replies old
-      → ((history : History) → IsLegal (charter_of old) history → HoldsHistory g old history → AreDurablyAnswered g (charter_of old) history asked list old ran)
-      → All AskedFits asked → ResumesAfter g ran new
-      → LivesOn g start (lives ++ asked ∷ []) (replies ++ list ∷ []) new
-  one_more_life more_fits start old ran new lives replies asked list so_far keeps each resumes charter before is has alone =
-      let was = so_far charter before is has alone in
-      let middle = was.0 in
-      let kept = kept_on old ran asked list keeps charter middle was.2 in
-      let pending = pending_after_all asked list [] in
-      let again = resumes charter kept.answered.after pending is kept.answered.legal (kept.left [] was.4) in (
-        again.0,
-        Lives-append charter before middle kept.answered.after again.0 lives replies asked list was.1 kept.answered.runs again.1,
-        again.2,
-        (λ fits.
-            more_fits charter kept.answered.after pending again.0 (kept.answered.values (was.3 fits))
-            (pending_after_all_fits asked list [] each (All-nil AskedFits)) again.1),
-        again.3,
-      )
 
   -- what a crash leaves after one more list, of a desk that had a legal history
   pub lives_leave : PendingFits → (start old ran : Desk S) (lives : List (List Asked)) (replies : List (List Reply)) (asked : List Asked) (list : List Reply)
@@ -179,9 +153,17 @@ module _ {S : Type 0} (g : Ghosts S) where
       → ((history : History) → IsLegal (charter_of old) history → HoldsHistory g old history → AreDurablyAnswered g (charter_of old) history asked.now list.items old ran)
       → All AskedFits asked.now → ResumesAfter g ran new
       → LivesOn g start (map requests (take (index + 1) lives)) (map items grown) new
-  live_more more_fits start old ran new lives index asked replies grown list below here pushed so_far keeps each resumes =
-      let requested = one_more_taken lives index asked below here in
-      let replied : map items grown ≡ map items replies ++ list.items ∷ [] = ap (map items) pushed ∙ map-append items replies (list ∷ []) in
-      subst (λ (l : List (List Asked)). LivesOn g start l (map items grown) new) (sym requested)
-      (subst (λ (r : List (List Reply)). LivesOn g start (map requests (take index lives) ++ asked.now ∷ []) r new) (sym replied)
-      (one_more_life more_fits start old ran new (map requests (take index lives)) (map items replies) asked.now list.items so_far keeps each resumes))
+  live_more more_fits start old ran new lives index asked replies grown list below here pushed so_far keeps each resumes charter before is has alone =
+      let was = so_far charter before is has alone in
+      let kept = kept_on old ran asked.now list.items keeps charter was.0 was.2 in
+      let pending = pending_after_all asked.now list.items [] in
+      let again = resumes charter kept.answered.after pending is kept.answered.legal (kept.left [] was.4) in (
+        again.0,
+        rw (one_more_taken lives index asked below here, pushed, map-append items replies (list ∷ []))
+            (Lives-append charter before was.0 kept.answered.after again.0 _ (map items replies) asked.now list.items was.1 kept.answered.runs again.1),
+        again.2,
+        (λ fits.
+            more_fits charter kept.answered.after pending again.0 (kept.answered.values (was.3 fits))
+            (pending_after_all_fits asked.now list.items [] each (All-nil AskedFits)) again.1),
+        again.3,
+      )

@@ -37,8 +37,7 @@ module _ {D : Type 0} (g : Ghosts D) (stays : SeenMayStay g) where
           | inl old ↦ inl (leaves_shown over_files conn held.0 (λ db. settled_at conn.store stays db) (over (given.clean (cleaned clean))).0.0 old)
           | inr moved ↦ inr moved
         ] in
-        let r : (trees : Trees) × ((trees ≡ (file_state conn).now.trees) ⊎ AreMoved (file_state conn) trees) × HoldsDatabase after trees =
-        (held.0, side, held.2) in r);
+        (held.0, side, held.2));
   }
 
   module _ (files : Files D) where
@@ -60,17 +59,14 @@ module _ {D : Type 0} (g : Ghosts D) (stays : SeenMayStay g) where
               inl (moved_left charter history pending (file_state refused.found) held.0
               (subst (MayBeFound charter history pending) (sym shown) (left_in_either_found charter history pending was.0 was.1)) moved)
         ] in
-        let r : AreLeftFilesInEitherSchema image charter history pending = (held.0, kept, ∣ held.2 ∣₁) in r))
+        (held.0, kept, ∣ held.2 ∣₁)))
 
     pub resumes_left : (desk : Desk (FileStore D g)) → ResumesFiles (image_of g files) desk → ResumesLeft g files desk
     resumes_left desk resumes charter before pending chartered legal left =
         ∥∥₁_map (holds_now charter before pending left) (λ was.
-        let r : Resumes over_files charter before pending desk =
-        resumes charter before pending chartered legal (was.0, left_in_either_found charter before pending was.0 was.1, was.2) in r)
+        resumes charter before pending chartered legal (was.0, left_in_either_found charter before pending was.0 was.1, was.2))
 
     pub refuses_no_legal : (fault : OpenFault D g) → RefusesNoLeft (image_of g files) fault → RefusesNoLegal files fault
-    refuses_no_legal (Path fault) refuses = tt
-    refuses_no_legal (File fault rest) refuses = tt
     refuses_no_legal (Store fault now) refuses = λ clean is it.
         ∥∥₁_elim (holds_now it.charter it.before it.pending it.left) (λ x y. absurd x) (λ left. refuses clean is (record {
           charter = it.charter;
@@ -82,13 +78,13 @@ module _ {D : Type 0} (g : Ghosts D) (stays : SeenMayStay g) where
           fits = it.fits;
           left = left;
         }))
+    refuses_no_legal _ refuses = tt
 
 -- the same of files that read so
 pub keeps_over : {D : Type 0} {g : Ghosts D} {image : Image} (files : Files D) (fault : OpenFault D g) → image_of g files ≡ image
     → RefusedLeaves files fault → RefusedLeavesOver image fault
 keeps_over files (Path fault) is keeps = tt
-keeps_over files (File fault rest) is keeps = (files, is, keeps)
-keeps_over files (Store fault now) is keeps = (files, is, keeps)
+keeps_over files _ is keeps = (files, is, keeps)
 
 pub if_err_both : {T E : Type 0} (result : Result T E) (P Q R : E → Type 0) → ((e : E) → P e → Q e → R e) → IfErr result P
     → IfErr result Q → IfErr result R
@@ -129,6 +125,5 @@ unmade_left charter conn refused now it cleaned left = λ clean. (
         | inl old ↦ inl old
         | inr made ↦ inr (made.0, (blank_rows, no_rows, made.1, made.2))
       ] in
-      let r : (trees : Trees) × ((file_state conn).may_leave trees ⊎ (IsUnused (file_state conn) × HoldDesk charter [] trees)) × HoldsDatabase image trees =
-      (held.0, side, held.2) in r),
+      (held.0, side, held.2)),
 )
