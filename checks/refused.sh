@@ -141,10 +141,10 @@ declare -a seen
 refuse_each || exit 1
 refuse_from_each || exit 1
 run_python "$top/checks/refused.py" "$program" "$work/refuse.so" "$charter" "$work" "${1:-1}"
-refuse_test test_http refused_memory::refused_memory_leaves_an_allowed_run
-refuse_test test_http refused_memory::refused_memory_over_http
+refuse_test test_program refused_memory::refused_memory_leaves_an_allowed_run
+refuse_test test_program refused_memory::refused_memory_over_http
 refuse_test test_library refused_calls::refused_call_is_good_the_next_time
-refuse_test test_tasks prepared_day::a_desk_without_memory_for_its_day_answers
+refuse_test test_program prepared_day::a_desk_without_memory_for_its_day_answers
 
 have 'a trie: ' rt || end
 folder=$("$top/tools/crate.sh" "$top/checks/refused.rattle" "$work") || fail 'no crate was made'

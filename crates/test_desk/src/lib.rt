@@ -2,7 +2,6 @@
 //! named rows, and one small function goes over it.
 #![tactic(auto)]
 
-pub mod desks;
 #[cfg(test)]
 mod devices;
 pub mod fakes;

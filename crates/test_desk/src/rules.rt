@@ -1,6 +1,5 @@
 //! Requests that no line brings, and rows that no short script leaves.
-use crate::desks::example_charter;
-use crate::ready::{assert_same, on_new_desk, value_of};
+use crate::ready::{assert_same, example_charter, on_new_desk};
 use crate::scripts::{ALPHA, assert_lines};
 use addr::{Asn, Day, Holdings, Name, Prefix};
 use desk::{Desk, Reply, Request};
@@ -127,7 +126,7 @@ fn import_after(
     created: u32,
     rows: &[ImportRow],
 ) -> Result<Change, Refusal> {
-    let charter = value_of(rt, example_charter(alloc), "charter");
+    let charter = example_charter(rt, alloc);
     let view = view_after(rt, alloc, created);
     let command = Command::Import {
         holder: name(rt, "alpha"),
@@ -169,7 +168,7 @@ fn number_999999_is_the_last(rt: HostRuntime) {
 /// What these changes by `ann` would leave where 999,998 authorizations were made.
 fn supposed(rt: &impl Abort, alloc: Global, changes: &[Proposed]) -> Result<HolderRows, Refusal> {
     assert!(rt; !changes.is_empty());
-    let charter = value_of(rt, example_charter(alloc), "charter");
+    let charter = example_charter(rt, alloc);
     let view = view_after(rt, alloc, 999_998);
     let day = first_of_march(rt);
     suppose(alloc, &charter, &view, day, &name(rt, "ann"), changes)

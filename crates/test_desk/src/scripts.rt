@@ -4,9 +4,8 @@
 //! Each script begins with a line `# NAME`, or `# NAME after SETUP, SETUP, ..` where other lines
 //! come before its own. A line is `CALLER {"do":..} => REPLY`, sent on the first of March, or
 //! `day DAY`, the day of the lines that follow it.
-use crate::desks::EXAMPLE_POOL;
 use crate::fakes::Tape;
-use crate::ready::{new_desk, on_desk_of, row_of};
+use crate::ready::{EXAMPLE_POOL, new_desk, on_desk_of, row_of};
 use desk::{Asked, Desk, Reply};
 use sqlite::{Connection, MemStore};
 use std::alloc::Global;

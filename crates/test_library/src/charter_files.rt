@@ -1,5 +1,5 @@
 //! Charter files: what they spell, and the line of the fault of each that is refused.
-use crate::parsing::parse_prefix;
+use crate::parsing::{parse_prefix, split_word};
 use crate::tables::{assert_output, assert_same, rows_of};
 use addr::Name;
 use cli_texts::charter_from;
@@ -36,40 +36,25 @@ kind,value;operator,reg;pool,192.0.2.0/24;operator,reg;owner,reg; => roadesk: ch
 kind,value;pool,192.0.2.0/24;operator,reg;pool,192.0.2.0/24; => roadesk: charter row 3: repeated
 "#;
 
-/// How many operators and how many prefixes a file has, a row after them, and the line of its fault,
-/// which is empty where there is none.
-const COUNTS: [(u8, u8, &str, &str); 7] = [
-    (16, 64, "", ""),
-    (17, 64, "", "roadesk: charter count"),
-    (16, 65, "", "roadesk: charter count"),
-    (
-        16,
-        0,
-        "operator,op-0\n",
-        "roadesk: charter row 17: repeated",
-    ),
-    (
-        40,
-        0,
-        "operator,op-30\n",
-        "roadesk: charter row 41: repeated",
-    ),
-    (
-        1,
-        200,
-        "pool,198.51.199.0/24\n",
-        "roadesk: charter row 202: repeated",
-    ),
-    (
-        17,
-        65,
-        "pool,198.51.0.0\n",
-        "roadesk: charter row 83: prefix 1",
-    ),
-];
+/// How many operators and how many prefixes a file has, a row after them, which may be missing, and
+/// the line of its fault, which is empty where there is none.
+const COUNTS: &str = r#"
+# no_fault
+16 64  => 
+# count
+17 64  => roadesk: charter count
+16 65  => roadesk: charter count
+# repeated
+16 0 operator,op-0; => roadesk: charter row 17: repeated
+40 0 operator,op-30; => roadesk: charter row 41: repeated
+1 200 pool,198.51.199.0/24; => roadesk: charter row 202: repeated
+# prefix
+17 65 pool,198.51.0.0; => roadesk: charter row 83: prefix 1
+"#;
 
-/// The line of the file's fault, or an empty one.
-fn line(rt: &impl Abort, alloc: Global, text: &str) -> String {
+/// The line of the fault of a file, which has a semicolon for a line feed, or an empty one.
+fn line(rt: &impl Abort, alloc: Global, file: &str) -> String {
+    let text = file.replace(alloc, ';', "\n").expect(rt, "a text");
     let line = match charter_from(alloc, text.as_bytes()).err() {
         None => String::from_str(alloc, ""),
         Some(fault) => String::from_str(alloc, fault.line().as_str()),
@@ -78,12 +63,14 @@ fn line(rt: &impl Abort, alloc: Global, text: &str) -> String {
 }
 
 /// A file with so many operators and so many prefixes, and a row after them.
-fn charter_file(rt: &impl Abort, alloc: Global, operators: u8, prefixes: u8, last: &str) -> String {
+fn charter_file(rt: &impl Abort, alloc: Global, words: &str) -> String {
+    let (operators, words) = split_word(rt, words);
+    let (prefixes, last) = split_word(rt, words);
     let mut text = String::from_str(alloc, "kind,value\n").expect(rt, "a text");
-    for number in 0..operators {
+    for number in 0..operators.parse::<u8>().expect(rt, operators) {
         write!(text, "operator,op-{number}\n").expect(rt, "a text");
     }
-    for number in 0..prefixes {
+    for number in 0..prefixes.parse::<u8>().expect(rt, prefixes) {
         write!(text, "pool,198.51.{number}.0/24\n").expect(rt, "a text");
     }
     text.push_str(last).expect(rt, "a text");
@@ -111,20 +98,15 @@ fn charter_of_rows(rt: HostRuntime) {
 #[test]
 fn faults(rt: HostRuntime) {
     for row in &rows_of(&rt, rt.alloc(), FAULTS) {
-        let text = row
-            .input
-            .replace(rt.alloc(), ';', "\n")
-            .expect(&rt, "a text");
-        let fault = line(&rt, rt.alloc(), &text);
+        let fault = line(&rt, rt.alloc(), row.input);
         assert_output(&rt, fault.as_str(), row);
     }
 }
 
 #[test]
 fn counts(rt: HostRuntime) {
-    for (operators, prefixes, last, expected) in COUNTS {
-        let text = charter_file(&rt, rt.alloc(), operators, prefixes, last);
-        let fault = line(&rt, rt.alloc(), &text);
-        assert_same(&rt, fault.as_str(), expected, (operators, prefixes));
+    for row in &rows_of(&rt, rt.alloc(), COUNTS) {
+        let fault = line(&rt, rt.alloc(), &charter_file(&rt, rt.alloc(), row.input));
+        assert_output(&rt, fault.as_str(), row);
     }
 }

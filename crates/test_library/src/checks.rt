@@ -1,6 +1,6 @@
 //! Checks of routes on VRPs: the lines of two files, and the line of the fault where one is refused.
 use crate::sheet::Sheet;
-use crate::tables::{assert_same, rows_of};
+use crate::tables::{assert_same, row_of, rows_of};
 use cli_texts::{ProgramFault, check_on};
 use std::alloc::Global;
 use std::fmt::Write;
@@ -14,25 +14,6 @@ const VRPS: &str = "asn,prefix,maxlength\n\
     AS64496,198.51.100.0/22,24\n";
 
 const ROUTE: &str = "prefix,origin\n198.51.100.0/24,AS64496\n";
-
-/// Two files in each form of CSV, and the lines of their check.
-const FORMS: [(&str, &str, &str); 4] = [
-    // no route, with and without a line feed
-    (VRPS, "prefix,origin\n", ""),
-    (VRPS, "prefix,origin", ""),
-    // no VRP
-    (
-        "asn,prefix,maxlength\n",
-        "prefix,origin\n2001:db8::/32,AS64496\n",
-        "2001:db8::/32,AS64496,NotFound\n",
-    ),
-    // CR LF, quotes, no last LF, empty lines and a byte order mark
-    (
-        "\u{feff}asn,prefix,maxlength\r\n\r\n\"AS64496\",\"2001:db8::/32\",48\r\n\r\n",
-        "\n\"prefix\",origin\r\n\"2001:db8:1::/48\",AS64496\r\n\n2001:db8::/31,\"AS64496\"",
-        "2001:db8:1::/48,AS64496,Valid\n2001:db8::/31,AS64496,NotFound\n",
-    ),
-];
 
 /// Payload files with a semicolon for each line feed, and the lines of their faults.
 const BAD_PAYLOADS: &str = r#"
@@ -71,7 +52,7 @@ prefix,origin;198.51.100.0/24,none; => roadesk: routes row 1: origin
 prefix,origin;198.51.100.0/24,AS00; => roadesk: routes row 1: origin
 "#;
 
-/// The files of examples/, and the lines that the guide prints of them.
+/// The payload file of examples/, and the routes of the other with the states that the guide prints.
 const EXAMPLE_PAYLOADS: &str = "asn,prefix,maxlength\n\
     AS64496,192.0.2.0/24,24\n\
     AS64497,198.51.100.0/24,24\n\
@@ -83,36 +64,20 @@ const EXAMPLE_PAYLOADS: &str = "asn,prefix,maxlength\n\
     AS65536,2001:db8:ffff::/48,48\n\
     AS64497,198.51.100.0/24,24\n";
 
-const EXAMPLE_ROUTES: &str = "prefix,origin\n\
-    192.0.2.0/24,AS64496\n\
-    192.0.2.0/25,AS64496\n\
-    192.0.2.0/24,NONE\n\
-    198.51.100.0/24,AS64496\n\
-    198.51.100.0/24,AS64497\n\
-    198.51.101.0/24,AS64496\n\
-    203.0.113.64/26,AS64498\n\
-    203.0.113.64/27,AS64498\n\
-    233.252.0.0/24,AS0\n\
-    2001:db8:1::/48,AS64499\n\
-    2001:db8:1::/49,AS64499\n\
-    2001:db8:1000::/36,AS64500\n\
-    2001:db8:ffff::/48,AS65537\n\
-    10.0.0.0/8,AS64496\n";
-
-const EXAMPLE_STATES: &str = "192.0.2.0/24,AS64496,Valid\n\
-    192.0.2.0/25,AS64496,Invalid\n\
-    192.0.2.0/24,NONE,Invalid\n\
-    198.51.100.0/24,AS64496,Valid\n\
-    198.51.100.0/24,AS64497,Valid\n\
-    198.51.101.0/24,AS64496,Valid\n\
-    203.0.113.64/26,AS64498,Valid\n\
-    203.0.113.64/27,AS64498,Invalid\n\
-    233.252.0.0/24,AS0,Invalid\n\
-    2001:db8:1::/48,AS64499,Valid\n\
-    2001:db8:1::/49,AS64499,Invalid\n\
-    2001:db8:1000::/36,AS64500,Valid\n\
-    2001:db8:ffff::/48,AS65537,Invalid\n\
-    10.0.0.0/8,AS64496,NotFound\n";
+const EXAMPLE_STATES: &str = "192.0.2.0/24,AS64496 => Valid
+192.0.2.0/25,AS64496 => Invalid
+192.0.2.0/24,NONE => Invalid
+198.51.100.0/24,AS64496 => Valid
+198.51.100.0/24,AS64497 => Valid
+198.51.101.0/24,AS64496 => Valid
+203.0.113.64/26,AS64498 => Valid
+203.0.113.64/27,AS64498 => Invalid
+233.252.0.0/24,AS0 => Invalid
+2001:db8:1::/48,AS64499 => Valid
+2001:db8:1::/49,AS64499 => Invalid
+2001:db8:1000::/36,AS64500 => Valid
+2001:db8:ffff::/48,AS65537 => Invalid
+10.0.0.0/8,AS64496 => NotFound";
 
 /// What a check wrote, and how it ended.
 #[derive(Drop)]
@@ -153,110 +118,94 @@ fn assert_refuses(rt: &impl Abort, alloc: Global, payloads: &[u8], routes: &[u8]
     assert_same(rt, ended.written.len(), 0, line);
 }
 
-#[test]
-fn check_as_zero_never_matches(rt: HostRuntime) {
-    assert_prints(
-        &rt,
-        rt.alloc(),
-        "asn,prefix,maxlength\nAS0,0.0.0.0/0,32\n",
-        "prefix,origin\n255.255.255.255/32,AS0\n",
-        "255.255.255.255/32,AS0,Invalid\n",
-    );
-}
-
-#[test]
-fn check_refuses_set_bit_and_shorter_vrp_matches(rt: HostRuntime) {
-    assert_refuses(
-        &rt,
-        rt.alloc(),
-        b"asn,prefix,maxlength\nAS64496,198.51.100.0/21,24\nAS64497,198.51.100.0/24,24\n",
-        ROUTE.as_bytes(),
-        "roadesk: payloads row 1: prefix 4",
-    );
-    assert_prints(
-        &rt,
-        rt.alloc(),
-        "asn,prefix,maxlength\nAS64496,198.51.100.0/22,24\nAS64497,198.51.100.0/24,24\n",
-        ROUTE,
-        "198.51.100.0/24,AS64496,Valid\n",
-    );
-}
-
-#[test]
-fn check_payload_order_and_repeats(rt: HostRuntime) {
-    assert_prints(
-        &rt,
-        rt.alloc(),
-        VRPS,
-        "prefix,origin\n\
-            198.51.100.0/24,AS64496\n\
-            198.51.100.0/25,AS64496\n\
-            198.51.100.0/24,NONE\n\
-            198.51.104.0/24,AS64496\n",
-        "198.51.100.0/24,AS64496,Valid\n\
-            198.51.100.0/25,AS64496,Invalid\n\
-            198.51.100.0/24,NONE,Invalid\n\
-            198.51.104.0/24,AS64496,NotFound\n",
-    );
-}
-
-/// A payload file of the ASes from 1 to this one.
-fn payloads_to(rt: &impl Abort, alloc: Global, last: u32) -> String {
-    let mut payloads = String::from_str(alloc, "asn,prefix,maxlength\n").expect(rt, "a text");
-    for asn in 1..=last {
-        write!(payloads, "AS{asn},192.0.2.0/24,24\n").expect(rt, "a text");
+/// The routes of these rows have these states.
+fn assert_states(rt: &impl Abort, alloc: Global, payloads: &str, rows: &str) {
+    let mut routes = String::from_str(alloc, "prefix,origin\n").expect(rt, "a text");
+    let mut lines = String::new(alloc);
+    for row in rows.lines() {
+        let (route, state) = row_of(rt, row);
+        write!(routes, "{route}\n").expect(rt, "a text");
+        write!(lines, "{route},{state}\n").expect(rt, "a text");
     }
-    payloads
+    assert_prints(rt, alloc, payloads, &routes, &lines);
 }
 
-/// More VRPs than a round limit, of which a route is judged on the last.
-#[test]
-fn check_takes_100_001_payloads(rt: HostRuntime) {
-    assert_prints(
-        &rt,
-        rt.alloc(),
-        &payloads_to(&rt, rt.alloc(), 100_001),
-        "prefix,origin\n192.0.2.0/24,AS100001\n192.0.2.0/24,AS100002\n",
-        "192.0.2.0/24,AS100001,Valid\n192.0.2.0/24,AS100002,Invalid\n",
-    );
-}
-
-#[test]
-fn check_refuses_route_origin(rt: HostRuntime) {
-    assert_refuses(
-        &rt,
-        rt.alloc(),
-        VRPS.as_bytes(),
-        b"prefix,origin\n198.51.100.0/24,AS64496\n198.51.100.0/25,64496\n",
-        "roadesk: routes row 2: origin",
-    );
-}
-
-#[test]
-fn check_takes_headers_alone_and_each_form_of_csv(rt: HostRuntime) {
-    for (payloads, routes, lines) in FORMS {
-        assert_prints(&rt, rt.alloc(), payloads, routes, lines);
-    }
-}
-
-fn assert_refuses_payloads(rt: &impl Abort, alloc: Global) {
-    for row in &rows_of(rt, alloc, BAD_PAYLOADS) {
+/// Payload files with a semicolon for each line feed are refused with the lines of these rows.
+fn assert_refuses_payloads(rt: &impl Abort, alloc: Global, rows: &str) {
+    for row in &rows_of(rt, alloc, rows) {
         let payloads = row.input.replace(alloc, ';', "\n").expect(rt, "a text");
         assert_refuses(rt, alloc, payloads.as_bytes(), ROUTE.as_bytes(), row.output);
     }
 }
 
-fn assert_refuses_routes(rt: &impl Abort, alloc: Global) {
-    for row in &rows_of(rt, alloc, BAD_ROUTES) {
+/// Route files likewise.
+fn assert_refuses_routes(rt: &impl Abort, alloc: Global, rows: &str) {
+    for row in &rows_of(rt, alloc, rows) {
         let routes = row.input.replace(alloc, ';', "\n").expect(rt, "a text");
         assert_refuses(rt, alloc, VRPS.as_bytes(), routes.as_bytes(), row.output);
     }
 }
 
 #[test]
+fn check_as_zero_never_matches(rt: HostRuntime) {
+    let vrps = "asn,prefix,maxlength\nAS0,0.0.0.0/0,32\n";
+    assert_states(&rt, rt.alloc(), vrps, "255.255.255.255/32,AS0 => Invalid");
+}
+
+#[test]
+fn check_refuses_set_bit_and_shorter_vrp_matches(rt: HostRuntime) {
+    let row =
+        "\nasn,prefix,maxlength;AS64496,198.51.100.0/21,24;AS64497,198.51.100.0/24,24; => roadesk: payloads row 1: prefix 4";
+    assert_refuses_payloads(&rt, rt.alloc(), row);
+    let vrps = "asn,prefix,maxlength\nAS64496,198.51.100.0/22,24\nAS64497,198.51.100.0/24,24\n";
+    assert_states(&rt, rt.alloc(), vrps, "198.51.100.0/24,AS64496 => Valid");
+}
+
+#[test]
+fn check_payload_order_and_repeats(rt: HostRuntime) {
+    let rows = "198.51.100.0/24,AS64496 => Valid
+198.51.100.0/25,AS64496 => Invalid
+198.51.100.0/24,NONE => Invalid
+198.51.104.0/24,AS64496 => NotFound";
+    assert_states(&rt, rt.alloc(), VRPS, rows);
+}
+
+/// More VRPs than a round limit, of which a route is judged on the last.
+#[test]
+fn check_takes_100_001_payloads(rt: HostRuntime) {
+    let mut payloads = String::from_str(rt.alloc(), "asn,prefix,maxlength\n").expect(&rt, "a text");
+    for asn in 1..100_002u32 {
+        write!(payloads, "AS{asn},192.0.2.0/24,24\n").expect(&rt, "a text");
+    }
+    let rows = "192.0.2.0/24,AS100001 => Valid\n192.0.2.0/24,AS100002 => Invalid";
+    assert_states(&rt, rt.alloc(), &payloads, rows);
+}
+
+#[test]
+fn check_refuses_route_origin(rt: HostRuntime) {
+    let row =
+        "\nprefix,origin;198.51.100.0/24,AS64496;198.51.100.0/25,64496; => roadesk: routes row 2: origin";
+    assert_refuses_routes(&rt, rt.alloc(), row);
+}
+
+/// The last form has CR LF, quotes, no last LF, empty lines and a byte order mark.
+#[test]
+fn check_takes_headers_alone_and_each_form_of_csv(rt: HostRuntime) {
+    assert_states(&rt, rt.alloc(), VRPS, "");
+    assert_prints(&rt, rt.alloc(), VRPS, "prefix,origin", "");
+    let no_vrp = "asn,prefix,maxlength\n";
+    assert_states(&rt, rt.alloc(), no_vrp, "2001:db8::/32,AS64496 => NotFound");
+    let payloads = "\u{feff}asn,prefix,maxlength\r\n\r\n\"AS64496\",\"2001:db8::/32\",48\r\n\r\n";
+    let routes =
+        "\n\"prefix\",origin\r\n\"2001:db8:1::/48\",AS64496\r\n\n2001:db8::/31,\"AS64496\"";
+    let lines = "2001:db8:1::/48,AS64496,Valid\n2001:db8::/31,AS64496,NotFound\n";
+    assert_prints(&rt, rt.alloc(), payloads, routes, lines);
+}
+
+#[test]
 fn check_refuses_bad_files(rt: HostRuntime) {
-    assert_refuses_payloads(&rt, rt.alloc());
-    assert_refuses_routes(&rt, rt.alloc());
+    assert_refuses_payloads(&rt, rt.alloc(), BAD_PAYLOADS);
+    assert_refuses_routes(&rt, rt.alloc(), BAD_ROUTES);
     let no_text = b"asn,prefix,maxlength\nAS64496,198.51.100.\xff/22,24\n";
     let prefix_fault = "roadesk: payloads row 1: prefix 1";
     assert_refuses(&rt, rt.alloc(), no_text, ROUTE.as_bytes(), prefix_fault);
@@ -295,6 +244,5 @@ fn failing_drain(rt: HostRuntime) {
 
 #[test]
 fn example_files_are_judged_as_the_guide_prints(rt: HostRuntime) {
-    let (payloads, routes) = (EXAMPLE_PAYLOADS, EXAMPLE_ROUTES);
-    assert_prints(&rt, rt.alloc(), payloads, routes, EXAMPLE_STATES);
+    assert_states(&rt, rt.alloc(), EXAMPLE_PAYLOADS, EXAMPLE_STATES);
 }

@@ -128,10 +128,8 @@ fn decode_refuses_cut_negative_and_set_unused_bit(rt: HostRuntime) {
     for row in &rows_of(&rt, rt.alloc(), VECTORS) {
         let octets = parse_octets(&rt, rt.alloc(), row.output);
         for end in 0..octets.len() {
-            assert!(rt;
-                is_refused(rt.alloc(), &octets.as_slice()[..end]),
-                "{end} octets"
-            );
+            let beginning = &octets.as_slice()[..end];
+            assert!(rt; is_refused(rt.alloc(), beginning), "{end} octets");
         }
     }
 }

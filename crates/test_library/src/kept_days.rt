@@ -1,13 +1,13 @@
 //! A day that is kept: which VRPs it has where authorizations begin and end on it, by RFC 8416
 //! section 4: what a filter matches is not among them, and an assertion always is.
-use crate::parsing::{parse_asn, parse_prefix, parse_vrp, parse_vrps, split_word};
+use crate::parsing::{parse_auth, parse_day, parse_prefix, parse_vrp, parse_vrps, split_word};
 use crate::rows::Row;
 use crate::tables::rows_of;
 use crate::vrps::visited;
-use addr::{Asn, Day};
+use addr::Asn;
 use daily_vrps::DailyVrps;
 use payload::{ListIndex, PayloadIndex};
-use registry::{Auth, Edit, RoaPrefixes};
+use registry::{Auth, Edit};
 use slurm::Filter;
 use std::alloc::Global;
 use std::process::Abort;
@@ -75,13 +75,11 @@ begin AS64511 203.0.113.0/24 24 2026-01-01 2026-12-31;end AS64511 203.0.113.0/24
 
 /// The authorizations of a holder, numbered from 1. Those that are in force on the day give what is
 /// given; the last one ended on the day before.
-const AUTHS: &str = r#"
-AS64496 192.0.2.0/24 24 2026-01-01 2026-12-31
-AS64497 198.51.100.0/24 24 2026-01-01 2026-12-31
-AS64498 2001:db8::/32 48 2026-01-01 2026-12-31
-AS64500 192.0.2.128/25 25 2026-06-15 2026-06-15
-AS64501 192.0.2.64/26 26 2026-01-01 2026-06-14
-"#;
+const AUTHS: &str = "AS64496 192.0.2.0/24 24 2026-01-01 2026-12-31;\
+AS64497 198.51.100.0/24 24 2026-01-01 2026-12-31;\
+AS64498 2001:db8::/32 48 2026-01-01 2026-12-31;\
+AS64500 192.0.2.128/25 25 2026-06-15 2026-06-15;\
+AS64501 192.0.2.64/26 26 2026-01-01 2026-06-14";
 
 /// Edits of that holder's rows, and the VRPs afterwards.
 const EDITS: &str = r#"
@@ -123,28 +121,8 @@ hold 6 => as_before
 revoke 3 => as_before
 "#;
 
-fn parse_day(rt: &impl Abort, text: &str) -> Day {
-    Day::read(text.as_bytes()).expect(rt, text)
-}
-
 fn parse_number(rt: &impl Abort, text: &str) -> u32 {
     text.parse::<u32>().expect(rt, text)
-}
-
-/// An authorization by its AS, prefix, maxLength, first and last day.
-fn parse_auth(rt: &impl Abort, alloc: Global, number: u32, text: &str) -> Auth {
-    let (asn, rest) = split_word(rt, text);
-    let (prefix, rest) = split_word(rt, rest);
-    let (max, days) = split_word(rt, rest);
-    let (from, until) = split_word(rt, days);
-    let max = max.parse::<u8>().expect(rt, max);
-    Auth {
-        number,
-        asn: parse_asn(rt, asn),
-        entries: RoaPrefixes::one(alloc, parse_prefix(rt, prefix), max).expect(rt, "memory"),
-        from: parse_day(rt, from),
-        until: parse_day(rt, until),
-    }
 }
 
 /// The day before anything begins or ends on it.
@@ -170,20 +148,13 @@ fn follow(rt: &impl Abort, alloc: Global, kept: &mut DailyVrps, events: &str) {
     }
 }
 
-/// Authorizations with this between them, of the numbers from `first` on.
-fn parse_auths(
-    rt: &impl Abort,
-    alloc: Global,
-    first: u32,
-    texts: &str,
-    between: char,
-) -> Vec<Auth> {
+/// Authorizations, with semicolons between them, of the numbers from `first` on.
+fn parse_auths(rt: &impl Abort, alloc: Global, first: u32, texts: &str) -> Vec<Auth> {
     let mut auths = Vec::new(alloc);
     let mut number = first;
-    for text in texts.split(between) {
-        auths
-            .push(parse_auth(rt, alloc, number, text))
-            .expect(rt, "memory");
+    for text in texts.split(';') {
+        let auth = parse_auth(rt, alloc, number, text);
+        auths.push(auth).expect(rt, "memory");
         number = number.saturating_add(1);
     }
     auths
@@ -203,7 +174,7 @@ fn parse_edit(rt: &impl Abort, alloc: Global, words: &str) -> Edit {
     match what {
         "create" => Edit::Create(parse_auth(rt, alloc, 6, rest)),
         "import" => Edit::Import {
-            auths: parse_auths(rt, alloc, 6, rest, ';'),
+            auths: parse_auths(rt, alloc, 6, rest),
             created: 7,
         },
         "amend" => {
@@ -268,7 +239,7 @@ fn vrps_follow_what_begins_and_ends(rt: HostRuntime) {
 
 #[test]
 fn vrps_follow_edits(rt: HostRuntime) {
-    let auths = parse_auths(&rt, rt.alloc(), 1, AUTHS.trim(), '\n');
+    let auths = parse_auths(&rt, rt.alloc(), 1, AUTHS);
     for row in &rows_of(&rt, rt.alloc(), EDITS) {
         let mut kept = kept_day(&rt, rt.alloc());
         let edit = parse_edit(&rt, rt.alloc(), row.input);

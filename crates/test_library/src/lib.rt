@@ -1,6 +1,6 @@
-//! What the libraries that need no database do from outside: vectors of other programs and of the
-//! standards, the program's words and its files. Each table has named rows, and one small function
-//! goes over it.
+//! What the libraries below the desk do from outside: vectors of other programs and of the standards,
+//! the program's words and its files, databases that were made by SQL, and what a store applied and
+//! loads. Each table has named rows, and one small function goes over it.
 #![tactic(auto)]
 
 #[cfg(test)]
@@ -9,6 +9,9 @@ mod charter_files;
 mod checks;
 #[cfg(test)]
 mod contents;
+#[cfg(test)]
+mod databases;
+pub mod example_database;
 #[cfg(test)]
 mod kept_days;
 pub mod listing;
@@ -31,6 +34,8 @@ mod slurm_files;
 pub mod slurm_sample;
 #[cfg(test)]
 mod slurm_sets;
+#[cfg(test)]
+mod stores;
 #[cfg(test)]
 mod tables;
 #[cfg(test)]

@@ -4,59 +4,38 @@ use addr::PrefixFault;
 use cli_texts::{FileFault, InputFile, ProgramFault, RowFault, WordsFault};
 use std::process::Abort;
 
-const FAULTS: [(ProgramFault, &str, u8); 10] = [
+const FAULTS: [(ProgramFault, &str, u8); 7] = [
     (ProgramFault::File, "roadesk: file", 3),
     (ProgramFault::Database, "roadesk: database", 3),
     (ProgramFault::Socket, "roadesk: socket", 3),
     (ProgramFault::Stream, "roadesk: stream", 3),
     (ProgramFault::Memory, "roadesk: memory", 4),
-    (
-        ProgramFault::Header(InputFile::Charter),
-        "roadesk: charter header",
-        5,
-    ),
-    (
-        ProgramFault::Header(InputFile::Payloads),
-        "roadesk: payloads header",
-        5,
-    ),
-    (
-        ProgramFault::Header(InputFile::Routes),
-        "roadesk: routes header",
-        5,
-    ),
     (ProgramFault::CharterCount, "roadesk: charter count", 5),
     (ProgramFault::Exists, "roadesk: exists", 5),
 ];
 
-/// Faults of row 3 of a charter.
-const CHARTER_ROWS: [(RowFault, &str); 5] = [
-    (RowFault::Fields, "roadesk: charter row 3: fields"),
-    (RowFault::Kind, "roadesk: charter row 3: kind"),
-    (RowFault::Name, "roadesk: charter row 3: name"),
-    (RowFault::Repeated, "roadesk: charter row 3: repeated"),
-    (
-        RowFault::Prefix(PrefixFault::HostBits),
-        "roadesk: charter row 3: prefix 4",
-    ),
+const HEADERS: [(InputFile, &str); 3] = [
+    (InputFile::Charter, "roadesk: charter header"),
+    (InputFile::Payloads, "roadesk: payloads header"),
+    (InputFile::Routes, "roadesk: routes header"),
 ];
 
-/// Faults of row 1 of a payload file.
+/// Faults of row 3 of a charter, and the ends of their lines.
+const CHARTER_ROWS: [(RowFault, &str); 5] = [
+    (RowFault::Fields, "fields"),
+    (RowFault::Kind, "kind"),
+    (RowFault::Name, "name"),
+    (RowFault::Repeated, "repeated"),
+    (RowFault::Prefix(PrefixFault::HostBits), "prefix 4"),
+];
+
+/// Faults of row 1 of a payload file, and the ends of their lines.
 const PAYLOAD_ROWS: [(RowFault, &str); 5] = [
-    (RowFault::Asn, "roadesk: payloads row 1: asn"),
-    (
-        RowFault::Prefix(PrefixFault::Shape),
-        "roadesk: payloads row 1: prefix 1",
-    ),
-    (
-        RowFault::Prefix(PrefixFault::Spelling),
-        "roadesk: payloads row 1: prefix 2",
-    ),
-    (
-        RowFault::Prefix(PrefixFault::Length),
-        "roadesk: payloads row 1: prefix 3",
-    ),
-    (RowFault::Length, "roadesk: payloads row 1: length"),
+    (RowFault::Asn, "asn"),
+    (RowFault::Prefix(PrefixFault::Shape), "prefix 1"),
+    (RowFault::Prefix(PrefixFault::Spelling), "prefix 2"),
+    (RowFault::Prefix(PrefixFault::Length), "prefix 3"),
+    (RowFault::Length, "length"),
 ];
 
 fn assert_fault(rt: &impl Abort, fault: ProgramFault, line: &str, status: u8) {
@@ -64,8 +43,12 @@ fn assert_fault(rt: &impl Abort, fault: ProgramFault, line: &str, status: u8) {
     assert_same(rt, fault.status(), status, line);
 }
 
-fn assert_row(rt: &impl Abort, file: InputFile, row: u64, fault: RowFault, line: &str) {
-    assert_fault(rt, ProgramFault::Row { file, row, fault }, line, 5);
+/// The line of the fault is this beginning and then this end.
+fn assert_row(rt: &impl Abort, fault: ProgramFault, beginning: &str, end: &str) {
+    let line = fault.line();
+    let found = line.as_str().strip_prefix(beginning);
+    assert_same(rt, found, Some(end), end);
+    assert_same(rt, fault.status(), 5, end);
 }
 
 #[test]
@@ -73,18 +56,31 @@ fn lines_and_statuses(rt: HostRuntime) {
     for (fault, line, status) in FAULTS {
         assert_fault(&rt, fault, line, status);
     }
+    for (file, line) in HEADERS {
+        assert_fault(&rt, ProgramFault::Header(file), line, 5);
+    }
 }
 
 #[test]
 fn lines_of_rows(rt: HostRuntime) {
-    for (fault, line) in CHARTER_ROWS {
-        assert_row(&rt, InputFile::Charter, 3, fault, line);
+    let (file, row) = (InputFile::Charter, 3);
+    for (fault, end) in CHARTER_ROWS {
+        let fault = ProgramFault::Row { file, row, fault };
+        assert_row(&rt, fault, "roadesk: charter row 3: ", end);
     }
-    for (fault, line) in PAYLOAD_ROWS {
-        assert_row(&rt, InputFile::Payloads, 1, fault, line);
+    let (file, row) = (InputFile::Payloads, 1);
+    for (fault, end) in PAYLOAD_ROWS {
+        let fault = ProgramFault::Row { file, row, fault };
+        assert_row(&rt, fault, "roadesk: payloads row 1: ", end);
     }
-    let line = "roadesk: routes row 18446744073709551615: origin";
-    assert_row(&rt, InputFile::Routes, u64::MAX, RowFault::Origin, line);
+    let (file, row, fault) = (InputFile::Routes, u64::MAX, RowFault::Origin);
+    let fault = ProgramFault::Row { file, row, fault };
+    assert_row(
+        &rt,
+        fault,
+        "roadesk: routes row 18446744073709551615: ",
+        "origin",
+    );
 }
 
 #[test]

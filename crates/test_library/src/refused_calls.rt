@@ -2,49 +2,25 @@
 //! the same call is good the next time. The tests' own allocations are those of steps that are
 //! tried twice, so they hold whichever it is.
 use crate::listing::FirstVrps;
-use crate::parsing::{parse_prefix, parse_vrp};
+use crate::parsing::{add_or_take, host_entries, parse_prefix, parse_vrp};
 use crate::slurm_sample::SAMPLE;
-use crate::tables::assert_same;
-use addr::{Asn, Family, Holdings, Prefix, Vrp};
+use crate::tables::{assert_same, row_of};
+use crate::vrps::visited;
+use addr::{Asn, Holdings, Vrp};
 use payload::{ListIndex, PayloadIndex, Trie};
 use roa::{Content, DecodeFault, Entry, decode, encode};
 use slurm::{Slurm, SlurmFault};
-use std::alloc::{AllocError, Global};
+use std::alloc::Global;
 use std::process::Abort;
 
-/// What is done with a prefix of `STEPS`.
-#[derive(Clone, Copy)]
-enum Step {
-    Add,
-    Take,
-}
-
-/// Prefixes that are added and taken in turn, from an empty set on, and the prefixes, one a line,
-/// that are its runs then.
-const STEPS: [(Step, &str, &str); 6] = [
-    (Step::Add, "192.0.2.0/24", "192.0.2.0/24"),
-    (Step::Add, "2001:db8::/32", "192.0.2.0/24\n2001:db8::/32"),
-    (
-        Step::Add,
-        "198.51.100.0/24",
-        "192.0.2.0/24\n198.51.100.0/24\n2001:db8::/32",
-    ),
-    (
-        Step::Take,
-        "192.0.2.64/26",
-        "192.0.2.0/26\n192.0.2.128/25\n198.51.100.0/24\n2001:db8::/32",
-    ),
-    (
-        Step::Take,
-        "2001:db8:8000::/33",
-        "192.0.2.0/26\n192.0.2.128/25\n198.51.100.0/24\n2001:db8::/33",
-    ),
-    (
-        Step::Add,
-        "192.0.2.64/26",
-        "192.0.2.0/24\n198.51.100.0/24\n2001:db8::/33",
-    ),
-];
+/// Prefixes that are added and taken in turn, from an empty set on, and the prefixes that are its runs
+/// before and after.
+const STEPS: &str = "add 192.0.2.0/24 => | 192.0.2.0/24
+add 2001:db8::/32 => 192.0.2.0/24 | 192.0.2.0/24 2001:db8::/32
+add 198.51.100.0/24 => 192.0.2.0/24 2001:db8::/32 | 192.0.2.0/24 198.51.100.0/24 2001:db8::/32
+take 192.0.2.64/26 => 192.0.2.0/24 198.51.100.0/24 2001:db8::/32 | 192.0.2.0/26 192.0.2.128/25 198.51.100.0/24 2001:db8::/32
+take 2001:db8:8000::/33 => 192.0.2.0/26 192.0.2.128/25 198.51.100.0/24 2001:db8::/32 | 192.0.2.0/26 192.0.2.128/25 198.51.100.0/24 2001:db8::/33
+add 192.0.2.64/26 => 192.0.2.0/26 192.0.2.128/25 198.51.100.0/24 2001:db8::/33 | 192.0.2.0/24 198.51.100.0/24 2001:db8::/33";
 
 /// VRPs that are inserted in turn.
 const INSERTED: [&str; 6] = [
@@ -60,41 +36,26 @@ const INSERTED: [&str; 6] = [
 const SAMPLE_COUNTS: (usize, usize) = (3, 2);
 
 fn has_runs(rt: &impl Abort, holdings: &Holdings, prefixes: &str) -> bool {
-    let mut count: usize = 0;
-    for line in prefixes.lines() {
-        let span = parse_prefix(rt, line).span();
-        if holdings.spans().get(count) != Some(&span) {
+    let mut spans = holdings.spans().iter();
+    for text in prefixes.split_whitespace() {
+        if spans.next() != Some(&parse_prefix(rt, text).span()) {
             return false;
         }
-        count = count.saturating_add(1);
     }
-    count == holdings.spans().len()
+    spans.next().is_none()
 }
 
-fn add_or_take(holdings: &mut Holdings, step: Step, prefix: &Prefix) -> Result<(), AllocError> {
-    match step {
-        Step::Add => holdings.add(prefix),
-        Step::Take => holdings.take(prefix),
-    }
-}
-
-/// The step leaves the runs that it names; where it is refused at first, those before it stay.
-fn assert_step(rt: &impl Abort, holdings: &mut Holdings, before: &str, step: &(Step, &str, &str)) {
-    let (step, text, after) = *step;
-    let prefix = parse_prefix(rt, text);
-    if add_or_take(holdings, step, &prefix).is_err() {
-        assert!(rt; has_runs(rt, holdings, before), "{text} was refused");
-        add_or_take(holdings, step, &prefix).expect(rt, text);
-    }
-    assert!(rt; has_runs(rt, holdings, after), "{text}");
-}
-
+/// Each step leaves the runs that it names; where it is refused at first, those before it stay.
 fn assert_holdings(rt: &impl Abort, alloc: Global) {
     let mut holdings = Holdings::new(alloc);
-    let mut before = "";
-    for step in &STEPS {
-        assert_step(rt, &mut holdings, before, step);
-        before = step.2;
+    for row in STEPS.lines() {
+        let (step, runs) = row_of(rt, row);
+        let (before, after) = runs.split_once('|').expect(rt, row);
+        if add_or_take(rt, &mut holdings, step).is_err() {
+            assert!(rt; has_runs(rt, &holdings, before), "{step} was refused");
+            add_or_take(rt, &mut holdings, step).expect(rt, step);
+        }
+        assert!(rt; has_runs(rt, &holdings, after), "{step}");
     }
 }
 
@@ -104,16 +65,14 @@ fn try_list<I: PayloadIndex>(alloc: Global, index: &I) -> Option<Vec<Vrp>> {
         most: usize::MAX,
         refused: None,
     };
-    if index.visit(&mut all).is_err() {
-        return None;
-    }
+    index.visit(&mut all).ok()?;
     Some(all.vrps)
 }
 
 fn list_of<I: PayloadIndex>(rt: &impl Abort, alloc: Global, index: &I) -> Vec<Vrp> {
     match try_list(alloc, index) {
         Some(vrps) => vrps,
-        None => try_list(alloc, index).expect(rt, "a list"),
+        None => visited(rt, alloc, index),
     }
 }
 
@@ -125,48 +84,21 @@ fn assert_first<I: PayloadIndex>(rt: &impl Abort, alloc: Global, index: &I, coun
     }
 }
 
-/// Inserts a VRP into the set of so many before it, which stays where it is refused at first.
-fn insert_next<I: PayloadIndex>(
-    rt: &impl Abort,
-    alloc: Global,
-    index: &mut I,
-    count: usize,
-    vrp: Vrp,
-) -> bool {
-    match index.insert(vrp) {
-        Ok(is_new) => is_new,
-        Err(_) => {
-            assert_first(rt, alloc, index, count);
-            index.insert(vrp).expect(rt, "memory")
-        }
-    }
-}
-
+/// Each VRP is inserted into the set of those before it, which stays where it is refused at first.
 fn assert_inserts<I: PayloadIndex>(rt: &impl Abort, alloc: Global, index: &mut I) {
     let mut count: usize = 0;
     for text in INSERTED {
         let vrp = parse_vrp(rt, text);
-        assert!(rt; insert_next(rt, alloc, index, count, vrp), "{text}");
+        let is_new = match index.insert(vrp) {
+            Ok(is_new) => is_new,
+            Err(_) => {
+                assert_first(rt, alloc, index, count);
+                index.insert(vrp).expect(rt, "memory")
+            }
+        };
+        assert!(rt; is_new, "{text}");
         count = count.saturating_add(1);
         assert_first(rt, alloc, index, count);
-    }
-}
-
-/// 64 entries, the most.
-fn try_entries(alloc: Global) -> Option<Vec<Entry>> {
-    let mut entries = Vec::new(alloc);
-    for i in 0..64_u8 {
-        let address = 0xc000_0200 + u128::from(i);
-        let prefix = Prefix::from_parts(Family::V4, address, 32)?;
-        entries.push(Entry { prefix, max: 32 }).ok()?;
-    }
-    Some(entries)
-}
-
-fn entries_of(rt: &impl Abort, alloc: Global) -> Vec<Entry> {
-    match try_entries(alloc) {
-        Some(entries) => entries,
-        None => try_entries(alloc).expect(rt, "entries"),
     }
 }
 
@@ -197,8 +129,8 @@ fn decoded(rt: &impl Abort, alloc: Global, octets: &[u8]) -> Content {
 }
 
 fn assert_content(rt: &impl Abort, alloc: Global) {
-    let entries = entries_of(rt, alloc);
-    let content = Content::make(Asn(64496), entries_of(rt, alloc)).expect(rt, "a content");
+    let entries = host_entries(rt, alloc, 64);
+    let content = Content::make(Asn(64496), host_entries(rt, alloc, 64)).expect(rt, "a content");
     let octets = octets_of(rt, alloc, &content, &entries);
     assert_same(rt, octets.len(), 601, "octets");
     assert_is(rt, &decoded(rt, alloc, &octets), &entries);

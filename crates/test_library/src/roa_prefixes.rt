@@ -53,25 +53,20 @@ fn entries_are_kept_rising(rt: HostRuntime) {
     }
 }
 
-fn assert_count(rt: &impl Abort, alloc: Global, count: &(&str, u8, Option<RoaPrefixesFault>)) {
-    let (name, count, fault) = *count;
-    let rising = host_entries(rt, alloc, count);
-    let mut falling = host_entries(rt, alloc, count);
-    falling.reverse();
-    match RoaPrefixes::make(falling) {
-        Ok(made) => {
-            assert_same(rt, None, fault, name);
-            assert_same(rt, made.as_slice(), rising.as_slice(), name);
-        }
-        Err(found) => assert_same(rt, Some(found), fault, name),
-    }
-}
-
 /// The host prefixes fall, and are kept rising.
 #[test]
 fn one_to_sixty_four_entries(rt: HostRuntime) {
-    for count in &COUNTS {
-        assert_count(&rt, rt.alloc(), count);
+    for (name, count, fault) in COUNTS {
+        let rising = host_entries(&rt, rt.alloc(), count);
+        let mut falling = host_entries(&rt, rt.alloc(), count);
+        falling.reverse();
+        match RoaPrefixes::make(falling) {
+            Ok(made) => {
+                assert_same(&rt, None, fault, name);
+                assert_same(&rt, made.as_slice(), rising.as_slice(), name);
+            }
+            Err(found) => assert_same(&rt, Some(found), fault, name),
+        }
     }
 }
 
@@ -79,10 +74,6 @@ fn one_to_sixty_four_entries(rt: HostRuntime) {
 fn one_is_the_list_of_one_entry(rt: HostRuntime) {
     let prefix = parse_prefix(&rt, "192.0.2.0/32");
     let made = RoaPrefixes::one(rt.alloc(), prefix, 32).expect(&rt, "memory");
-    assert_same(
-        &rt,
-        made.as_slice(),
-        [RoaPrefix { prefix, max: 32 }].as_slice(),
-        "one",
-    );
+    let expected = [RoaPrefix { prefix, max: 32 }];
+    assert_same(&rt, made.as_slice(), expected.as_slice(), "one");
 }

@@ -134,15 +134,9 @@ fn fault(alloc: Global, text: &str) -> u8 {
     }
 }
 
-/// A file of these entries; `more` follows the other members of the outermost object.
-pub(crate) fn file(
-    rt: &impl Abort,
-    alloc: Global,
-    version: &str,
-    filters: &str,
-    assertions: &str,
-    more: &str,
-) -> String {
+/// A file of a version, filters, assertions, and what follows in the outermost object.
+pub(crate) fn file(rt: &impl Abort, alloc: Global, parts: [&str; 4]) -> String {
+    let [version, filters, assertions, more] = parts;
     let text = format!(in alloc;
         "{{\"slurmVersion\":{version},\
         \"validationOutputFilters\":{{\"prefixFilters\":[{filters}],\"bgpsecFilters\":[]}},\
@@ -158,7 +152,7 @@ fn file_from_parts(rt: &impl Abort, alloc: Global, parts: &str) -> String {
     let filters = parts.next().unwrap_or("").trim();
     let assertions = parts.next().unwrap_or("").trim();
     let more = parts.next().unwrap_or("").trim();
-    file(rt, alloc, version, filters, assertions, more)
+    file(rt, alloc, [version, filters, assertions, more])
 }
 
 fn assert_fault(rt: &impl Abort, alloc: Global, text: &str, row: &Row<'_>) {
@@ -245,20 +239,11 @@ fn nesting_limit(rt: HostRuntime) {
 }
 
 /// So many filters and then this one, after one assertion.
-fn file_of_filters(rt: &impl Abort, alloc: Global, count: u32, last: &str) -> String {
-    let mut filters = String::new(alloc);
-    for _ in 0..count {
-        filters.push_str("{\"asn\":1},").expect(rt, "memory");
-    }
+fn file_of_filters(rt: &impl Abort, alloc: Global, count: usize, last: &str) -> String {
+    let mut filters = r#"{"asn":1},"#.repeat(alloc, count).expect(rt, "memory");
     filters.push_str(last).expect(rt, "memory");
-    file(
-        rt,
-        alloc,
-        "1",
-        &filters,
-        "{\"prefix\":\"::/8\",\"asn\":1}",
-        "",
-    )
+    let assertions = r#"{"prefix":"::/8","asn":1}"#;
+    file(rt, alloc, ["1", &filters, assertions, ""])
 }
 
 /// How many entries the file has as a value, 0 where it is none.
@@ -271,10 +256,10 @@ fn entries_read(rt: &impl Abort, alloc: Global, text: &str) -> usize {
 }
 
 /// How many filters are before this last one, the fault of the file, and its entries as a value.
-const LIMITS: [(u32, &str, u8, usize); 3] = [
-    (4094, "{\"asn\":1}", 0, 4096),
-    (4095, "{\"asn\":1}", 11, 0),
-    (4096, "{\"asn\":1,\"comment\":0}", 10, 0),
+const LIMITS: [(usize, &str, u8, usize); 3] = [
+    (4094, r#"{"asn":1}"#, 0, 4096),
+    (4095, r#"{"asn":1}"#, 11, 0),
+    (4096, r#"{"asn":1,"comment":0}"#, 10, 0),
 ];
 
 /// A fault in the last of too many entries is the lower one.
@@ -282,10 +267,8 @@ const LIMITS: [(u32, &str, u8, usize); 3] = [
 fn limit_of_entries(rt: HostRuntime) {
     for (before, last, number, entries) in LIMITS {
         let text = file_of_filters(&rt, rt.alloc(), before, last);
-        let found = (
-            fault(rt.alloc(), &text),
-            entries_read(&rt, rt.alloc(), &text),
-        );
+        let read = entries_read(&rt, rt.alloc(), &text);
+        let found = (fault(rt.alloc(), &text), read);
         assert_same(&rt, found, (number, entries), before);
     }
 }
@@ -301,15 +284,10 @@ fn limit_of_made_files(rt: HostRuntime) {
 
 #[test]
 fn prints_slurm_faults(rt: HostRuntime) {
-    for (fault, text) in [
-        (SlurmFault::NotJson, "the text is not JSON"),
-        (
-            SlurmFault::Members,
-            "an object or array is wanted, or a member is missing or unknown",
-        ),
-        (SlurmFault::Memory, "out of memory"),
-    ] {
-        let printed = fault.to_string(rt.alloc()).expect(&rt, "a text");
-        assert_same(&rt, printed.as_str(), text, fault);
-    }
+    let (json, members, memory) = (SlurmFault::NotJson, SlurmFault::Members, SlurmFault::Memory);
+    let printed = format!(in rt.alloc(); "{json}\n{members}\n{memory}").expect(&rt, "a text");
+    let expected = "the text is not JSON
+an object or array is wanted, or a member is missing or unknown
+out of memory";
+    assert_same(&rt, printed.as_str(), expected, "faults");
 }

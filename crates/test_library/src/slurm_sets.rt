@@ -1,6 +1,5 @@
 //! Sets of SLURM files: which files overlap (RFC 8416 section 4.2), and how many files a set has and
 //! under which names.
-use crate::rows::Row;
 use crate::slurm_files::file;
 use crate::tables::{assert_output, rows_of};
 use addr::{Name, digits};
@@ -87,7 +86,7 @@ fn named(rt: &impl Abort, name: &str, file: Slurm) -> NamedSlurm {
 /// The file of these filters and, after `;`, assertions.
 fn slurm_of(rt: &impl Abort, alloc: Global, entries: &str) -> Slurm {
     let (filters, assertions) = entries.split_once(';').expect(rt, entries);
-    let text = file(rt, alloc, "1", filters, assertions, "");
+    let text = file(rt, alloc, ["1", filters, assertions, ""]);
     Slurm::read(alloc, text.as_bytes()).expect(rt, entries)
 }
 
@@ -116,19 +115,15 @@ fn answer(is_so: bool) -> &'static str {
     if is_so { "yes" } else { "no" }
 }
 
-fn assert_pair(rt: &impl Abort, alloc: Global, row: &Row<'_>) {
-    let files = files_of(rt, alloc, row.input);
-    let [one, other] = files.as_slice() else {
-        rt.panic(row.input)
-    };
-    assert_output(rt, answer(one.file.overlaps(&other.file)), row);
-    assert_output(rt, answer(other.file.overlaps(&one.file)), row);
-}
-
 #[test]
 fn slurm_files_overlap_either_way(rt: HostRuntime) {
     for row in &rows_of(&rt, rt.alloc(), PAIRS) {
-        assert_pair(&rt, rt.alloc(), row);
+        let files = files_of(&rt, rt.alloc(), row.input);
+        let [one, other] = files.as_slice() else {
+            rt.panic(row.input)
+        };
+        assert_output(&rt, answer(one.file.overlaps(&other.file)), row);
+        assert_output(&rt, answer(other.file.overlaps(&one.file)), row);
     }
 }
 
@@ -151,19 +146,16 @@ fn set_of_no_file_has_no_overlap(rt: HostRuntime) {
     assert!(rt; !set.has_overlap(rt.alloc()));
 }
 
-/// How many files the set has, and their names.
-fn shown(rt: &impl Abort, alloc: Global, set: &SlurmSet) -> String {
-    let mut text = set.files().len().to_string(alloc).expect(rt, "a text");
-    for named in set.files() {
-        write!(text, " {}", named.name).expect(rt, "a text");
-    }
-    text
-}
-
-/// The set of empty files of these names, or why they are none.
+/// How many files the set of empty files of these names has, and their names, or why they are none.
 fn set_of_names(rt: &impl Abort, alloc: Global, names: &str) -> String {
     match SlurmSet::make(files_of_names(rt, alloc, names)) {
-        Ok(set) => shown(rt, alloc, &set),
+        Ok(set) => {
+            let mut text = set.files().len().to_string(alloc).expect(rt, "a text");
+            for named in set.files() {
+                write!(text, " {}", named.name).expect(rt, "a text");
+            }
+            text
+        }
         Err(fault) => fault.to_string(alloc).expect(rt, "a text"),
     }
 }

@@ -3,21 +3,24 @@ use crate::rows::{Row, split_row, table_rows};
 use std::alloc::Global;
 use std::fmt::Debug;
 use std::process::Abort;
+use std::test::Fail;
+
+/// What a call gives.
+pub(crate) fn given<T>(rt: &impl Abort, made: Result<T, Fail>, what: &str) -> T {
+    match made {
+        Ok(value) => value,
+        Err(_) => rt.panic(what),
+    }
+}
 
 /// The rows of a table.
 pub(crate) fn rows_of<'a>(rt: &impl Abort, alloc: Global, table: &'a str) -> Vec<Row<'a>> {
-    match table_rows(alloc, table) {
-        Ok(rows) => rows,
-        Err(_) => rt.panic("no rows"),
-    }
+    given(rt, table_rows(alloc, table), "no rows")
 }
 
 /// The input and the output of a row without a name.
 pub(crate) fn row_of<'a>(rt: &impl Abort, line: &'a str) -> (&'a str, &'a str) {
-    match split_row(line) {
-        Ok(row) => row,
-        Err(_) => rt.panic(line),
-    }
+    given(rt, split_row(line), line)
 }
 
 /// What is found is what is expected. The message has the name, which says where.

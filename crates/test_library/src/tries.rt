@@ -11,29 +11,13 @@ use payload::{ListIndex, PayloadIndex, Trie, Validity, VrpTest};
 use std::alloc::Global;
 use std::process::Abort;
 
-/// VRPs, one of them twice, and routes with their state and the number of lengths at which a search
-/// of these VRPs has something to look at.
-const SETS: [(&str, &str); 7] = [
-    (NESTED, NESTED_ROUTES),
-    (FIRST_AND_LAST, FIRST_AND_LAST_ROUTES),
-    (AS_ZERO, AS_ZERO_ROUTES),
-    (SIBLINGS, SIBLING_ROUTES),
-    (FAMILIES, FAMILY_ROUTES),
-    (MAX_LENGTHS, MAX_LENGTH_ROUTES),
-    (
-        "",
-        "\n0.0.0.0/0 AS64496 => NotFound 1\n::/0 none => NotFound 1",
-    ),
-];
-
-const NESTED: &str = r#"
-AS64497 198.51.100.0/24 24
+/// Sets with an empty line between them: VRPs, one of them twice, and under a name routes with their
+/// state and the number of lengths at which a search of these VRPs has something to look at.
+const SETS: &str = r#"AS64497 198.51.100.0/24 24
 AS64500 0.0.0.0/0 0
 AS64496 198.51.100.0/22 24
 AS64500 0.0.0.0/0 0
-"#;
-
-const NESTED_ROUTES: &str = r#"
+# nested
 198.51.100.0/24 AS64496 => Valid 23
 198.51.100.0/24 AS64499 => Invalid 25
 198.51.100.0/24 AS64497 => Valid 25
@@ -47,9 +31,7 @@ const NESTED_ROUTES: &str = r#"
 198.51.104.0/24 AS64496 => Invalid 21
 10.0.0.0/8 AS64496 => Invalid 1
 ::/0 AS64500 => NotFound 1
-"#;
 
-const FIRST_AND_LAST: &str = r#"
 AS64496 0.0.0.0/0 32
 AS64497 0.0.0.0/32 32
 AS64498 255.255.255.255/32 32
@@ -57,9 +39,7 @@ AS64496 ::/0 128
 AS64497 ::/128 128
 AS64498 ffff:ffff:ffff:ffff:ffff:ffff:ffff:ffff/128 128
 AS64498 255.255.255.255/32 32
-"#;
-
-const FIRST_AND_LAST_ROUTES: &str = r#"
+# first_and_last
 0.0.0.0/0 AS64496 => Valid 1
 0.0.0.0/0 AS64497 => Invalid 1
 0.0.0.0/32 AS64496 => Valid 1
@@ -77,31 +57,23 @@ const FIRST_AND_LAST_ROUTES: &str = r#"
 ffff:ffff:ffff:ffff:ffff:ffff:ffff:ffff/128 AS64498 => Valid 129
 ffff:ffff:ffff:ffff:ffff:ffff:ffff:fffe/127 AS64497 => Invalid 128
 4000::/2 AS64497 => Invalid 2
-"#;
 
-const AS_ZERO: &str = r#"
 AS0 192.0.2.0/24 32
 AS64496 192.0.2.0/25 25
 AS0 192.0.2.0/24 32
-"#;
-
-const AS_ZERO_ROUTES: &str = r#"
+# as_zero
 192.0.2.0/24 AS0 => Invalid 25
 192.0.2.0/24 AS64496 => Invalid 25
 192.0.2.0/25 AS64496 => Valid 26
 192.0.2.128/25 AS0 => Invalid 25
 192.0.2.0/25 none => Invalid 26
 192.0.3.0/24 AS0 => NotFound 24
-"#;
 
-const SIBLINGS: &str = r#"
 AS64496 10.128.0.0/9 9
 AS64496 10.0.0.0/9 9
 AS64497 10.0.0.0/10 10
 AS64496 10.128.0.0/9 9
-"#;
-
-const SIBLING_ROUTES: &str = r#"
+# siblings
 10.0.0.0/8 AS64496 => NotFound 9
 10.0.0.0/9 AS64496 => Valid 10
 10.128.0.0/9 AS64497 => Invalid 10
@@ -109,32 +81,24 @@ const SIBLING_ROUTES: &str = r#"
 10.0.0.0/10 AS64498 => Invalid 11
 10.64.0.0/10 AS64497 => Invalid 10
 11.0.0.0/9 AS64496 => NotFound 8
-"#;
 
-const FAMILIES: &str = r#"
 AS64496 32.1.13.184/32 32
 AS64497 2001:db8::/32 48
 AS64497 2001:db8::/32 48
-"#;
-
-const FAMILY_ROUTES: &str = r#"
+# families
 32.1.13.184/32 AS64496 => Valid 33
 32.1.13.184/32 AS64497 => Invalid 33
 2001:db8::/32 AS64496 => Invalid 33
 2001:db8:1::/48 AS64497 => Valid 33
 2001:db8::/49 AS64497 => Invalid 33
 2001:db9::/32 AS64497 => NotFound 32
-"#;
 
-const MAX_LENGTHS: &str = r#"
 AS64496 192.0.2.0/24 24
 AS64496 192.0.2.0/24 26
 AS64497 192.0.2.0/24 25
 AS64497 192.0.2.0/26 28
 AS64496 192.0.2.0/24 26
-"#;
-
-const MAX_LENGTH_ROUTES: &str = r#"
+# max_lengths
 192.0.2.0/26 AS64496 => Valid 25
 192.0.2.0/27 AS64496 => Invalid 27
 192.0.2.0/25 AS64497 => Valid 25
@@ -142,7 +106,10 @@ const MAX_LENGTH_ROUTES: &str = r#"
 192.0.2.64/26 AS64497 => Invalid 26
 192.0.2.0/28 AS64497 => Valid 27
 192.0.2.0/29 AS64497 => Invalid 27
-"#;
+
+# no_vrp
+0.0.0.0/0 AS64496 => NotFound 1
+::/0 none => NotFound 1"#;
 
 /// An AS whose VRPs are left out of the nested ones, and a route with its state over the rest.
 const WITHOUT_AN_AS: &str = r#"
@@ -184,25 +151,27 @@ fn assert_lists(rt: &impl Abort, alloc: Global, trie: &Trie, vrps: &[Vrp]) {
     assert!(rt; found.as_slice() == vrps);
 }
 
-/// A trie and a list of these VRPs judge the routes as the rows say, and hand out the same.
-fn assert_set(rt: &impl Abort, alloc: Global, vrps: &[Vrp], routes: &str) {
+/// The VRPs and the routes of a set.
+fn parse_set<'a>(rt: &impl Abort, alloc: Global, set: &'a str) -> (Vec<Vrp>, &'a str) {
+    let (vrps, routes) = set.split_once("# ").expect(rt, set);
+    (parse_vrps(rt, alloc, vrps), routes)
+}
+
+/// A trie and a list of the VRPs judge the routes as the rows say, and hand out the same.
+fn assert_set(rt: &impl Abort, alloc: Global, set: &str) {
+    let (vrps, routes) = parse_set(rt, alloc, set);
     let mut list = ListIndex::new(alloc);
     let mut trie = Trie::new(alloc);
-    assert_same(
-        rt,
-        fill(rt, &mut trie, vrps),
-        fill(rt, &mut list, vrps),
-        routes,
-    );
+    let count = fill(rt, &mut list, &vrps);
+    assert_same(rt, fill(rt, &mut trie, &vrps), count, routes);
     assert_rows(rt, alloc, &list, &trie, routes);
     assert_lists(rt, alloc, &trie, &visited(rt, alloc, &list));
 }
 
 #[test]
 fn search_depths_of_nested_prefixes(rt: HostRuntime) {
-    for (lines, routes) in SETS {
-        let vrps = parse_vrps(&rt, rt.alloc(), lines);
-        assert_set(&rt, rt.alloc(), &vrps, routes);
+    for set in SETS.split("\n\n") {
+        assert_set(&rt, rt.alloc(), set);
     }
 }
 
@@ -220,19 +189,15 @@ impl VrpTest for OfOthers {
     }
 }
 
-fn assert_judges_rest(rt: &impl Abort, trie: &Trie, row: &Row<'_>) {
-    let (asn, route) = split_word(rt, row.input);
-    let asn = parse_asn(rt, asn);
-    let judged = trie.validity_among(&parse_route(rt, route), &OfOthers { asn });
-    assert_output(rt, judged.as_str(), row);
-}
-
 #[test]
 fn route_over_the_vrps_of_other_ases(rt: HostRuntime) {
-    let vrps = parse_vrps(&rt, rt.alloc(), NESTED);
+    let (vrps, _) = parse_set(&rt, rt.alloc(), SETS);
     let trie = Trie::of(rt.alloc(), &vrps).expect(&rt, "memory");
     for row in &rows_of(&rt, rt.alloc(), WITHOUT_AN_AS) {
-        assert_judges_rest(&rt, &trie, row);
+        let (asn, route) = split_word(&rt, row.input);
+        let asn = parse_asn(&rt, asn);
+        let judged = trie.validity_among(&parse_route(&rt, route), &OfOthers { asn });
+        assert_output(&rt, judged.as_str(), row);
     }
 }
 
@@ -240,7 +205,7 @@ fn route_over_the_vrps_of_other_ases(rt: HostRuntime) {
 /// for no route.
 #[test]
 fn pruned_trie_is_empty(rt: HostRuntime) {
-    let vrps = parse_vrps(&rt, rt.alloc(), NESTED);
+    let (vrps, _) = parse_set(&rt, rt.alloc(), SETS);
     let mut trie = Trie::new(rt.alloc());
     fill(&rt, &mut trie, &vrps);
     for vrp in vrps.iter().take(3) {

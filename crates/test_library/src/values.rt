@@ -1,4 +1,5 @@
 //! Names, days, AS numbers, plain numbers, holdings and charters.
+use crate::parsing::add_or_take;
 use crate::tables::{assert_same, row_of};
 use addr::{Asn, Day, Family, Holdings, Name, Prefix, PrefixFault, Span, digits, number_from_text};
 use arrayvec::ArrayString;
@@ -146,25 +147,18 @@ fn prints_values(rt: HostRuntime) {
     assert_same(&rt, printed.as_str(), expected, "values");
 }
 
-const PREFIX_FAULTS: [(PrefixFault, &str); 4] = [
-    (PrefixFault::Shape, "not an address, a slash and a length"),
-    (
-        PrefixFault::Spelling,
-        "the address or the length is not in its one spelling",
-    ),
-    (
-        PrefixFault::Length,
-        "the length is greater than the addresses have bits",
-    ),
-    (PrefixFault::HostBits, "a bit past the length is set"),
-];
+const PREFIX_FAULTS: &str = "not an address, a slash and a length
+the address or the length is not in its one spelling
+the length is greater than the addresses have bits
+a bit past the length is set";
 
 #[test]
 fn prints_prefix_faults(rt: HostRuntime) {
-    for (fault, text) in PREFIX_FAULTS {
-        let printed = fault.to_string(rt.alloc()).expect(&rt, "a text");
-        assert_same(&rt, printed.as_str(), text, fault);
-    }
+    let (shape, spelling) = (PrefixFault::Shape, PrefixFault::Spelling);
+    let (length, bits) = (PrefixFault::Length, PrefixFault::HostBits);
+    let printed = format!(in rt.alloc(); "{shape}\n{spelling}\n{length}\n{bits}");
+    let printed = printed.expect(&rt, "a text");
+    assert_same(&rt, printed.as_str(), PREFIX_FAULTS, "faults");
 }
 
 /// The prefix of IPv6 with this first address and length.
@@ -172,27 +166,16 @@ fn v6(rt: &impl Abort, first: u128, length: u8) -> Prefix {
     Prefix::from_parts(Family::V6, first, length).expect(rt, "a prefix of IPv6")
 }
 
-/// What is done with a prefix of IPv6, and the last address that is then held from `::` on.
-#[derive(Clone, Copy)]
-enum Step {
-    Add(u128, u8),
-    Take(u128, u8),
-}
-
-const STEPS: [(Step, u128); 4] = [
-    (Step::Add(0, 1), u128::MAX >> 1),
-    (Step::Add(1 << 127, 1), u128::MAX),
-    (Step::Add(0, 0), u128::MAX),
-    (Step::Take(u128::MAX, 128), u128::MAX - 1),
+/// Prefixes of IPv6 that are added or taken, and the last address that is then held from `::` on.
+const STEPS: [(&str, u128); 4] = [
+    ("add ::/1", u128::MAX >> 1),
+    ("add 8000::/1", u128::MAX),
+    ("add ::/0", u128::MAX),
+    (
+        "take ffff:ffff:ffff:ffff:ffff:ffff:ffff:ffff/128",
+        u128::MAX - 1,
+    ),
 ];
-
-fn do_step(rt: &impl Abort, holdings: &mut Holdings, step: Step) {
-    let done = match step {
-        Step::Add(first, length) => holdings.add(&v6(rt, first, length)),
-        Step::Take(first, length) => holdings.take(&v6(rt, first, length)),
-    };
-    done.expect(rt, "memory");
-}
 
 fn assert_held_to(rt: &impl Abort, holdings: &Holdings, last: u128) {
     let span = Span::from_parts(Family::V6, 0, last).expect(rt, "a span of IPv6");
@@ -206,7 +189,7 @@ fn assert_held_to(rt: &impl Abort, holdings: &Holdings, last: u128) {
 fn holdings_reach_the_last_ipv6_address(rt: HostRuntime) {
     let mut holdings = Holdings::new(rt.alloc());
     for (step, last) in STEPS {
-        do_step(&rt, &mut holdings, step);
+        add_or_take(&rt, &mut holdings, step).expect(&rt, step);
         assert_held_to(&rt, &holdings, last);
     }
 }

@@ -1,7 +1,7 @@
 //! Sets of VRPs, and the validation states of routes on them.
 use crate::listing::{FirstVrps, listed};
 use crate::parsing::{parse_route, parse_vrp, parse_vrps};
-use crate::tables::{assert_output, assert_same, rows_of};
+use crate::tables::{assert_output, assert_same, given, rows_of};
 use addr::Vrp;
 use payload::{ListIndex, PayloadIndex, Stop};
 use std::alloc::Global;
@@ -67,10 +67,7 @@ pub(crate) fn fill<I: PayloadIndex>(rt: &impl Abort, index: &mut I, vrps: &[Vrp]
 
 /// What a visit hands out.
 pub(crate) fn visited<I: PayloadIndex>(rt: &impl Abort, alloc: Global, index: &I) -> Vec<Vrp> {
-    match listed(alloc, index) {
-        Ok(vrps) => vrps,
-        Err(_) => rt.panic("a visit stopped"),
-    }
+    given(rt, listed(alloc, index), "a visit stopped")
 }
 
 fn assert_states(rt: &impl Abort, alloc: Global, vrps: &str, states: &str) {
@@ -91,30 +88,19 @@ fn states_of_routes(rt: HostRuntime) {
     assert_states(&rt, alloc, "", "\n0.0.0.0/0 AS64496 => NotFound");
 }
 
-/// The sink has the first of these VRPs when the visit ends.
-fn assert_visit(
-    rt: &impl Abort,
-    alloc: Global,
-    index: &ListIndex,
-    rising: &[Vrp],
-    visit: &(usize, usize, Result<(), Stop>),
-) {
-    let (most, kept, answer) = *visit;
-    let mut first = FirstVrps {
-        vrps: Vec::new(alloc),
-        most,
-        refused: None,
-    };
-    assert_same(rt, index.visit(&mut first), answer, most);
-    assert_same(rt, first.vrps.len(), kept, most);
-    assert!(rt; rising.starts_with(&first.vrps), "{kept} kept");
-}
-
+/// The sink has the first of the VRPs when the visit ends.
 #[test]
 fn visits_rise_and_stop(rt: HostRuntime) {
     let index = ListIndex::from(parse_vrps(&rt, rt.alloc(), NESTED));
     let rising = [parse_vrp(&rt, WIDE), parse_vrp(&rt, NARROW)];
-    for visit in &VISITS {
-        assert_visit(&rt, rt.alloc(), &index, &rising, visit);
+    for (most, kept, answer) in VISITS {
+        let mut first = FirstVrps {
+            vrps: Vec::new(rt.alloc()),
+            most,
+            refused: None,
+        };
+        assert_same(&rt, index.visit(&mut first), answer, most);
+        assert_same(&rt, first.vrps.len(), kept, most);
+        assert!(rt; rising.as_slice().starts_with(&first.vrps), "{kept} kept");
     }
 }

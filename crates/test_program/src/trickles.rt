@@ -3,9 +3,8 @@ ghost use Rattle.std.specs.Prelude.{option_map, true};
 ghost use Rattle.std.specs.Duration.{as_nanos};
 ghost use Rattle.std.specs.Time.{instant_nanos};
 
-use crate::clients::{first_of_march, on_desk};
 use crate::clocks::Slow;
-use crate::comparison::assert_same;
+use crate::desks::{assert_same, first_of_march, on_desk};
 use cli_tasks::serve::{Peer, answer_in_time};
 use desk::Desk;
 use sqlite::MemStore;

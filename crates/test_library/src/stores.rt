@@ -1,41 +1,48 @@
 //! The store: what was applied is loaded, and what breaks a key is refused.
-use crate::comparison::assert_same;
 use crate::databases::{database, opened};
 use crate::example_database::TABLES;
-use addr::{Asn, Day, Holdings, Name, Prefix};
+use crate::parsing::{parse_auth, parse_day, parse_prefix, split_word};
+use crate::rows::Row;
+use crate::slurm_sample::SAMPLE;
+use crate::tables::{assert_output, assert_same, rows_of};
+use addr::{Asn, Day, Holdings, Name, Span};
 use policy::{
-    Auth, AuthTerms, Change, Charter, Command, Edit, Granted, HolderChange, HolderRows,
-    RoaPrefixes, Role, Scope, View, decide,
+    Auth, AuthTerms, Change, Charter, Command, Edit, Granted, HolderChange, HolderRows, Role,
+    Scope, View, decide,
 };
 use slurm::{Filter, NamedSlurm, Slurm, SlurmSet};
 use sqlite::{Connection, MemStore};
 use std::alloc::Global;
 use std::process::Abort;
 use store::{Loaded, Store, StoreFault};
-use test_library::slurm_sample::SAMPLE;
+
+type Desk = Store<MemStore>;
+
+/// The authorizations of `alpha` by maxLength.
+const TO_23: &str = "AS64496 192.0.2.0/24 23 2026-03-01 2026-03-01";
+
+const TO_24: &str = "AS64496 192.0.2.0/24 24 2026-03-01 2026-03-01";
+
+const TO_25: &str = "AS64496 192.0.2.0/24 25 2026-03-01 2026-03-01";
 
 fn name(rt: &impl Abort, text: &str) -> Name {
     Name::read(text.as_bytes()).expect(rt, "a name")
 }
 
-fn prefix(rt: &impl Abort, text: &str) -> Prefix {
-    Prefix::read(text.as_bytes()).expect(rt, "a prefix")
-}
-
 fn first_of_march(rt: &impl Abort) -> Day {
-    Day::read(b"2026-03-01").expect(rt, "a day")
+    parse_day(rt, "2026-03-01")
 }
 
 /// A charter of one operator and one prefix in the pool.
 fn charter(rt: &impl Abort, alloc: Global) -> Charter {
     let operators = vec![in alloc; name(rt, "reg")].expect(rt, "operators");
-    let pool = vec![in alloc; prefix(rt, "192.0.0.0/16")].expect(rt, "a pool");
+    let pool = vec![in alloc; parse_prefix(rt, "192.0.0.0/16")].expect(rt, "a pool");
     Charter::make(operators, pool).expect(rt, "a charter")
 }
 
 /// Lends a store that has the holder `alpha`. What owns a store is slow to prove, so the tests borrow
 /// one.
-fn on_holder<T, F: FnOnce(&mut Store<MemStore>) -> T>(rt: &impl Abort, alloc: Global, ask: F) -> T
+fn on_holder<T, F: FnOnce(&mut Desk) -> T>(rt: &impl Abort, alloc: Global, ask: F) -> T
     requires { F.IsAlwaysCallable ask }
 {
     let mut store = Store::open_memory(alloc, &charter(rt, alloc)).expect(rt, "a store");
@@ -44,7 +51,7 @@ fn on_holder<T, F: FnOnce(&mut Store<MemStore>) -> T>(rt: &impl Abort, alloc: Gl
 }
 
 /// Changes the rows of `alpha`.
-fn change(rt: &impl Abort, store: &mut Store<MemStore>, edit: Edit) -> Result<(), StoreFault> {
+fn change(rt: &impl Abort, store: &mut Desk, edit: Edit) -> Result<(), StoreFault> {
     let holder = name(rt, "alpha");
     let change = Change::Holders {
         first: HolderChange { holder, edit },
@@ -53,44 +60,32 @@ fn change(rt: &impl Abort, store: &mut Store<MemStore>, edit: Edit) -> Result<()
     store.apply(&change)
 }
 
-fn apply(rt: &impl Abort, store: &mut Store<MemStore>, edit: Edit) {
+fn apply(rt: &impl Abort, store: &mut Desk, edit: Edit) {
     change(rt, store, edit).expect(rt, "a change");
 }
 
-/// AS 64496 with 192.0.2.0/24 to this length.
-fn authorization(rt: &impl Abort, alloc: Global, number: u32, max: u8) -> Auth {
-    let day = first_of_march(rt);
-    Auth {
-        number,
-        asn: Asn(64_496),
-        entries: RoaPrefixes::one(alloc, prefix(rt, "192.0.2.0/24"), max).expect(rt, "an entry"),
-        from: day,
-        until: day,
-    }
-}
-
-fn is_same(auth: &Auth, other: &Auth) -> bool {
-    auth.number == other.number
-        && auth.asn == other.asn
-        && auth.entries.as_slice() == other.entries.as_slice()
-        && auth.from == other.from
-        && auth.until == other.until
+fn create(rt: &impl Abort, alloc: Global, store: &mut Desk, number: u32, text: &str) {
+    let auth = parse_auth(rt, alloc, number, text);
+    apply(rt, store, Edit::Create(auth));
 }
 
 /// Whether both lists have the same authorizations, in one order.
 fn are_same(auths: &[Auth], others: &[Auth]) -> bool {
     auths.len() == others.len()
-        && auths
-            .iter()
-            .zip(others)
-            .all(|(auth, other)| is_same(auth, other))
+        && auths.iter().zip(others).all(|(auth, other)| {
+            auth.number == other.number
+                && auth.asn == other.asn
+                && auth.entries.as_slice() == other.entries.as_slice()
+                && auth.from == other.from
+                && auth.until == other.until
+        })
 }
 
 /// So many authorizations of one prefix, each of an AS of its own, where four were made before.
 fn next_authorizations(rt: &impl Abort, alloc: Global, count: u32) -> Vec<Auth> {
     let mut auths = Vec::new(alloc);
     for number in 5..5u32.saturating_add(count) {
-        let mut auth = authorization(rt, alloc, number, 24);
+        let mut auth = parse_auth(rt, alloc, number, TO_24);
         auth.asn = Asn(number);
         auths.push(auth).expect(rt, "an authorization");
     }
@@ -102,56 +97,57 @@ fn grant(rt: &impl Abort) -> Granted {
         number: 1,
         caller: name(rt, "ann"),
         role: Role::Manager,
-        scope: Scope::Only(prefix(rt, "192.0.2.0/24")),
+        scope: Scope::Only(parse_prefix(rt, "192.0.2.0/24")),
         until: first_of_march(rt),
     }
 }
 
-/// `alpha` gets the run of 192.0.2.0/24.
-fn hold(rt: &impl Abort, alloc: Global, store: &mut Store<MemStore>) {
-    let run = prefix(rt, "192.0.2.0/24").span();
+/// `alpha` gets runs in place of others.
+fn replace(rt: &impl Abort, alloc: Global, store: &mut Desk, removed: &[Span], added: &[Span]) {
     let edit = Edit::Hold {
-        removed: Vec::new(alloc),
-        added: vec![in alloc; run].expect(rt, "a run"),
+        removed: Vec::from_slice(alloc, removed).expect(rt, "runs"),
+        added: Vec::from_slice(alloc, added).expect(rt, "runs"),
         ended: Vec::new(alloc),
     };
     apply(rt, store, edit);
+}
+
+/// `alpha` gets the run of 192.0.2.0/24.
+fn hold(rt: &impl Abort, alloc: Global, store: &mut Desk) {
+    let run = parse_prefix(rt, "192.0.2.0/24").span();
+    replace(rt, alloc, store, &[], &[run]);
 }
 
 #[test]
 fn each_edit_runs_in_memory(rt: HostRuntime) {
     on_holder(&rt, rt.alloc(), |store| {
         add_rows(&rt, rt.alloc(), store);
-        let edit = Edit::Amend(authorization(&rt, rt.alloc(), 1, 24));
-        apply(&rt, store, edit);
+        let auth = parse_auth(&rt, rt.alloc(), 1, TO_24);
+        apply(&rt, store, Edit::Amend(auth));
         apply(&rt, store, Edit::Withdraw(1));
         apply(&rt, store, Edit::Revoke(1));
     });
 }
 
 /// `alpha` holds its run and has its grant and its authorization.
-fn add_rows(rt: &impl Abort, alloc: Global, store: &mut Store<MemStore>) {
+fn add_rows(rt: &impl Abort, alloc: Global, store: &mut Desk) {
     hold(rt, alloc, store);
     apply(rt, store, Edit::Grant(grant(rt)));
-    let edit = Edit::Create(authorization(rt, alloc, 1, 24));
-    apply(rt, store, edit);
+    create(rt, alloc, store, 1, TO_24);
 }
 
 fn assert_rows(rt: &impl Abort, alloc: Global, rows: &HolderRows) {
-    assert!(rt; rows.holdings.spans() == [prefix(rt, "192.0.2.0/24").span()].as_slice());
+    assert!(rt; rows.holdings.spans() == [parse_prefix(rt, "192.0.2.0/24").span()].as_slice());
     assert!(rt; rows.grants.as_slice() == [grant(rt)].as_slice());
     assert_same(rt, (rows.granted, rows.created), (1, 1), "counters");
-    let [auth] = rows.auths.as_slice() else {
-        rt.panic("not one authorization")
-    };
-    assert!(rt; is_same(auth, &authorization(rt, alloc, 1, 24)));
+    assert!(rt; are_same(&rows.auths, &[parse_auth(rt, alloc, 1, TO_24)]));
 }
 
 #[test]
 fn what_was_applied_is_loaded(rt: HostRuntime) {
     on_holder(&rt, rt.alloc(), |store| {
         add_rows(&rt, rt.alloc(), store);
-        assert_rows(&rt, rt.alloc(), &rows_of(&rt, rt.alloc(), store));
+        assert_rows(&rt, rt.alloc(), &loaded(&rt, rt.alloc(), store));
     });
 }
 
@@ -170,16 +166,17 @@ fn what_was_applied_is_in_force(rt: HostRuntime) {
 }
 
 /// So many authorizations are imported where four were made before.
-fn import(rt: &impl Abort, alloc: Global, store: &mut Store<MemStore>, count: u32) {
+fn import(rt: &impl Abort, alloc: Global, store: &mut Desk, count: u32) {
     let auths = next_authorizations(rt, alloc, count);
     let created = count.saturating_add(4);
     apply(rt, store, Edit::Import { auths, created });
 }
 
+/// They are all loaded.
 fn assert_imports(rt: &impl Abort, alloc: Global, count: u32) {
     on_holder(rt, alloc, |store| {
         import(rt, alloc, store, count);
-        let rows = rows_of(rt, alloc, store);
+        let rows = loaded(rt, alloc, store);
         assert_same(rt, rows.created, count.saturating_add(4), count);
         assert!(rt; are_same(&rows.auths, &next_authorizations(rt, alloc, count)));
     });
@@ -201,39 +198,22 @@ const OVERLAPS: [(&str, bool); 4] = [
 ];
 
 /// The runs of 192.0.2.0/24 except 192.0.2.0/26, in place of all of it.
-fn reclaim(rt: &impl Abort, alloc: Global, store: &mut Store<MemStore>) {
-    let whole = prefix(rt, "192.0.2.0/24");
+fn reclaim(rt: &impl Abort, alloc: Global, store: &mut Desk) {
+    let whole = parse_prefix(rt, "192.0.2.0/24");
     let mut holdings = Holdings::new(alloc);
     holdings.add(&whole).expect(rt, "holdings");
-    holdings
-        .take(&prefix(rt, "192.0.2.0/26"))
-        .expect(rt, "holdings");
-    let edit = Edit::Hold {
-        removed: vec![in alloc; whole.span()].expect(rt, "a run"),
-        added: Vec::from_slice(alloc, holdings.spans()).expect(rt, "runs"),
-        ended: Vec::new(alloc),
-    };
-    apply(rt, store, edit);
+    let part = parse_prefix(rt, "192.0.2.0/26");
+    holdings.take(&part).expect(rt, "holdings");
+    replace(rt, alloc, store, &[whole.span()], holdings.spans());
 }
 
 /// What is loaded for a command.
-fn loaded_for(
-    rt: &impl Abort,
-    alloc: Global,
-    store: &mut Store<MemStore>,
-    command: &Command,
-) -> Loaded {
+fn loaded_for(rt: &impl Abort, alloc: Global, store: &mut Desk, command: &Command) -> Loaded {
     store.load_for(alloc, command).expect(rt, "loaded rows")
 }
 
-fn assert_overlaps(
-    rt: &impl Abort,
-    alloc: Global,
-    store: &mut Store<MemStore>,
-    text: &str,
-    overlaps: bool,
-) {
-    let prefix = prefix(rt, text);
+fn assert_overlaps(rt: &impl Abort, alloc: Global, store: &mut Desk, text: &str, overlaps: bool) {
+    let prefix = parse_prefix(rt, text);
     let found = store.overlapping(&prefix).expect(rt, text);
     assert_same(rt, found, overlaps, text);
     let holder = name(rt, "alpha");
@@ -253,14 +233,20 @@ fn overlapping_after_reclaim(rt: HostRuntime) {
 }
 
 /// The rows of `alpha`.
-fn rows_of(rt: &impl Abort, alloc: Global, store: &mut Store<MemStore>) -> HolderRows {
+fn loaded(rt: &impl Abort, alloc: Global, store: &mut Desk) -> HolderRows {
     let rows = store.load_holder(alloc, &name(rt, "alpha"));
     rows.expect(rt, "a load").expect(rt, "rows")
 }
 
-/// How many runs an edit takes away, and how many it puts.
-fn count_runs(rt: &impl Abort, change: &Change) -> (usize, usize) {
-    let Change::Holders { first, .. } = change else {
+/// How many runs a delegation to `alpha` takes away, and how many it puts.
+fn runs_moved(rt: &impl Abort, alloc: Global, view: &View, text: &str) -> (usize, usize) {
+    let command = Command::Delegate {
+        holder: name(rt, "alpha"),
+        prefix: parse_prefix(rt, text),
+    };
+    let (day, caller) = (first_of_march(rt), name(rt, "reg"));
+    let change = decide(alloc, &charter(rt, alloc), view, day, &caller, &command);
+    let Change::Holders { first, .. } = change.expect(rt, text) else {
         rt.panic("another change")
     };
     match &first.edit {
@@ -269,23 +255,12 @@ fn count_runs(rt: &impl Abort, change: &Change) -> (usize, usize) {
     }
 }
 
-/// How many runs a delegation to `alpha` takes away, and how many it puts.
-fn runs_moved(rt: &impl Abort, alloc: Global, view: &View, text: &str) -> (usize, usize) {
-    let command = Command::Delegate {
-        holder: name(rt, "alpha"),
-        prefix: prefix(rt, text),
-    };
-    let (day, caller) = (first_of_march(rt), name(rt, "reg"));
-    let change = decide(alloc, &charter(rt, alloc), view, day, &caller, &command);
-    count_runs(rt, &change.expect(rt, text))
-}
-
 /// What is viewed of `alpha`, which holds its run, for a prefix that is not taken.
 fn view_of_holder(rt: &impl Abort, alloc: Global) -> View {
     on_holder(rt, alloc, |store| {
         hold(rt, alloc, store);
         View {
-            holder: Some(rows_of(rt, alloc, store)),
+            holder: Some(loaded(rt, alloc, store)),
             taken: false,
         }
     })
@@ -299,7 +274,7 @@ fn delegation_takes_away_only_what_it_touches(rt: HostRuntime) {
     }
 }
 
-fn assert_refused(rt: &impl Abort, store: &mut Store<MemStore>, edit: Edit) {
+fn assert_refused(rt: &impl Abort, store: &mut Desk, edit: Edit) {
     let result = change(rt, store, edit);
     assert!(rt; matches!(result, Err(StoreFault::Database)));
 }
@@ -308,11 +283,10 @@ fn assert_refused(rt: &impl Abort, store: &mut Store<MemStore>, edit: Edit) {
 fn what_breaks_a_key_is_refused(rt: HostRuntime) {
     on_holder(&rt, rt.alloc(), |store| {
         assert_refused(&rt, store, Edit::Register);
-        let created = Edit::Create(authorization(&rt, rt.alloc(), 1, 24));
-        apply(&rt, store, created);
+        create(&rt, rt.alloc(), store, 1, TO_24);
         // The same AS, prefix and maxLength under another number.
-        let again = Edit::Create(authorization(&rt, rt.alloc(), 2, 24));
-        assert_refused(&rt, store, again);
+        let again = parse_auth(&rt, rt.alloc(), 2, TO_24);
+        assert_refused(&rt, store, Edit::Create(again));
     });
 }
 
@@ -335,14 +309,13 @@ fn database_that_has_tables_is_refused(rt: HostRuntime) {
 #[test]
 fn authorization_that_gives_no_vrp_is_another_schema(rt: HostRuntime) {
     on_holder(&rt, rt.alloc(), |store| {
-        let edit = Edit::Create(authorization(&rt, rt.alloc(), 1, 23));
-        apply(&rt, store, edit);
+        create(&rt, rt.alloc(), store, 1, TO_23);
         let vrps = store.all_auths_on(rt.alloc(), first_of_march(&rt));
         assert!(rt; matches!(vrps, Err(StoreFault::Schema)));
     });
 }
 
-fn apply_files(rt: &impl Abort, store: &mut Store<MemStore>, files: Vec<NamedSlurm>) {
+fn apply_files(rt: &impl Abort, store: &mut Desk, files: Vec<NamedSlurm>) {
     let set = SlurmSet::make(files).expect(rt, "a set");
     store.apply(&Change::Exceptions(set)).expect(rt, "a change");
 }
@@ -352,25 +325,19 @@ fn push_file(rt: &impl Abort, files: &mut Vec<NamedSlurm>, text: &str, file: Slu
     files.push(NamedSlurm { name, file }).expect(rt, "a file");
 }
 
-fn apply_file(
-    rt: &impl Abort,
-    alloc: Global,
-    store: &mut Store<MemStore>,
-    text: &str,
-    file: Slurm,
-) {
+fn apply_file(rt: &impl Abort, alloc: Global, store: &mut Desk, text: &str, file: Slurm) {
     let mut files = Vec::new(alloc);
     push_file(rt, &mut files, text, file);
     apply_files(rt, store, files);
 }
 
 /// The files of the store that have entries.
-fn files_of(rt: &impl Abort, alloc: Global, store: &mut Store<MemStore>) -> Vec<Slurm> {
+fn files_of(rt: &impl Abort, alloc: Global, store: &mut Desk) -> Vec<Slurm> {
     store.slurm_files(alloc).expect(rt, "files")
 }
 
 /// The one file of the store.
-fn only_file(rt: &impl Abort, alloc: Global, store: &mut Store<MemStore>) -> Slurm {
+fn only_file(rt: &impl Abort, alloc: Global, store: &mut Desk) -> Slurm {
     let mut files = files_of(rt, alloc, store);
     assert_same(rt, files.len(), 1, "files");
     files.pop().expect(rt, "a file")
@@ -410,9 +377,8 @@ fn slurm_file_without_entries_is_not_loaded(rt: HostRuntime) {
 fn filters_of(rt: &impl Abort, alloc: Global, files: &[Slurm]) -> Vec<Filter> {
     let mut filters = Vec::new(alloc);
     for file in files {
-        filters
-            .extend_from_slice(file.filters())
-            .expect(rt, "filters");
+        let more = filters.extend_from_slice(file.filters());
+        more.expect(rt, "filters");
     }
     filters
 }
@@ -458,7 +424,7 @@ fn exceptions_loaded(rt: &impl Abort, alloc: Global) -> Slurm {
 
 #[test]
 fn exceptions_are_loaded_by_their_positions(rt: HostRuntime) {
-    let prefix = prefix(&rt, "192.0.2.0/24");
+    let prefix = parse_prefix(&rt, "192.0.2.0/24");
     let filters = [
         Filter::Under(prefix),
         Filter::Both(prefix, Asn(64_497)),
@@ -470,30 +436,20 @@ fn exceptions_are_loaded_by_their_positions(rt: HostRuntime) {
 }
 
 /// `alpha` gives AS 64496 with 192.0.2.0/24 to length 24 by number 1, and to length 25 by number 2.
-fn add_two(rt: &impl Abort, alloc: Global, store: &mut Store<MemStore>) {
+fn add_two(rt: &impl Abort, alloc: Global, store: &mut Desk) {
     add_rows(rt, alloc, store);
-    let edit = Edit::Create(authorization(rt, alloc, 2, 25));
-    apply(rt, store, edit);
-}
-
-fn terms(rt: &impl Abort, alloc: Global, asn: u32, text: &str, max: u8) -> AuthTerms {
-    let day = first_of_march(rt);
-    AuthTerms {
-        asn: Asn(asn),
-        entries: RoaPrefixes::one(alloc, prefix(rt, text), max).expect(rt, "an entry"),
-        from: day,
-        until: day,
-    }
+    create(rt, alloc, store, 2, TO_25);
 }
 
 /// What is loaded for a create at a holder.
-fn for_create(
-    rt: &impl Abort,
-    alloc: Global,
-    store: &mut Store<MemStore>,
-    holder: &str,
-    terms: AuthTerms,
-) -> Loaded {
+fn for_create(rt: &impl Abort, alloc: Global, store: &mut Desk, holder: &str, row: &str) -> Loaded {
+    let auth = parse_auth(rt, alloc, 1, row);
+    let terms = AuthTerms {
+        asn: auth.asn,
+        entries: auth.entries,
+        from: auth.from,
+        until: auth.until,
+    };
     let holder = name(rt, holder);
     loaded_for(rt, alloc, store, &Command::Create { holder, terms })
 }
@@ -506,39 +462,41 @@ fn grants_of(loaded: &Loaded) -> &[Granted] {
     }
 }
 
-/// Whether the terms are held and whether they are given. Only held ones are looked for.
-const CREATES: &[(u32, &str, u8, bool, bool)] = &[
-    (64_496, "192.0.2.0/24", 24, true, true),
-    (64_496, "192.0.2.0/24", 25, true, true),
-    (64_496, "192.0.2.0/24", 26, true, false),
-    (64_497, "192.0.2.0/24", 24, true, false),
-    (64_496, "192.0.2.0/25", 25, true, false),
-    (64_496, "192.0.2.255/32", 32, true, false),
-    (64_496, "192.0.3.0/24", 24, false, false),
-    (64_496, "192.0.2.0/23", 24, false, false),
-    (64_496, "::/0", 24, false, false),
-];
+/// Terms, and whether they are held and whether they are given. Only held ones are looked for.
+const CREATES: &str = r#"
+# held
+AS64496 192.0.2.0/24 24 2026-03-01 2026-03-01 => (true, true)
+AS64496 192.0.2.0/24 25 2026-03-01 2026-03-01 => (true, true)
+AS64496 192.0.2.0/24 26 2026-03-01 2026-03-01 => (true, false)
+AS64497 192.0.2.0/24 24 2026-03-01 2026-03-01 => (true, false)
+AS64496 192.0.2.0/25 25 2026-03-01 2026-03-01 => (true, false)
+AS64496 192.0.2.255/32 32 2026-03-01 2026-03-01 => (true, false)
+# not_held
+AS64496 192.0.3.0/24 24 2026-03-01 2026-03-01 => (false, false)
+AS64496 192.0.2.0/23 24 2026-03-01 2026-03-01 => (false, false)
+AS64496 ::/0 24 2026-03-01 2026-03-01 => (false, false)
+"#;
 
-fn assert_create(
-    rt: &impl Abort,
-    alloc: Global,
-    store: &mut Store<MemStore>,
-    row: &(u32, &str, u8, bool, bool),
-) {
-    let (asn, text, max, holds, gives) = *row;
-    let terms = terms(rt, alloc, asn, text, max);
-    let loaded = for_create(rt, alloc, store, "alpha", terms);
-    assert!(rt; grants_of(&loaded) == [grant(rt)].as_slice(), "{text}");
+/// The two answers are the output of the row.
+fn assert_pair(rt: &impl Abort, alloc: Global, pair: (bool, bool), row: &Row<'_>) {
+    let text = format!(in alloc; "{pair:?}").expect(rt, "a text");
+    assert_output(rt, text.as_str(), row);
+}
+
+fn assert_create(rt: &impl Abort, alloc: Global, store: &mut Desk, row: &Row<'_>) {
+    let loaded = for_create(rt, alloc, store, "alpha", row.input);
+    assert!(rt; grants_of(&loaded) == [grant(rt)].as_slice());
     let answers = &loaded.answers;
-    assert_same(rt, (answers.created, answers.is_full), (2, false), row);
-    assert_same(rt, (answers.holds, answers.gives), (holds, gives), row);
+    let found = (answers.created, answers.is_full);
+    assert_same(rt, found, (2, false), row.input);
+    assert_pair(rt, alloc, (answers.holds, answers.gives), row);
 }
 
 #[test]
 fn what_a_create_asks_is_loaded(rt: HostRuntime) {
     on_holder(&rt, rt.alloc(), |store| {
         add_two(&rt, rt.alloc(), store);
-        for row in CREATES {
+        for row in &rows_of(&rt, rt.alloc(), CREATES) {
             assert_create(&rt, rt.alloc(), store, row);
         }
     });
@@ -546,10 +504,9 @@ fn what_a_create_asks_is_loaded(rt: HostRuntime) {
 
 #[test]
 fn create_at_nobody_is_loaded(rt: HostRuntime) {
-    let terms = terms(&rt, rt.alloc(), 64_496, "192.0.2.0/24", 24);
     on_holder(&rt, rt.alloc(), |store| {
         add_two(&rt, rt.alloc(), store);
-        let loaded = for_create(&rt, rt.alloc(), store, "beta", terms);
+        let loaded = for_create(&rt, rt.alloc(), store, "beta", TO_24);
         assert!(rt; grants_of(&loaded).is_empty());
         let answers = &loaded.answers;
         assert_same(&rt, (answers.created, answers.holds), (0, false), "beta");
@@ -561,8 +518,8 @@ fn is_full(rt: &impl Abort, alloc: Global, count: u32) -> bool {
     on_holder(rt, alloc, |store| {
         hold(rt, alloc, store);
         import(rt, alloc, store, count);
-        let terms = terms(rt, alloc, 64_496, "192.0.2.0/24", 24);
-        for_create(rt, alloc, store, "alpha", terms).answers.is_full
+        let loaded = for_create(rt, alloc, store, "alpha", TO_24);
+        loaded.answers.is_full
     })
 }
 
@@ -573,62 +530,52 @@ fn a_thousand_authorizations_are_full(rt: HostRuntime) {
     }
 }
 
-/// Whether the number is there, and whether another one gives the AS with the amended entry.
-const AMENDMENTS: &[(u32, &[u8], bool, bool)] = &[
-    (1, &[24], true, false),
-    (1, &[25], true, true),
-    (1, &[26], true, false),
-    (1, &[23], true, false),
-    (1, &[25, 25], true, false),
-    (2, &[24], true, true),
-    (2, &[25], true, false),
-    (3, &[24], false, false),
-];
+/// A number and the lengths that are asked for, whether the number is there, and whether another one
+/// gives the AS with the amended entry.
+const AMENDMENTS: &str = r#"
+# there
+1 24 => (true, false)
+1 25 => (true, true)
+1 26 => (true, false)
+1 23 => (true, false)
+1 25 25 => (true, false)
+2 24 => (true, true)
+2 25 => (true, false)
+# not_there
+3 24 => (false, false)
+"#;
 
-/// What is loaded for an amendment at `alpha`.
-fn for_amend(
-    rt: &impl Abort,
-    alloc: Global,
-    store: &mut Store<MemStore>,
-    number: u32,
-    maxes: &[u8],
-) -> Loaded {
+/// The lengths of these words.
+fn parse_maxes(rt: &impl Abort, alloc: Global, words: &str) -> Vec<u8> {
+    let mut maxes = Vec::new(alloc);
+    for word in words.split(' ') {
+        let max = word.parse::<u8>().expect(rt, words);
+        maxes.push(max).expect(rt, "memory");
+    }
+    maxes
+}
+
+fn assert_amendment(rt: &impl Abort, alloc: Global, store: &mut Desk, row: &Row<'_>) {
+    let (number, maxes) = split_word(rt, row.input);
+    let number = number.parse::<u32>().expect(rt, number);
     let command = Command::Amend {
         holder: name(rt, "alpha"),
         number,
-        maxes: Vec::from_slice(alloc, maxes).expect(rt, "lengths"),
+        maxes: parse_maxes(rt, alloc, maxes),
         until: first_of_march(rt),
     };
-    loaded_for(rt, alloc, store, &command)
-}
-
-fn assert_amendment(
-    rt: &impl Abort,
-    alloc: Global,
-    store: &mut Store<MemStore>,
-    row: &(u32, &[u8], bool, bool),
-) {
-    let (number, maxes, is_there, is_shared) = *row;
-    let loaded = for_amend(rt, alloc, store, number, maxes);
+    let loaded = loaded_for(rt, alloc, store, &command);
+    assert!(rt; grants_of(&loaded) == [grant(rt)].as_slice(), "{number}");
     let rows = loaded.rows.as_ref().expect(rt, "rows");
-    assert!(rt;
-        rows.grants.as_slice() == [grant(rt)].as_slice(),
-        "{number}"
-    );
     let found = rows.auths.iter().any(|auth| auth.number == number);
-    assert_same(
-        rt,
-        (found, loaded.answers.gives),
-        (is_there, is_shared),
-        row,
-    );
+    assert_pair(rt, alloc, (found, loaded.answers.gives), row);
 }
 
 #[test]
 fn what_an_amendment_asks_is_loaded(rt: HostRuntime) {
     on_holder(&rt, rt.alloc(), |store| {
         add_two(&rt, rt.alloc(), store);
-        for row in AMENDMENTS {
+        for row in &rows_of(&rt, rt.alloc(), AMENDMENTS) {
             assert_amendment(&rt, rt.alloc(), store, row);
         }
     });

@@ -1,9 +1,9 @@
 //! Sockets that are held to a clock.
 ghost use Rattle.std.specs.Prelude.{⊤};
 
-use crate::clients::{AfterText, Bound, Callers, first_of_march, waiting_client};
+use crate::clients::{AfterText, Bound, Callers, waiting_client};
 use crate::clocks::Slow;
-use crate::comparison::assert_same;
+use crate::desks::{assert_same, first_of_march};
 use addr::Day;
 use cli_tasks::serve::{AnswerConnections, Connections, Incoming, Socket, Timed};
 use requests::Routes;
@@ -192,17 +192,6 @@ fn answer_soon<C: Connections>(
     ended
 }
 
-/// Has a connection of the callers answered, in less than ten seconds.
-fn answer_late(
-    test: &impl Abort,
-    rt: &HostRuntime,
-    callers: &mut Callers<'_>,
-    late: &mut Late<'_>,
-) -> Result<Result<Extent, WebFault>, Failed> {
-    let mut connections = Incoming::new(late.clock, callers, "127.0.0.1:0");
-    answer_soon(test, rt, &mut connections, late)
-}
-
 /// How many bytes a client still has to take.
 fn bytes_left(test: &impl Abort, client: &mut TcpStream) -> usize {
     let mut piece = [0; 16_384];
@@ -230,7 +219,10 @@ fn assert_silent(
         action,
         written: 0,
     };
-    let ended = answer_late(test, rt, callers, &mut late);
+    let ended = {
+        let mut connections = Incoming::new(&clock, callers, "127.0.0.1:0");
+        answer_soon(test, rt, &mut connections, &mut late)
+    };
     assert_same(test, ended, Ok(expected), name);
     if let Some(count) = readings {
         assert_same(test, clock.readings(), count, name);

@@ -1,8 +1,7 @@
 //! The lines on connections that failed.
 ghost use Rattle.std.specs.Prelude.{None, true};
 
-use crate::clients::{first_of_march, on_desk};
-use crate::comparison::assert_same;
+use crate::desks::{assert_same, first_of_march, on_desk};
 use addr::Day;
 use cli_tasks::serve::{AnswerConnections, Connections, Printed, answer_each};
 use desk::Desk;
@@ -79,44 +78,35 @@ impl Connections for Clients<'_> {
 
 const REQUEST: &str = "GET /payloads HTTP/1.1\r\nDesk-Caller: reg\r\nContent-Length: 0\r\n\r\n";
 
-const CUT_SHORT: &str = "GET /payloads HTTP/1.1\r\nDesk-Cal";
+const WHOLE: (Option<&str>, usize) = (Some(REQUEST), 256);
+
+const CUT_SHORT: (Option<&str>, usize) = (Some("GET /payloads HTTP/1.1\r\nDesk-Cal"), 256);
+
+const RESET: (Option<&str>, usize) = (None, 256);
+
+const NOTHING: (Option<&str>, usize) = (Some(""), 0);
 
 /// The connections, how many are wanted, what becomes of the run, and the lines on those that
 /// failed.
 const RUNS: [(&[(Option<&str>, usize)], u32, Result<(), Failed>, &str); 6] = [
     (&[], 0, Ok(()), ""),
+    (&[WHOLE, CUT_SHORT], 1, Ok(()), ""),
     (
-        &[(Some(REQUEST), 256), (Some(CUT_SHORT), 256)],
-        1,
-        Ok(()),
-        "",
-    ),
-    (
-        &[
-            (Some(REQUEST), 256),
-            (Some(CUT_SHORT), 256),
-            (Some(REQUEST), 256),
-            (Some(REQUEST), 100),
-            (Some(""), 0),
-        ],
+        &[WHOLE, CUT_SHORT, WHOLE, (Some(REQUEST), 100), NOTHING],
         5,
         Ok(()),
         "roadesk: connection 2: fault 1\nroadesk: connection 4: fault 2\n\
         roadesk: connection 5: fault 1\n",
     ),
     (
-        &[(None, 256), (Some(REQUEST), 256), (None, 256)],
+        &[RESET, WHOLE, RESET],
         3,
         Ok(()),
         "roadesk: connection 1: fault 1\nroadesk: connection 3: fault 1\n",
     ),
     (&[], 1, Err(Failed), ""),
     (
-        &[
-            (Some(CUT_SHORT), 256),
-            (Some(REQUEST), 256),
-            (Some(REQUEST), 0),
-        ],
+        &[CUT_SHORT, WHOLE, (Some(REQUEST), 0)],
         4,
         Err(Failed),
         "roadesk: connection 1: fault 1\nroadesk: connection 3: fault 2\n",
@@ -188,7 +178,7 @@ fn a_line_that_cannot_be_written_is_lost(rt: HostRuntime) {
             has_failed: false,
             taken: &mut taken,
         };
-        let clients: [(Option<&str>, usize); 2] = [(Some(""), 0), (Some(""), 0)];
+        let clients = [NOTHING, NOTHING];
         let ended = answer_clients(&rt, rt.alloc(), desk, (&clients, 2), &mut errors);
         assert_same(&rt, ended, Ok(()), "two clients");
         let line = b"roadesk: connection 2: fault 1\n".as_slice();

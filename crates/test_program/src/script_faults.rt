@@ -1,5 +1,5 @@
 //! The lines and statuses of faults of scripts and of the store.
-use crate::comparison::assert_same;
+use crate::desks::assert_same;
 use cli_tasks::fault::{fault_of_script, fault_of_store};
 use std::rt::HostRuntime;
 use store::StoreFault;

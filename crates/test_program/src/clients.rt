@@ -1,9 +1,8 @@
-//! Clients on the loopback, and the desk that they ask.
-use addr::Day;
+//! Clients on the loopback, and what they are answered.
+use crate::desks::{first_of_march, request_text};
 use cli_tasks::serve::{Connections, Incoming, Network, Printed, serve_on};
-use cli_texts::charter_from;
 use desk::Desk;
-use sqlite::{Alter, MemStore};
+use sqlite::Alter;
 use std::alloc::Global;
 use std::io::{self, ErrorKind, Read, Write};
 use std::net::{Shutdown, SocketAddr, TcpListener, TcpStream};
@@ -11,42 +10,16 @@ use std::process::Abort;
 use std::rt::HostRuntime;
 use std::time::Clock;
 
-pub(crate) const CHARTER: &str = "kind,value\noperator,reg\npool,192.0.2.0/24\n";
+/// Requests after which `ann` manages `alpha`.
+pub(crate) const HOLDER: &str = r#"
+PUT /holders/alpha reg 
+POST /holders/alpha/delegations reg {"prefix":"192.0.2.0/24"}
+POST /holders/alpha/grants reg {"name":"ann","role":"manager","scope":"all","until":"2026-12-31"}
+"#;
 
-/// Requests that leave one authorization at `alpha`, as caller, method, path and body.
-pub(crate) const SETUP: [(&str, &str, &str, &str); 4] = [
-    ("reg", "PUT", "/holders/alpha", ""),
-    (
-        "reg",
-        "POST",
-        "/holders/alpha/delegations",
-        "{\"prefix\":\"192.0.2.0/24\"}",
-    ),
-    (
-        "reg",
-        "POST",
-        "/holders/alpha/grants",
-        "{\"name\":\"ann\",\"role\":\"manager\",\"scope\":\"all\",\"until\":\"2026-12-31\"}",
-    ),
-    ("ann", "POST", "/holders/alpha/auths", CREATE),
-];
-
-pub(crate) const CREATE: &str = "{\"asn\":64496,\"prefix\":\"192.0.2.0/24\",\"max\":24,\
-    \"from\":\"2026-01-01\",\"until\":\"2026-12-31\"}";
-
-/// The day of a test whose rows name none.
-pub(crate) fn first_of_march(test: &impl Abort) -> Day {
-    Day::read(b"2026-03-01").expect(test, "a day")
-}
-
-/// Lends a new desk. What owns a desk is slow to prove, so the tests borrow one.
-pub(crate) fn on_desk<R: Abort + AllocGlobal, F: FnOnce(&mut Desk<MemStore>)>(rt: &R, ask: F)
-    requires { F.IsAlwaysCallable ask }
-{
-    let charter = charter_from(rt.alloc(), CHARTER.as_bytes()).expect(rt, "a charter");
-    let mut desk = Desk::open_memory(rt.alloc(), &charter).expect(rt, "memory");
-    ask(&mut desk);
-}
+/// A request after those of `HOLDER`, which leaves one authorization.
+pub(crate) const CREATE: &str =
+    r#"POST /holders/alpha/auths ann {"asn":64496,"prefix":"192.0.2.0/24","max":24,"from":"2026-01-01","until":"2026-12-31"}"#;
 
 /// What the clients were answered, and the lines on their connections.
 #[derive(Drop)]
@@ -55,39 +28,17 @@ pub(crate) struct Served {
     pub(crate) errors: Vec<u8>,
 }
 
-fn request(
-    test: &impl Abort,
-    alloc: Global,
-    (caller, method, path, body): (&str, &str, &str, &str),
-) -> String {
-    let text = format!(in alloc;
-        "{method} {path} HTTP/1.1\r\nDesk-Caller: {caller}\r\n\
-        Content-Length: {}\r\n\r\n{body}",
-        body.len()
-    );
-    text.expect(test, "a text")
-}
-
-/// Adds the requests as texts.
-pub(crate) fn add_requests(
-    test: &impl Abort,
-    alloc: Global,
-    parts: &[(&str, &str, &str, &str)],
-    texts: &mut Vec<String>,
-) {
-    for one in parts {
-        texts.push(request(test, alloc, *one)).expect(test, "texts");
-    }
-}
-
-/// The requests as texts.
-pub(crate) fn requests(
-    test: &impl Abort,
-    alloc: Global,
-    parts: &[(&str, &str, &str, &str)],
-) -> Vec<String> {
+/// The requests of the rows, which are the lines of these texts.
+pub(crate) fn requests(test: &impl Abort, alloc: Global, tables: &[&str]) -> Vec<String> {
     let mut texts = Vec::new(alloc);
-    add_requests(test, alloc, parts, &mut texts);
+    for table in tables {
+        for row in table.lines() {
+            if !row.is_empty() {
+                let text = request_text(test, alloc, row);
+                texts.push(text).expect(test, "texts");
+            }
+        }
+    }
     texts
 }
 
@@ -124,30 +75,14 @@ impl<'a> Callers<'a> {
 
     fn connect_each(&mut self, address: SocketAddr) -> io::Result<()> {
         for text in self.texts {
-            let client = connect_with(self.rt, address, text.as_str(), self.after)?;
+            let mut client = TcpStream::connect(self.rt, address)?;
+            client.write_all(text.as_bytes())?;
+            if matches!(self.after, AfterText::ShutsWriting) {
+                client.shutdown(Shutdown::Write)?;
+            }
             self.clients.push(client)?;
         }
         Ok(())
-    }
-}
-
-/// A client that has connected and sent the text.
-fn connect_with(
-    rt: &HostRuntime,
-    address: SocketAddr,
-    text: &str,
-    after: AfterText,
-) -> io::Result<TcpStream> {
-    let mut client = TcpStream::connect(rt, address)?;
-    send(&mut client, text, after)?;
-    Ok(client)
-}
-
-fn send(client: &mut TcpStream, text: &str, after: AfterText) -> io::Result<()> {
-    client.write_all(text.as_bytes())?;
-    match after {
-        AfterText::ShutsWriting => client.shutdown(Shutdown::Write),
-        AfterText::StaysOpen => Ok(()),
     }
 }
 

@@ -1,15 +1,13 @@
 //! Databases that were made by SQL, and what opening them as a store answers: `ok`, or the fault.
 //! The statements and the answers follow from the formats of the tables.
-use crate::comparison::assert_same;
 use crate::example_database::{TABLES, made, made_old};
+use crate::tables::{assert_output, assert_same, given, rows_of};
 use sqlite::{Alter, Connection, MemStore};
 use sqlite_disk::{Disk, Files, Memory};
 use sqlite_pager::Options;
 use std::alloc::Global;
 use std::process::Abort;
-use std::test::Fail;
 use store::{Store, StoreFault};
-use test_library::rows::{Row, table_rows};
 
 /// Statements over the rows of the example, and what the opening answers then.
 const CHANGED_ROWS: &str = r#"
@@ -276,6 +274,8 @@ CREATE TABLE entry | CREATE INDEX run_of ON holding (holder); CREATE TABLE entry
 CREATE TABLE entry | CREATE INDEX claim_by_as ON claim (asn, opens); CREATE TABLE entry => database
 "#;
 
+type Database = Connection<MemStore>;
+
 fn answer_of<S: Alter + Drop>(alloc: Global, conn: Connection<S>) -> &'static str {
     match Store::open_from(alloc, conn) {
         Ok(_store) => "ok",
@@ -285,84 +285,63 @@ fn answer_of<S: Alter + Drop>(alloc: Global, conn: Connection<S>) -> &'static st
 }
 
 /// The example with these tables.
-pub(crate) fn database(rt: &impl Abort, alloc: Global, tables: &str) -> Connection<MemStore> {
-    match made(alloc, tables) {
-        Ok(conn) => conn,
-        Err(_fail) => rt.panic("no database"),
-    }
+pub(crate) fn database(rt: &impl Abort, alloc: Global, tables: &str) -> Database {
+    given(rt, made(alloc, tables), "no database")
 }
 
 /// The example of schema 1.
-fn old_database(rt: &impl Abort, alloc: Global) -> Connection<MemStore> {
-    match made_old(alloc) {
-        Ok(conn) => conn,
-        Err(_fail) => rt.panic("no database of schema 1"),
-    }
+fn old_database(rt: &impl Abort, alloc: Global) -> Database {
+    given(rt, made_old(alloc), "no database of schema 1")
 }
 
 /// What the opening answers once these statements ran.
-fn answer_after(
-    rt: &impl Abort,
-    alloc: Global,
-    mut conn: Connection<MemStore>,
-    statements: &str,
-) -> &'static str {
-    conn.execute_batch(statements).expect(rt, statements);
+fn answer_after(rt: &impl Abort, alloc: Global, mut conn: Database, batch: &str) -> &'static str {
+    conn.execute_batch(batch).expect(rt, batch);
     answer_of(alloc, conn)
 }
 
-fn assert_answer(rt: &impl Abort, answer: &str, row: &Row<'_>) {
-    assert_same(rt, answer, row.output, (row.name, row.input));
-}
-
-fn assert_answers(rt: &impl Abort, alloc: Global, rows: &str) -> Result<(), Fail> {
-    for row in &table_rows(alloc, rows)? {
+fn assert_answers(rt: &impl Abort, alloc: Global, rows: &str) {
+    for row in &rows_of(rt, alloc, rows) {
         let answer = answer_after(rt, alloc, database(rt, alloc, TABLES), row.input);
-        assert_answer(rt, answer, row);
+        assert_output(rt, answer, row);
     }
-    Ok(())
 }
 
 #[test]
-fn opening_asks_each_row(rt: HostRuntime) -> Result<(), Fail> {
-    assert_answers(&rt, rt.alloc(), CHANGED_ROWS)
+fn opening_asks_each_row(rt: HostRuntime) {
+    assert_answers(&rt, rt.alloc(), CHANGED_ROWS);
 }
 
 #[test]
-fn opening_asks_each_claim(rt: HostRuntime) -> Result<(), Fail> {
-    assert_answers(&rt, rt.alloc(), CHANGED_CLAIMS)
+fn opening_asks_each_claim(rt: HostRuntime) {
+    assert_answers(&rt, rt.alloc(), CHANGED_CLAIMS);
 }
 
 #[test]
-fn opening_asks_for_each_table(rt: HostRuntime) -> Result<(), Fail> {
-    assert_answers(&rt, rt.alloc(), CHANGED_TABLES)
+fn opening_asks_for_each_table(rt: HostRuntime) {
+    assert_answers(&rt, rt.alloc(), CHANGED_TABLES);
 }
 
 #[test]
-fn opening_asks_each_exception(rt: HostRuntime) -> Result<(), Fail> {
-    assert_answers(&rt, rt.alloc(), EXCEPTIONS)
+fn opening_asks_each_exception(rt: HostRuntime) {
+    assert_answers(&rt, rt.alloc(), EXCEPTIONS);
 }
 
 #[test]
-fn opening_moves_the_tables_of_schema_1(rt: HostRuntime) -> Result<(), Fail> {
-    for row in &table_rows(rt.alloc(), OLD_ROWS)? {
+fn opening_moves_the_tables_of_schema_1(rt: HostRuntime) {
+    for row in &rows_of(&rt, rt.alloc(), OLD_ROWS) {
         let conn = old_database(&rt, rt.alloc());
         let answer = answer_after(&rt, rt.alloc(), conn, row.input);
-        assert_answer(&rt, answer, row);
+        assert_output(&rt, answer, row);
     }
-    Ok(())
 }
 
-pub(crate) fn opened(
-    rt: &impl Abort,
-    alloc: Global,
-    conn: Connection<MemStore>,
-) -> Store<MemStore> {
+pub(crate) fn opened(rt: &impl Abort, alloc: Global, conn: Database) -> Store<MemStore> {
     Store::open_from(alloc, conn).expect(rt, "an open store")
 }
 
 /// How many rows are in `meta`, `claim`, `entry` and `auth`.
-fn count_rows(rt: &impl Abort, conn: &mut Connection<MemStore>) -> usize {
+fn count_rows(rt: &impl Abort, conn: &mut Database) -> usize {
     let rows = conn.query_all(
         "SELECT value FROM meta UNION ALL SELECT number FROM claim UNION ALL SELECT max FROM entry UNION ALL SELECT number FROM auth",
         &[],
@@ -389,12 +368,11 @@ fn answer_of_tables(rt: &impl Abort, alloc: Global, parts: &str) -> &'static str
 }
 
 #[test]
-fn opening_asks_the_tables(rt: HostRuntime) -> Result<(), Fail> {
-    for row in &table_rows(rt.alloc(), OTHER_TABLES)? {
+fn opening_asks_the_tables(rt: HostRuntime) {
+    for row in &rows_of(&rt, rt.alloc(), OTHER_TABLES) {
         let answer = answer_of_tables(&rt, rt.alloc(), row.input);
-        assert_answer(&rt, answer, row);
+        assert_output(&rt, answer, row);
     }
-    Ok(())
 }
 
 /// A desk without its index stays so: what has no index of this name makes one.

@@ -1,19 +1,10 @@
 //! Requests of every path, and what they are refused for.
-use super::{
-    assert_csv, assert_response, assert_rows, json_response, on_holder_desk, on_new_desk,
-    response_of,
-};
+use super::{assert_rows, assert_spelled, on_holder_desk};
+use crate::desks::{on_desk, rows_of};
 use desk::Desk;
 use sqlite::MemStore;
 use std::alloc::Global;
 use std::process::Abort;
-
-pub(crate) const REGISTERED_HOLDER: &str = r#"
-# registered_holder
-PUT /holders/alpha reg => 200 {"done":null}
-POST /holders/alpha/delegations reg {"prefix":"192.0.2.0/24"} => 200 {"done":null}
-POST /holders/alpha/grants reg {"name":"ann","role":"manager","scope":"all","until":"2026-12-31"} => 200 {"done":1}
-"#;
 
 const EVERY_PATH: &str = r#"
 # http_denial_is_403
@@ -129,54 +120,38 @@ GET /holders/Alpha/export Ann => 400 {"malformed":3}
 GET /holders/alpha/export Ann => 400 {"malformed":4}
 "#;
 
-const PAYLOADS: &str = "GET /payloads bob";
-
-const CREATED: &str = r#"
+/// The payloads before a create and after it.
+const PAYLOADS: &str = r#"
 # http_payloads_as_csv
+GET /payloads bob => CSV asn,prefix,maxlength;
 POST /holders/alpha/auths ann {"asn":64496,"prefix":"192.0.2.0/24","max":24,"from":"2026-01-01","until":"2026-12-31"} => 200 {"done":1}
+GET /payloads bob => CSV asn,prefix,maxlength;AS64496,192.0.2.0/24,24;
 "#;
 
-const ONE_PAYLOAD: &str = "asn,prefix,maxlength\nAS64496,192.0.2.0/24,24\n";
-
 /// Targets that no path has.
-const NOT_FOUND: [&str; 16] = [
-    "/payloads?x",
-    "/payloads?",
-    "/payloads#x",
-    "/payloads/",
-    "//payloads",
-    "/Payloads",
-    "/%70ayloads",
-    "/",
-    "*",
-    "payloads",
-    "http://desk/payloads",
-    "/holders/",
-    "/holders//auths",
-    "/holders/alpha/auths/",
-    "/holders/alpha/exports",
-    "/holders/alpha/import",
-];
+const NOT_FOUND: &str = "/payloads?x /payloads? /payloads#x /payloads/ //payloads /Payloads \
+    /%70ayloads / * payloads http://desk/payloads /holders/ /holders//auths \
+    /holders/alpha/auths/ /holders/alpha/exports /holders/alpha/import";
 
 /// Paths, and the methods that each has in the order of the table of routes.
-const ALLOWED: [(&str, &str); 16] = [
-    ("/holders/alpha", "PUT"),
-    ("/holders/alpha/delegations", "POST"),
-    ("/holders/alpha/reclaims", "POST"),
-    ("/transfers", "POST"),
-    ("/holders/alpha/grants", "POST"),
-    ("/holders/alpha/grants/1", "DELETE"),
-    ("/holders/alpha/auths", "GET, POST"),
-    ("/holders/alpha/auths/1", "GET, PATCH, DELETE"),
-    ("/holders/alpha/auths/1/content", "GET"),
-    ("/holders/alpha/export", "GET"),
-    ("/holders/alpha/imports", "POST"),
-    ("/holders/alpha/whatif", "POST"),
-    ("/slurm", "PUT"),
-    ("/slurms", "PUT"),
-    ("/payloads", "GET"),
-    ("/validity", "POST"),
-];
+const ALLOWED: &str = r#"
+/holders/alpha => PUT
+/holders/alpha/delegations => POST
+/holders/alpha/reclaims => POST
+/transfers => POST
+/holders/alpha/grants => POST
+/holders/alpha/grants/1 => DELETE
+/holders/alpha/auths => GET, POST
+/holders/alpha/auths/1 => GET, PATCH, DELETE
+/holders/alpha/auths/1/content => GET
+/holders/alpha/export => GET
+/holders/alpha/imports => POST
+/holders/alpha/whatif => POST
+/slurm => PUT
+/slurms => PUT
+/payloads => GET
+/validity => POST
+"#;
 
 const METHODS: [&str; 9] = [
     "GET", "PUT", "POST", "PATCH", "DELETE", "HEAD", "OPTIONS", "get", "TRACE",
@@ -184,32 +159,29 @@ const METHODS: [&str; 9] = [
 
 #[test]
 fn every_path_is_answered(rt: HostRuntime) {
-    on_holder_desk(&rt, rt.alloc(), |desk| {
+    on_holder_desk(&rt, |desk| {
         assert_rows(&rt, rt.alloc(), desk, EVERY_PATH);
     });
 }
 
 #[test]
 fn slurm_files_are_put(rt: HostRuntime) {
-    on_new_desk(&rt, rt.alloc(), |desk| {
+    on_desk(&rt, |desk| {
         assert_rows(&rt, rt.alloc(), desk, SLURM_FILES);
     });
 }
 
 #[test]
 fn malformed_requests_have_their_lowest_number(rt: HostRuntime) {
-    on_holder_desk(&rt, rt.alloc(), |desk| {
+    on_holder_desk(&rt, |desk| {
         assert_rows(&rt, rt.alloc(), desk, MALFORMED);
     });
 }
 
-/// The payloads before a create and after it.
 #[test]
 fn payloads_are_answered_as_csv(rt: HostRuntime) {
-    on_holder_desk(&rt, rt.alloc(), |desk| {
-        assert_csv(&rt, rt.alloc(), desk, PAYLOADS, "asn,prefix,maxlength\n");
-        assert_rows(&rt, rt.alloc(), desk, CREATED);
-        assert_csv(&rt, rt.alloc(), desk, PAYLOADS, ONE_PAYLOAD);
+    on_holder_desk(&rt, |desk| {
+        assert_rows(&rt, rt.alloc(), desk, PAYLOADS);
     });
 }
 
@@ -219,21 +191,20 @@ fn assert_refused(
     alloc: Global,
     desk: &mut Desk<MemStore>,
     (method, target, fields): (&str, &str, &str),
-    response: &str,
+    output: &str,
 ) {
     let request = format!(in alloc; "{method} {target} HTTP/1.1\r\n{fields}\r\n");
     let request = request.expect(rt, "a request");
-    assert_response(rt, alloc, desk, request.as_bytes(), response, target);
+    assert_spelled(rt, alloc, desk, &request, output);
 }
 
 #[test]
 fn target_without_a_path_is_not_found(rt: HostRuntime) {
-    on_new_desk(&rt, rt.alloc(), |desk| {
-        let response = json_response(&rt, rt.alloc(), "404 {\"error\":404}");
-        for target in NOT_FOUND {
+    on_desk(&rt, |desk| {
+        for target in NOT_FOUND.split(' ') {
             for method in METHODS {
                 let request = (method, target, "");
-                assert_refused(&rt, rt.alloc(), desk, request, &response);
+                assert_refused(&rt, rt.alloc(), desk, request, "404 {\"error\":404}");
             }
         }
     });
@@ -247,22 +218,20 @@ fn assert_others_refused(
     path: &str,
     allowed: &str,
 ) {
-    let fields = format!(in alloc; "Allow: {allowed}\r\n").expect(rt, "a field");
-    let body = "{\"error\":405}\n";
-    let response = response_of(rt, alloc, "405", "application/json", &fields, body);
+    let output = format!(in alloc; "405 {allowed}").expect(rt, "an output");
     for method in METHODS {
         if !allowed.split(", ").any(|name| name == method) {
             let request = (method, path, "Transfer-Encoding: chunked\r\n");
-            assert_refused(rt, alloc, desk, request, &response);
+            assert_refused(rt, alloc, desk, request, &output);
         }
     }
 }
 
 #[test]
 fn other_methods_are_answered_with_those_allowed(rt: HostRuntime) {
-    on_new_desk(&rt, rt.alloc(), |desk| {
-        for (path, allowed) in ALLOWED {
-            assert_others_refused(&rt, rt.alloc(), desk, path, allowed);
+    on_desk(&rt, |desk| {
+        for row in &rows_of(&rt, rt.alloc(), ALLOWED) {
+            assert_others_refused(&rt, rt.alloc(), desk, row.input, row.output);
         }
     });
 }

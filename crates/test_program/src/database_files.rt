@@ -1,8 +1,6 @@
 //! Tasks over files, and the desk that they leave in a file.
-use crate::clients::{
-    AfterText, CHARTER, Callers, SETUP, Served, answers_to, first_of_march, requests, serve,
-};
-use crate::comparison::assert_same;
+use crate::clients::{AfterText, CREATE, Callers, HOLDER, Served, answers_to, requests, serve};
+use crate::desks::{assert_same, first_of_march, rows_of, spelled};
 use addr::Day;
 use cli_tasks::help::help_text;
 use cli_tasks::{Host, run_task};
@@ -17,6 +15,8 @@ use std::process::Abort;
 use std::rt::HostRuntime;
 
 const FOLDER: &str = "roadesk_test";
+
+const CHARTER: &str = "kind,value\noperator,reg\npool,192.0.2.0/24\n";
 
 const CHARTER_FILE: &str = "roadesk_test/charter.csv";
 
@@ -128,21 +128,17 @@ fn closes(desk: Desk<FileStore<FileFrom<Unknown>>>) -> bool {
 }
 
 /// The desk in the database answers these requests, each on a connection of its own, and is closed.
-fn serve_database(
-    test: &impl Abort,
-    rt: &HostRuntime,
-    parts: &[(&str, &str, &str, &str)],
-) -> Served {
-    let texts = requests(test, rt.alloc(), parts);
+fn serve_database(test: &impl Abort, rt: &HostRuntime, tables: &[&str]) -> Served {
+    let texts = requests(test, rt.alloc(), tables);
     let mut desk = open(test, rt);
     let served = serve(test, rt, rt, &mut desk, &texts, AfterText::ShutsWriting);
     assert!(test; closes(desk));
     served
 }
 
-/// The desk in the database has the authorization of `SETUP`.
+/// The desk in the database has the authorization of `CREATE`.
 fn assert_authorization(test: &impl Abort, rt: &HostRuntime) {
-    let served = serve_database(test, rt, &[("ann", "GET", "/holders/alpha/auths/1", "")]);
+    let served = serve_database(test, rt, &["GET /holders/alpha/auths/1 ann "]);
     assert_same(test, served.answers.len(), 1, "answers");
     let answer = served.answers.first().expect(test, "an answer");
     assert!(test;
@@ -161,7 +157,7 @@ fn a_desk_in_a_file_is_served_again(rt: HostRuntime) {
     make_folder(&rt, &rt);
     make_database(&rt, &rt, day);
     assert_refused(&rt, &rt, day);
-    let served = serve_database(&rt, &rt, &SETUP);
+    let served = serve_database(&rt, &rt, &[HOLDER, CREATE]);
     assert_same(&rt, served.errors.len(), 0, "lines on connections");
     assert_authorization(&rt, &rt);
     remove_folder(&rt, &rt);
@@ -179,13 +175,8 @@ fn an_empty_file_is_not_served(rt: HostRuntime) {
 }
 
 /// Runs the task `serve` for a connection for each of the requests, and returns the answers.
-fn serve_requests(
-    test: &impl Abort,
-    rt: &HostRuntime,
-    day: Day,
-    parts: &[(&str, &str, &str, &str)],
-) -> Vec<String> {
-    let texts = requests(test, rt.alloc(), parts);
+fn serve_requests(test: &impl Abort, rt: &HostRuntime, day: Day, tables: &[&str]) -> Vec<String> {
+    let texts = requests(test, rt.alloc(), tables);
     let mut callers = Callers::new(rt, &texts, AfterText::ShutsWriting);
     let task = Task::Serve {
         database: DATABASE,
@@ -197,24 +188,18 @@ fn serve_requests(
     answers_to(test, rt.alloc(), &mut callers.clients)
 }
 
-/// Days, and the payloads that a desk exports on them which has the authorization of `SETUP`.
-const DAYS: [(&str, &str); 4] = [
-    ("2025-12-31", "asn,prefix,maxlength\n"),
-    (
-        "2026-01-01",
-        "asn,prefix,maxlength\nAS64496,192.0.2.0/24,24\n",
-    ),
-    (
-        "2026-12-31",
-        "asn,prefix,maxlength\nAS64496,192.0.2.0/24,24\n",
-    ),
-    ("2027-01-01", "asn,prefix,maxlength\n"),
-];
+/// Days, and the payloads that a desk exports on them which has the authorization of `CREATE`.
+const DAYS: &str = r#"
+2025-12-31 => asn,prefix,maxlength;
+2026-01-01 => asn,prefix,maxlength;AS64496,192.0.2.0/24,24;
+2026-12-31 => asn,prefix,maxlength;AS64496,192.0.2.0/24,24;
+2027-01-01 => asn,prefix,maxlength;
+"#;
 
-/// Each request of `SETUP` is accepted.
+/// Each request up to the create is accepted.
 fn serve_setup(test: &impl Abort, rt: &HostRuntime) {
-    let answers = serve_requests(test, rt, first_of_march(test), &SETUP);
-    assert_same(test, answers.len(), SETUP.len(), "answers");
+    let answers = serve_requests(test, rt, first_of_march(test), &[HOLDER, CREATE]);
+    assert_same(test, answers.len(), 4, "answers");
     for (number, answer) in answers.iter().enumerate() {
         assert!(test;
             answer.starts_with("HTTP/1.1 200 OK\r\n"),
@@ -225,11 +210,13 @@ fn serve_setup(test: &impl Abort, rt: &HostRuntime) {
 
 /// The desk exports the payloads of each of `DAYS`.
 fn assert_days(test: &impl Abort, rt: &HostRuntime) {
-    for (text, payloads) in DAYS {
+    for row in &rows_of(test, rt.alloc(), DAYS) {
+        let text = row.input;
+        let payloads = spelled(test, rt.alloc(), row.output);
         let day = Day::read(text.as_bytes()).expect(test, text);
-        let answers = serve_requests(test, rt, day, &[("bob", "GET", "/payloads", "")]);
+        let answers = serve_requests(test, rt, day, &["GET /payloads bob "]);
         let answer = answers.first().expect(test, text);
-        assert!(test; answer.ends_with(payloads), "{text}");
+        assert!(test; answer.ends_with(payloads.as_str()), "{text}");
     }
 }
 

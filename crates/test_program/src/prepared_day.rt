@@ -1,21 +1,19 @@
 //! The day that `serve` prepares before its first connection, and again after one that lost it.
 ghost use Rattle.std.specs.Prelude.{⊤};
 
-use crate::clients::{
-    AfterText, Bound, CHARTER, SETUP, add_requests, first_of_march, on_desk, requests, serve,
-};
-use crate::comparison::assert_same;
+use crate::clients::{AfterText, Bound, CREATE, HOLDER, requests, serve};
+use crate::desks::{assert_same, first_of_march, on_desk, rows_of};
 use crate::lines_on_faults::Clients;
+use crate::refused_memory::assert_made;
 use addr::Day;
 use cli_tasks::serve::{AnswerConnections, Incoming, Printed, answer_each, serve_on};
-use cli_texts::charter_from;
 use desk::Desk;
 use requests::Routes;
 use sqlite::MemStore;
 use std::alloc::Global;
 use std::process::Abort;
 use std::rt::HostRuntime;
-use web::{Device, Drain, Extent, Failed, Source, WebFault, run_script};
+use web::{Drain, Extent, Failed, Source, WebFault};
 
 /// The desk serves no connection.
 fn serve_none(rt: &HostRuntime, desk: &mut Desk<MemStore>, day: Day) -> Result<(), Failed> {
@@ -37,18 +35,13 @@ fn the_day_is_kept_before_the_first_connection(rt: HostRuntime) {
     });
 }
 
-const NO_FILES: &str = "{\"files\":[]}";
-
-/// A request after those of `SETUP`, as caller, method, path and body, and how its response begins.
-const AFTER_SETUP: [((&str, &str, &str, &str), &str); 4] = [
-    (
-        ("ann", "GET", "/holders/alpha/auths/1", ""),
-        "HTTP/1.1 200 ",
-    ),
-    (("reg", "PUT", "/slurms", NO_FILES), "HTTP/1.1 200 "),
-    (("ann", "PUT", "/slurms", NO_FILES), "HTTP/1.1 403 "),
-    (("reg", "PUT", "/slurms", "{"), "HTTP/1.1 400 "),
-];
+/// A request after that of `CREATE`, and how its response begins.
+const AFTER_CREATE: &str = r#"
+GET /holders/alpha/auths/1 ann  => HTTP/1.1 200 
+PUT /slurms reg {"files":[]} => HTTP/1.1 200 
+PUT /slurms ann {"files":[]} => HTTP/1.1 403 
+PUT /slurms reg { => HTTP/1.1 400 
+"#;
 
 /// The desk answers the requests, the last of them so, and the day is kept then.
 fn assert_kept_after(
@@ -66,11 +59,10 @@ fn assert_kept_after(
 
 #[test]
 fn the_day_is_kept_after_each_connection(rt: HostRuntime) {
-    for (last, begins) in &AFTER_SETUP {
-        let mut texts = requests(&rt, rt.alloc(), &SETUP);
-        add_requests(&rt, rt.alloc(), &[*last], &mut texts);
+    for row in &rows_of(&rt, rt.alloc(), AFTER_CREATE) {
+        let texts = requests(&rt, rt.alloc(), &[HOLDER, CREATE, row.input]);
         on_desk(&rt, |desk| {
-            assert_kept_after(&rt, &rt, desk, &texts, begins);
+            assert_kept_after(&rt, &rt, desk, &texts, row.output);
         });
     }
 }
@@ -162,67 +154,24 @@ fn a_day_that_found_no_memory_is_not_tried_again(rt: HostRuntime) {
     }
 }
 
-/// Requests that leave one authorization, as lines, and the replies.
-const LINES: &str = r#"{"day":"2026-03-01","caller":"reg","do":"register","holder":"alpha"}
-{"day":"2026-03-01","caller":"reg","do":"delegate","holder":"alpha","prefix":"192.0.2.0/24"}
-{"day":"2026-03-01","caller":"reg","do":"grant","holder":"alpha","name":"ann","role":"manager","scope":"all","until":"2026-12-31"}
-{"day":"2026-03-01","caller":"ann","do":"create","holder":"alpha","asn":64496,"prefix":"192.0.2.0/24","max":24,"from":"2026-01-01","until":"2026-12-31"}
-"#;
-
-const REPLIES: &[u8] = b"{\"done\":null}\n{\"done\":null}\n{\"done\":1}\n{\"done\":1}\n";
-
-/// Has the desk answer the lines, and returns whether each was accepted.
-fn accepts_lines(alloc: Global, desk: &mut Desk<MemStore>) -> bool {
-    let mut page = [0; 64];
-    let ended = {
-        let mut source = Device::new(LINES.as_bytes());
-        let mut drain = Device::new(&mut page[..]);
-        run_script(alloc, &mut source, &mut drain, desk)
-    };
-    ended.is_ok() && page.starts_with(REPLIES)
-}
-
-fn try_desk(alloc: Global) -> Option<Desk<MemStore>> {
-    let charter = charter_from(alloc, CHARTER.as_bytes()).ok()?;
-    let mut desk = Desk::open_memory(alloc, &charter).ok()?;
-    if accepts_lines(alloc, &mut desk) {
-        Some(desk)
-    } else {
-        None
-    }
-}
-
-/// Lends a desk with one authorization, if one allocation is refused at most.
-fn on_desk_with_one<F: FnOnce(&mut Desk<MemStore>)>(test: &impl Abort, alloc: Global, ask: F)
-    requires { F.IsAlwaysCallable ask }
-{
-    let mut desk = match try_desk(alloc) {
-        Some(desk) => desk,
-        None => try_desk(alloc).expect(test, "a desk"),
-    };
-    ask(&mut desk);
-}
-
-const WHAT_IF: (&str, &str, &str, &str) = (
-    "ann",
-    "POST",
-    "/holders/alpha/whatif",
-    "{\"changes\":[{\"do\":\"withdraw\",\"number\":1}],\
-    \"routes\":[{\"prefix\":\"192.0.2.0/24\",\"origin\":64496}]}",
-);
-
 /// A what-if as the first request, and one after an accepted SLURM set.
-const WHAT_IFS: [&[(&str, &str, &str, &str)]; 2] = [
-    &[WHAT_IF],
-    &[("reg", "PUT", "/slurms", NO_FILES), WHAT_IF],
+const WHAT_IFS: [&str; 2] = [
+    r#"
+POST /holders/alpha/whatif ann {"changes":[{"do":"withdraw","number":1}],"routes":[{"prefix":"192.0.2.0/24","origin":64496}]}
+"#,
+    r#"
+PUT /slurms reg {"files":[]}
+POST /holders/alpha/whatif ann {"changes":[{"do":"withdraw","number":1}],"routes":[{"prefix":"192.0.2.0/24","origin":64496}]}
+"#,
 ];
 
 /// A what-if keeps no day itself.
 #[test]
 fn the_day_is_kept_before_a_what_if(rt: HostRuntime) {
-    for parts in &WHAT_IFS {
-        let texts = requests(&rt, rt.alloc(), parts);
-        on_desk_with_one(&rt, rt.alloc(), |desk| {
+    for table in WHAT_IFS {
+        let texts = requests(&rt, rt.alloc(), &[table]);
+        on_desk(&rt, |desk| {
+            assert_made(&rt, rt.alloc(), desk, 4);
             assert_kept_after(&rt, &rt, desk, &texts, "HTTP/1.1 200 ");
         });
     }
@@ -233,7 +182,8 @@ fn the_day_is_kept_before_a_what_if(rt: HostRuntime) {
 #[test]
 fn a_desk_without_memory_for_its_day_answers(rt: HostRuntime) {
     let day = first_of_march(&rt);
-    on_desk_with_one(&rt, rt.alloc(), |desk| {
+    on_desk(&rt, |desk| {
+        assert_made(&rt, rt.alloc(), desk, 4);
         let served = serve_none(&rt, desk, day);
         assert_same(&rt, served, Ok(()), "no connection");
         let is_lent = desk.payloads(day).is_some();
