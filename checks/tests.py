@@ -48,8 +48,8 @@ TEST_SECONDS = 600
 BUILD_SECONDS = 150
 
 # The megabytes that a process takes while it builds, with so many for each of its crates of tests, and afterwards.
-BUILD_MEMORY = 4900
-CRATE_MEMORY = 1000
+BUILD_MEMORY = 4200
+CRATE_MEMORY = 1900
 TEST_MEMORY = 500
 
 
